@@ -1,0 +1,249 @@
+-- What callers use of the decoding: a character lies within the text and is encoded as the bytes it was read from; an ASCII byte is
+-- a character by itself; what stands at a place depends on what the text has from there on.
+-- Assumes nothing.
+use mathlib.Core.Path.{_≡_, refl, sym, ap, subst, _∙_}
+use mathlib.Core.Bool.{true, false, false≢true}
+use mathlib.Core.List.{List, [], _∷_}
+use Prim.Native.Nat.{ℕ, suc, _+_, _-_, _*_, _/_, _%_, _≤_, _<_, zero-le}
+use native.Mathlib.Omega.{arith}
+use borrow.Author.Tests.{lt-ltb, le-ltb, ltb-true, ltb-false, leb-true}
+use lib.Dec.{ltb, leb, eqb, lit<}
+use lib.ListN.{length, getD, take, drop, length-take, length-drop, drop-of-length-le}
+use lib.Seq.{drop-cons, getD-drop}
+use Rattle.chars.specs.Pick.{pick}
+use Rattle.chars.specs.Utf8.{lenOf, isCont, isSurrogate, code2, code3, code4, two, three, four, decode, first, decodeAt, lenD, encode}
+use Rattle.chars.specs.declared.Decoded.{Decoded}
+use Rattle.chars.specs.declared.Decoded.the-variants.{Char, Bad, End}
+use Rattle.chars.proofs.Cases.{by-test, and-true}
+
+-- the range of the first byte of a character of k bytes
+pub data Head (a : ℕ) : ℕ → Type 0 where
+  head0 : Head a 0
+  head1 : a < 0x80 → Head a 1
+  head2 : 0xC0 ≤ a → a < 0xE0 → Head a 2
+  head3 : 0xE0 ≤ a → a < 0xF0 → Head a 3
+  head4 : 0xF0 ≤ a → a < 0xF8 → Head a 4
+
+pub head-of : (a : ℕ) → Head a (lenOf a)
+unfolding lenOf
+head-of a =
+    by-test (Head a) _ (λ t. head1 (ltb-true a 0x80 t))
+    (λ _. by-test (Head a) _ (λ _. head0)
+    (λ e2. by-test (Head a) _ (λ t. head2 (ltb-false a 0xC0 e2) (ltb-true a 0xE0 t))
+    (λ e3. by-test (Head a) _ (λ t. head3 (ltb-false a 0xE0 e3) (ltb-true a 0xF0 t))
+    (λ e4. by-test (Head a) _ (λ t. head4 (ltb-false a 0xF0 e4) (ltb-true a 0xF8 t)) (λ _. head0)))))
+
+-- the range of a byte that continues a character
+pub record Cont (b : ℕ) : Type 0 where
+  pub low : 0x80 ≤ b
+  pub high : b < 0xC0
+
+pub cont : (b : ℕ) → isCont b ≡ true → Cont b
+unfolding isCont
+cont b e =
+    let h = and-true (leb 0x80 b) (ltb b 0xC0) e in
+    record { low = leb-true 0x80 b (h .0); high = ltb-true b 0xC0 (h .1) }
+
+-- six bits behind others, and those others again
+shift-div : (x y : ℕ) → (x * 64 + y % 64) / 64 ≡ x
+shift-div x y = omega arith
+
+shift-mod : (x y : ℕ) → (x * 64 + y % 64) % 64 ≡ y % 64
+shift-mod x y = omega arith
+
+-- a byte that continues a character is its payload bits and its mark
+cont-bits : {b : ℕ} → Cont b → 0x80 + b % 64 ≡ b
+cont-bits {b} h = omega (arith, h .low, h .high)
+
+module _ (a b : ℕ) (hb : Cont b) where
+  encode2 : 0xC0 ≤ a → a < 0xE0 → 0x80 ≤ code2 a b → encode (code2 a b) ≡ a ∷ b ∷ []
+  unfolding encode pick
+  encode2 l h v =
+      let e : 0xC0 + a % 32 ≡ a = omega arith in
+      rw (le-ltb (code2 a b) 0x80 v, lt-ltb (code2 a b) 0x800 (omega arith), shift-div (a % 32) b, shift-mod (a % 32) b, e, cont-bits hb)
+
+  module _ (c : ℕ) (hc : Cont c) where
+    encode3 : 0xE0 ≤ a → a < 0xF0 → 0x800 ≤ code3 a b c → encode (code3 a b c) ≡ a ∷ b ∷ c ∷ []
+    unfolding encode pick
+    encode3 l h v =
+        let e : 0xE0 + a % 16 ≡ a = omega arith in
+        let x : ℕ = a % 16 * 64 + b % 64 in
+        rw (
+          le-ltb (code3 a b c) 0x80 (omega arith),
+          le-ltb (code3 a b c) 0x800 v,
+          lt-ltb (code3 a b c) 0x10000 (omega arith),
+          shift-div x c,
+          shift-mod x c,
+          shift-div (a % 16) b,
+          shift-mod (a % 16) b,
+          e,
+          cont-bits hb,
+          cont-bits hc,
+        )
+
+    module _ (d : ℕ) (hd : Cont d) where
+      encode4 : 0xF0 ≤ a → a < 0xF8 → 0x10000 ≤ code4 a b c d → encode (code4 a b c d) ≡ a ∷ b ∷ c ∷ d ∷ []
+      unfolding encode pick
+      encode4 l h v =
+          let e : 0xF0 + a % 8 ≡ a = omega arith in
+          let x : ℕ = a % 8 * 64 + b % 64 in
+          let y : ℕ = x * 64 + c % 64 in
+          rw (
+            le-ltb (code4 a b c d) 0x80 (omega arith),
+            le-ltb (code4 a b c d) 0x800 (omega arith),
+            le-ltb (code4 a b c d) 0x10000 v,
+            shift-div y d,
+            shift-mod y d,
+            shift-div x c,
+            shift-mod x c,
+            shift-div (a % 8) b,
+            shift-mod (a % 8) b,
+            e,
+            cont-bits hb,
+            cont-bits hc,
+            cont-bits hd,
+          )
+
+-- The ways in which four bytes are decoded: what is to be shown of what they begin with is shown for each.
+pub record Ways (P : Decoded → Type 0) (a b c d : ℕ) : Type 0 where
+  pub ill : P Bad
+  pub one : a < 0x80 → P (Char a 1)
+  pub two-bytes : 0xC0 ≤ a → a < 0xE0 → isCont b ≡ true → 0x80 ≤ code2 a b → P (Char (code2 a b) 2)
+  pub three-bytes : 0xE0 ≤ a → a < 0xF0 → isCont b ≡ true → isCont c ≡ true → 0x800 ≤ code3 a b c → isSurrogate (code3 a b c) ≡ false → P (Char (code3 a b c) 3)
+  pub four-bytes : 0xF0 ≤ a → a < 0xF8 → isCont b ≡ true → isCont c ≡ true → isCont d ≡ true → 0x10000 ≤ code4 a b c d → code4 a b c d ≤ 0x10FFFF → P (Char (code4 a b c d) 4)
+
+module _ {P : Decoded → Type 0} {a b c d : ℕ} (w : Ways P a b c d) where
+  two-ways : 0xC0 ≤ a → a < 0xE0 → P (two a b)
+  unfolding two
+  two-ways l h = by-test P _ (λ e. by-test P _ (λ v. w .two-bytes l h e (leb-true 0x80 (code2 a b) v)) (λ _. w .ill)) (λ _. w .ill)
+
+  three-ways : 0xE0 ≤ a → a < 0xF0 → P (three a b c)
+  unfolding three
+  three-ways l h =
+      by-test P _
+      (λ e. by-test P _
+      (λ f. by-test P _ (λ v. by-test P _ (λ _. w .ill) (λ n. w .three-bytes l h e f (leb-true 0x800 (code3 a b c) v) n)) (λ _. w .ill))
+      (λ _. w .ill))
+      (λ _. w .ill)
+
+  four-ways : 0xF0 ≤ a → a < 0xF8 → P (four a b c d)
+  unfolding four
+  four-ways l h =
+      by-test P _
+      (λ e. by-test P _
+      (λ f. by-test P _
+      (λ g. by-test P _
+      (λ v. by-test P _
+      (λ m. w .four-bytes l h e f g (leb-true 0x10000 (code4 a b c d) v) (leb-true (code4 a b c d) 0x10FFFF m))
+      (λ _. w .ill))
+      (λ _. w .ill))
+      (λ _. w .ill))
+      (λ _. w .ill))
+      (λ _. w .ill)
+
+  -- by the length that the first byte says
+  by-head : {k : ℕ} → Head a k → P (pick (eqb k 1) (Char a 1) (pick (eqb k 2) (two a b) (pick (eqb k 3) (three a b c) (pick (eqb k 4) (four a b c d) Bad))))
+  unfolding pick
+  by-head head0 = w .ill
+  by-head (head1 h) = w .one h
+  by-head (head2 l h) = two-ways l h
+  by-head (head3 l h) = three-ways l h
+  by-head (head4 l h) = four-ways l h
+
+  decode-ways : P (decode a b c d)
+  unfolding decode
+  decode-ways = by-head (head-of a)
+
+-- What a text begins with, by its first four bytes: behind the end there are zeros, which continue nothing.
+pub first-ways : (P : List ℕ → Decoded → Type 0) → P [] End → ((t : List ℕ) (a b c d : ℕ) → take 1 t ≡ a ∷ [] → (isCont b ≡ true → take 2 t ≡ a ∷ b ∷ []) → (isCont c ≡ true → take 3 t ≡ a ∷ b ∷ c ∷ []) → (isCont d ≡ true → take 4 t ≡ a ∷ b ∷ c ∷ d ∷ []) → Ways (P t) a b c d) → (t : List ℕ) → P t (first t)
+unfolding first isCont
+first-ways P n w [] = n
+first-ways P n w (a ∷ []) = decode-ways (w (a ∷ []) a 0 0 0 refl (λ e. absurd (false≢true e)) (λ e. absurd (false≢true e)) (λ e. absurd (false≢true e)))
+first-ways P n w (a ∷ b ∷ []) = decode-ways (w (a ∷ b ∷ []) a b 0 0 refl (λ _. refl) (λ e. absurd (false≢true e)) (λ e. absurd (false≢true e)))
+first-ways P n w (a ∷ b ∷ c ∷ []) = decode-ways (w (a ∷ b ∷ c ∷ []) a b c 0 refl (λ _. refl) (λ _. refl) (λ e. absurd (false≢true e)))
+first-ways P n w (a ∷ b ∷ c ∷ d ∷ r) = decode-ways (w (a ∷ b ∷ c ∷ d ∷ r) a b c d refl (λ _. refl) (λ _. refl) (λ _. refl))
+
+-- What is known of what a text t begins with: a character has some bytes and no more than t, and they are those of its code.
+pub data Sound (t : List ℕ) : Decoded → Type 0 where
+  char : {k code : ℕ} → 0 < k → k ≤ length t → encode code ≡ take k t → Sound t (Char code k)
+  bad : Sound t Bad
+  end : Sound t End
+
+sound-char : (t : List ℕ) (k : ℕ) (u : List ℕ) {code : ℕ} → take k t ≡ u → length u ≡ k → 0 < k → encode code ≡ u → Sound t (Char code k)
+sound-char t k u e l h f = char {k = k} h (omega (arith, length-take k t, ap length e)) (f ∙ sym e)
+
+encode1 : (a : ℕ) → a < 0x80 → encode a ≡ a ∷ []
+unfolding encode pick
+encode1 a h = rw (lt-ltb a 0x80 h)
+
+pub first-sound : (t : List ℕ) → Sound t (first t)
+first-sound =
+    first-ways Sound end λ t a b c d h1 h2 h3 h4.
+    record {
+      ill = bad;
+      one = λ h. sound-char t 1 (a ∷ []) h1 refl (lit< tt) (encode1 a h);
+      two-bytes = λ l h e v. sound-char t 2 (a ∷ b ∷ []) (h2 e) refl (lit< tt) (encode2 a b (cont b e) l h v);
+      three-bytes = λ l h e f v _. sound-char t 3 (a ∷ b ∷ c ∷ []) (h3 f) refl (lit< tt) (encode3 a b (cont b e) c (cont c f) l h v);
+      four-bytes = λ l h e f g v _. sound-char t 4 (a ∷ b ∷ c ∷ d ∷ []) (h4 g) refl (lit< tt) (encode4 a b (cont b e) c (cont c f) d (cont d g) l h v);
+    }
+
+pub sound : (s : List ℕ) (at : ℕ) → Sound (drop at s) (decodeAt s at)
+unfolding decodeAt
+sound s at = first-sound (drop at s)
+
+-- the same, of a character that was found
+pub record OfChar (s : List ℕ) (at code k : ℕ) : Type 0 where
+  pub some : 0 < k
+  pub inside : k ≤ length s - at
+  pub bytes : encode code ≡ take k (drop at s)
+  pub long : length (encode code) ≡ k
+
+of-char : (s : List ℕ) (at : ℕ) {code k : ℕ} → Sound (drop at s) (Char code k) → OfChar s at code k
+of-char s at (char {k} {code} a b c) =
+    record {
+      some = a;
+      inside = omega (arith, b, length-drop at s);
+      bytes = c;
+      long = omega (arith, ap length c, length-take k (drop at s));
+    }
+
+pub found : (s : List ℕ) (at : ℕ) {code k : ℕ} → decodeAt s at ≡ Char code k → OfChar s at code k
+found s at e = of-char s at (subst (Sound (drop at s)) e (sound s at))
+
+within : {t : List ℕ} {r : Decoded} → Sound t r → lenD r ≤ length t
+unfolding lenD
+within (char a b c) = b
+within bad = zero-le
+within end = zero-le
+
+-- the character at a place lies within the text
+pub fits : (s : List ℕ) (at : ℕ) → lenD (decodeAt s at) ≤ length s - at
+fits s at = omega (arith, within (sound s at), length-drop at s)
+
+-- behind the end there is nothing
+pub past-end : (s : List ℕ) (at : ℕ) → length s ≤ at → decodeAt s at ≡ End
+unfolding decodeAt first
+past-end s at h = rw (drop-of-length-le s h)
+
+-- within the text the four bytes at the place decide
+pub inside-is : (s : List ℕ) (at : ℕ) → at < length s → decodeAt s at ≡ decode (getD s at 0) (getD s (at + 1) 0) (getD s (at + 2) 0) (getD s (at + 3) 0)
+unfolding decodeAt first
+inside-is s at h =
+    let e0 : suc at + 0 ≡ at + 1 = omega arith in
+    let e1 : suc at + 1 ≡ at + 2 = omega arith in
+    let e2 : suc at + 2 ≡ at + 3 = omega arith in
+    rw (drop-cons s at 0 h, getD-drop (suc at) s 0 0, getD-drop (suc at) s 1 0, getD-drop (suc at) s 2 0, e0, e1, e2)
+
+-- an ASCII byte is a character by itself
+pub first-ascii : (a : ℕ) (t : List ℕ) → a < 128 → first (a ∷ t) ≡ Char a 1
+unfolding first decode lenOf pick
+first-ascii a t l = rw (lt-ltb a 128 l)
+
+pub ascii : (s : List ℕ) (at : ℕ) → at < length s → getD s at 0 < 128 → decodeAt s at ≡ Char (getD s at 0) 1
+unfolding decodeAt
+ascii s at h l = rw (drop-cons s at 0 h) (first-ascii _ _ l)
+
+-- what stands at a place depends on what the text has from there on
+pub decode-same : (s t : List ℕ) (i j : ℕ) → drop i s ≡ drop j t → decodeAt s i ≡ decodeAt t j
+unfolding decodeAt
+decode-same s t i j e = ap first e

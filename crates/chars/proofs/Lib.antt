@@ -1,0 +1,6 @@
+pub mod Below
+pub mod Joined
+pub mod Cases
+pub mod Laws
+pub mod Table
+pub mod Uppers

@@ -1,0 +1,51 @@
+-- Upper case keeps the number of bytes, and of ASCII it is one byte.
+-- Assumes nothing.
+use mathlib.Core.Path.{_≡_, sym, ap, _∙_}
+use mathlib.Core.Bool.{true, false≢true}
+use mathlib.Core.List.{append-nil}
+use Prim.Native.Nat.{ℕ, _≤_}
+use native.Mathlib.Omega.{arith}
+use native.Mathlib.Decide.{decLt}
+use borrow.Author.Tests.{le-leb, lt-leb, ne-eqb}
+use lib.ListN.{length}
+use Rattle.chars.specs.Pick.{pick}
+use Rattle.chars.specs.Utf8.{encode, encodeAll}
+use Rattle.chars.specs.Classes.{within}
+use Rattle.chars.specs.Upper.{loses32, upperOf, codesOf}
+use Rattle.chars.specs.declared.Upper.{Upper}
+use Rattle.chars.specs.declared.Upper.the-variants.{One}
+use Rattle.chars.proofs.Below.{agree}
+
+-- a letter that loses 32 is at least that
+pub loses-above : (c : ℕ) → loses32 c ≡ true → 32 ≤ c
+unfolding loses32 within
+loses-above c e =
+    elim (decLt c 32) [
+      | yes h ↦ absurd (false≢true (sym (rw (lt-leb 0x61 c (omega arith), lt-leb 0xE0 c (omega arith), lt-leb 0xF8 c (omega arith))) ∙ e))
+      | no h ↦ omega (arith, h)
+    ]
+
+-- above U+00FF every character stays as it is
+upper-far : (c : ℕ) → 256 ≤ c → upperOf c ≡ One c
+unfolding upperOf loses32 within pick
+upper-far c h =
+    rw (
+      le-leb 97 c (omega arith),
+      lt-leb c 122 (omega arith),
+      le-leb 224 c (omega arith),
+      lt-leb c 246 (omega arith),
+      le-leb 248 c (omega arith),
+      lt-leb c 254 (omega arith),
+      ne-eqb c 255 (λ (e : c ≡ 255). omega arith),
+      ne-eqb c 181 (λ (e : c ≡ 181). omega arith),
+      ne-eqb c 223 (λ (e : c ≡ 223). omega arith),
+    )
+
+-- the bytes of a character's upper case are as many as the character's
+pub upper-length : (c : ℕ) → length (encodeAll (codesOf (upperOf c))) ≡ length (encode c)
+unfolding encodeAll codesOf upperOf loses32 within encode pick
+upper-length c =
+    elim (decLt c 256) [
+      | yes h ↦ agree (λ (c : ℕ). length (encodeAll (codesOf (upperOf c)))) (λ (c : ℕ). length (encode c)) 256 tt c h
+      | no h ↦ ap (λ (u : Upper). length (encodeAll (codesOf u))) (upper-far c (omega (arith, h))) ∙ ap length (append-nil (encode c))
+    ]

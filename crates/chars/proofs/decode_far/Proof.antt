@@ -1,0 +1,56 @@
+use Rattle.chars.proofs.Laws.{inside-is, past-end}
+use mathlib.Core.Path.{sym}
+use borrow.Author.Needs.{needs}
+use Rattle.chars.proofs.decode_far.Statement.{statement}
+use Rattle.chars.proofs.decode_far.Tie as tie
+
+shared-slice-read-decode : tie.Need-shared-slice-read-decode
+shared-slice-read-decode c = search needs
+
+add-byte-at : tie.Need-add-byte-at
+add-byte-at c = search needs
+
+byte-at-requires : tie.Need-byte-at-requires
+byte-at-requires c κs = search needs
+
+add-byte-at-2 : tie.Need-add-byte-at-2
+add-byte-at-2 c = search needs
+
+byte-at-requires-2 : tie.Need-byte-at-requires-2
+byte-at-requires-2 c κs = search needs
+
+add-byte-at-3 : tie.Need-add-byte-at-3
+add-byte-at-3 c = search needs
+
+byte-at-requires-3 : tie.Need-byte-at-requires-3
+byte-at-requires-3 c κs = search needs
+
+decode-requires : tie.Need-decode-requires
+decode-requires c κs = search needs
+
+returns : tie.Need-returns
+returns c =
+    let b1 = c .before in
+    let b2 = b1 .before in
+    let b3 = b2 .before in
+    let b5 = b3 .before .before in
+    let a = b5 .before .before .args in
+    simp (inside-is (a .s .now) (a .at) (b5 .if1 .taken), ← b3 .byte-at .ensures, ← b2 .byte-at2 .ensures, ← b1 .byte-at3 .ensures, ← c .decode .ensures)
+
+returns-2 : tie.Need-returns-2
+returns-2 c = sym (past-end _ _ (c .if1 .left))
+
+pub decode-far-spec : {M : Type 1} → statement M
+decode-far-spec =
+    tie.close
+    (tie.spec
+    shared-slice-read-decode
+    add-byte-at
+    byte-at-requires
+    add-byte-at-2
+    byte-at-requires-2
+    add-byte-at-3
+    byte-at-requires-3
+    decode-requires
+    returns
+    returns-2)

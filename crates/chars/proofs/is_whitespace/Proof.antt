@@ -1,0 +1,40 @@
+use Rattle.chars.specs.Classes.{isWhitespace}
+use borrow.Author.Tests.{eq-eqb, ne-eqb}
+use borrow.Author.Needs.{needs}
+use Rattle.chars.proofs.is_whitespace.Statement.{statement}
+use Rattle.chars.proofs.is_whitespace.Tie as tie
+
+within-requires : tie.Need-within-requires
+within-requires c κs = search needs
+
+returns : tie.Need-returns
+unfolding isWhitespace
+returns c =
+    let b1 = c .before in
+    simp (← b1 .within .ensures, c .if1 .taken)
+
+returns-2 : tie.Need-returns-2
+unfolding isWhitespace
+returns-2 c =
+    let b1 = c .before in
+    let b2 = b1 .before in
+    simp (← b2 .within .ensures, b1 .if1 .left, eq-eqb _ _ (c .if2 .taken))
+
+returns-3 : tie.Need-returns-3
+unfolding isWhitespace
+returns-3 c =
+    let b1 = c .before in
+    let b2 = b1 .before in
+    let b3 = b2 .before in
+    simp (← b3 .within .ensures, b2 .if1 .left, ne-eqb _ _ (b1 .if2 .left), eq-eqb _ _ (c .if3 .taken))
+
+returns-4 : tie.Need-returns-4
+unfolding isWhitespace
+returns-4 c =
+    let b1 = c .before in
+    let b2 = b1 .before in
+    let b3 = b2 .before in
+    simp (← b3 .within .ensures, b2 .if1 .left, ne-eqb _ _ (b1 .if2 .left), ne-eqb _ _ (c .if3 .left))
+
+pub is-whitespace-spec : {M : Type 1} → statement M
+is-whitespace-spec = tie.close (tie.spec within-requires returns returns-2 returns-3 returns-4)

@@ -1,0 +1,5 @@
+pub mod Pick
+pub mod Utf8
+pub mod Table
+pub mod Classes
+pub mod Upper

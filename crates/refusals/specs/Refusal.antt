@@ -1,0 +1,54 @@
+-- The refusals: a number for each, and which of them name a place.
+use Prim.Native.Nat.{ℕ}
+use mathlib.Core.Bool.{Bool, true, false}
+use Rattle.chars.specs.Pick.{pick}
+use Rattle.refusals.specs.declared.Kind.{Kind}
+use Rattle.refusals.specs.declared.Kind.the-variants.{UndefinedRange, DayOutOfRange, MonthOutOfRange, InvalidNumber, MissingNumber, WrongNumberOfDigits, InvalidFormat, YearZeroCE, RustPanics, BadUtf8, UnsupportedChar, NotStrict, NoRoom, BadFrame, BadChunks, TooLong}
+use Rattle.refusals.specs.declared.FileSpan.{FileSpan}
+use Rattle.refusals.specs.declared.Refusal.{Refusal}
+
+-- the number of a refusal: 1 to 8 are the Rust's kinds, 9 is its panic, the others are this port's
+abbrev pub number : Kind → ℕ
+number UndefinedRange = 1
+number DayOutOfRange = 2
+number MonthOutOfRange = 3
+number InvalidNumber = 4
+number MissingNumber = 5
+number WrongNumberOfDigits = 6
+number InvalidFormat = 7
+number YearZeroCE = 8
+number RustPanics = 9
+number BadUtf8 = 10
+number UnsupportedChar = 11
+number NotStrict = 12
+number NoRoom = 13
+number BadFrame = 14
+number BadChunks = 15
+number TooLong = 16
+
+-- whether a refusal names a place; where it does not, its place is 0, 0
+abbrev pub hasPlace : Kind → Bool
+hasPlace UndefinedRange = true
+hasPlace DayOutOfRange = true
+hasPlace MonthOutOfRange = true
+hasPlace InvalidNumber = true
+hasPlace MissingNumber = true
+hasPlace WrongNumberOfDigits = true
+hasPlace InvalidFormat = true
+hasPlace YearZeroCE = true
+hasPlace RustPanics = false
+hasPlace BadUtf8 = true
+hasPlace UnsupportedChar = true
+hasPlace NotStrict = false
+hasPlace NoRoom = false
+hasPlace BadFrame = false
+hasPlace BadChunks = false
+hasPlace TooLong = false
+
+-- a place in the file, from a byte to another
+abbrev pub fileSpan : ℕ → ℕ → FileSpan
+fileSpan start end = record { 0 = start; 1 = end }
+
+-- the refusal of a kind at a place in the file
+unfoldable pub refusal : Kind → FileSpan → Refusal
+refusal k place = record { kind = k; place = pick (hasPlace k) place (fileSpan 0 0) }

@@ -1,0 +1,159 @@
+// Refusals: why a call gives no date, and where. A place in the formatted text and a place in the file are two types, and only the
+// functions here make one of the other.
+ghost use mathlib.Core.Path.{_≡_};
+ghost use Rattle.refusals.specs.Refusal as spec;
+ghost use Rattle.refusals.specs.Offset as move_;
+
+// Why a call refuses.
+pub enum Kind {
+    // The date range is open on both sides.
+    UndefinedRange,
+    // The day is no day of a month, or not of its month.
+    DayOutOfRange,
+    // The month is not one of twelve.
+    MonthOutOfRange,
+    // What stands there is no number, or not in its range.
+    InvalidNumber,
+    // A number is missing.
+    MissingNumber,
+    // A number has the wrong number of digits.
+    WrongNumberOfDigits,
+    // The text is none of the forms that are read.
+    InvalidFormat,
+    // A year zero with an era.
+    YearZeroCE,
+    // The ported code panics on this input.
+    RustPanics,
+    // The bytes are not UTF-8.
+    BadUtf8,
+    // A character that is not among those that are read.
+    UnsupportedChar,
+    // The text is not one of the strict grammar.
+    NotStrict,
+    // The lent buffer is too short.
+    NoRoom,
+    // The line is no frame.
+    BadFrame,
+    // The chunk table does not fit the bytes.
+    BadChunks,
+    // Too many chunks or bytes.
+    TooLong,
+}
+
+// A place in the file, from a byte to another.
+pub struct FileSpan(pub u64, pub u64);
+
+// A place in the formatted text, from a byte to another.
+pub struct TextSpan(pub usize, pub usize);
+
+// A refusal, with its place in the file.
+pub struct Refusal {
+    pub kind: Kind,
+    pub place: FileSpan,
+}
+
+// A refusal while the formatted text is read, with its place in that text.
+pub struct TextRefusal {
+    pub kind: Kind,
+    pub place: TextSpan,
+}
+
+// The number of a refusal.
+pub fn number(kind: Kind) -> u8
+    ensures { λ r. ⌜ r ≡ spec.number kind ⌝ }
+{
+    match kind {
+        Kind::UndefinedRange => 1,
+        Kind::DayOutOfRange => 2,
+        Kind::MonthOutOfRange => 3,
+        Kind::InvalidNumber => 4,
+        Kind::MissingNumber => 5,
+        Kind::WrongNumberOfDigits => 6,
+        Kind::InvalidFormat => 7,
+        Kind::YearZeroCE => 8,
+        Kind::RustPanics => 9,
+        Kind::BadUtf8 => 10,
+        Kind::UnsupportedChar => 11,
+        Kind::NotStrict => 12,
+        Kind::NoRoom => 13,
+        Kind::BadFrame => 14,
+        Kind::BadChunks => 15,
+        Kind::TooLong => 16,
+    }
+}
+
+// Whether a refusal names a place.
+pub fn has_place(kind: Kind) -> bool
+    ensures { λ r. ⌜ r ≡ spec.hasPlace kind ⌝ }
+{
+    match kind {
+        Kind::UndefinedRange => true,
+        Kind::DayOutOfRange => true,
+        Kind::MonthOutOfRange => true,
+        Kind::InvalidNumber => true,
+        Kind::MissingNumber => true,
+        Kind::WrongNumberOfDigits => true,
+        Kind::InvalidFormat => true,
+        Kind::YearZeroCE => true,
+        Kind::RustPanics => false,
+        Kind::BadUtf8 => true,
+        Kind::UnsupportedChar => true,
+        Kind::NotStrict => false,
+        Kind::NoRoom => false,
+        Kind::BadFrame => false,
+        Kind::BadChunks => false,
+        Kind::TooLong => false,
+    }
+}
+
+// The refusal of a kind at a place in the file; a kind that names none has 0, 0.
+pub fn refuse(kind: Kind, place: FileSpan) -> Refusal
+    ensures { λ r. ⌜ r ≡ spec.refusal kind place ⌝ }
+{
+    if has_place(kind) {
+        return Refusal { kind, place };
+    }
+    Refusal {
+        kind,
+        place: FileSpan(0, 0),
+    }
+}
+
+// The sum, or the largest number where it would be above that.
+fn saturating_add(a: usize, b: u64) -> u64
+    ensures { λ r. ⌜ r ≡ move_.saturatingAdd a b ⌝ }
+{
+    let x = a as u64;
+    if x <= u64::MAX - b { x + b } else { u64::MAX }
+}
+
+// A refusal in the text, with its place moved by the amount that the text stands at in the file.
+pub fn offset(e: TextRefusal, amount: u64) -> Refusal
+    ensures { λ r. ⌜ r ≡ move_.offset e amount ⌝ }
+{
+    let kind = e.kind;
+    let start = saturating_add(e.place.0, amount);
+    let end = saturating_add(e.place.1, amount);
+    refuse(kind, FileSpan(start, end))
+}
+
+// A refusal in the half behind a slash at a position, in a list whose span has a start.
+pub fn offset_second(e: TextRefusal, start: u64, slash: usize) -> Refusal
+    ensures { λ r. ⌜ r ≡ move_.offsetSecond e start slash ⌝ }
+{
+    let pos = slash as u64;
+    if u64::MAX - pos <= start {
+        return refuse(Kind::RustPanics, FileSpan(0, 0));
+    }
+    offset(e, start + pos + 1)
+}
+
+// A refusal of the day that the month field holds: its place is left as it is in the text.
+pub fn unshifted(e: TextRefusal) -> Refusal
+    ensures { λ r. ⌜ r ≡ move_.unshifted e ⌝ }
+{
+    let kind = e.kind;
+    let start = e.place.0 as u64;
+    let end = e.place.1 as u64;
+    refuse(kind, FileSpan(start, end))
+}

@@ -1,0 +1,6 @@
+pub mod Walk
+pub mod Laws
+pub mod Prefix
+pub mod Quicks
+pub mod Parts
+pub mod Front

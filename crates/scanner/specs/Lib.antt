@@ -1,0 +1,3 @@
+pub mod Class
+pub mod Scan
+pub mod Quick

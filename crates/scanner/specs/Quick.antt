@@ -1,0 +1,11 @@
+-- What the quick part of `eat_while` knows of a class. No other crate's contract rests on it.
+use Prim.Native.Nat.{ℕ, _≤_, _<_}
+use mathlib.Core.Path.{_≡_}
+use mathlib.Core.Bool.{true}
+use Rattle.scanner.specs.declared.Class.{Class}
+use Rattle.scanner.specs.Class.{inClass}
+
+-- the bytes from lo to hi are ASCII, and each is of the class
+pub record Quick (k : Class) (lo hi : ℕ) : Type 0 where
+  pub ascii : hi < 128
+  pub each : (b : ℕ) → lo ≤ b → b ≤ hi → inClass k b ≡ true

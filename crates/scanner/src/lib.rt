@@ -1,0 +1,274 @@
+// The scanner: a cursor by value over a lent text, and what the readers eat at it.
+// The names are those of the scanner that the ported code uses; a text is passed beside its cursor.
+ghost use mathlib.Core.Path.{_≡_};
+ghost use Rattle.scanner.specs.Class.{inClass};
+ghost use Rattle.scanner.specs.Scan as spec;
+ghost use Rattle.scanner.specs.Quick.{Quick};
+ghost use Rattle.scanner.specs.declared.Class.{Class};
+ghost use Rattle.scanner.specs.declared.Class.the-variants.{Whitespace, Is};
+use chars::Decoded;
+
+// A place in the formatted text, in bytes. It is no place in the file: only the offset rule of `refusals` makes one of it.
+pub struct Cursor(pub usize);
+
+// A class of characters.
+pub enum Class {
+    Whitespace,
+    // White space other than the no-break space.
+    PlainWhitespace,
+    Numeric,
+    AsciiDigit,
+    AsciiAlphabetic,
+    Alphanumeric,
+    // A plus or a hyphen.
+    Sign,
+    // A hyphen or a no-break space.
+    Separator,
+    // One character.
+    Is(u32),
+}
+
+// Whether something was eaten: the place behind it, or not.
+pub enum EatIf {
+    Past(Cursor),
+    Kept,
+}
+
+// The next character and the place behind it, if there is one.
+pub enum Next {
+    Ate(u32, Cursor),
+    Nothing,
+}
+
+// Whether the character is of the class.
+fn in_class(class: Class, code: u32) -> bool
+    ensures { λ r. ⌜ r ≡ inClass class code ⌝ }
+{
+    match class {
+        Class::Whitespace => chars::is_whitespace(code),
+        Class::PlainWhitespace => {
+            if chars::is_whitespace(code) {
+                code != 0xA0
+            } else {
+                false
+            }
+        }
+        Class::Numeric => chars::is_numeric(code),
+        Class::AsciiDigit => chars::is_ascii_digit(code),
+        Class::AsciiAlphabetic => chars::is_ascii_alphabetic(code),
+        Class::Alphanumeric => chars::is_alphanumeric(code),
+        Class::Sign => { if code == 0x2B { true } else { code == 0x2D } }
+        Class::Separator => { if code == 0x2D { true } else { code == 0xA0 } }
+        Class::Is(c) => code == c,
+    }
+}
+
+// How many bytes the character at a place has, if it is of the class; else 0. `match_len` is the same and quicker.
+fn match_far(s: &[u8], at: usize, class: Class) -> usize
+    ensures { λ r. ⌜ r ≡ spec.matchLen class (now (s .entry)) at ⌝ }
+{
+    match chars::decode_far(s, at) {
+        Decoded::Char { code, len } => { if in_class(class, code) { len } else { 0 } }
+        Decoded::Bad => 0,
+        Decoded::End => 0,
+    }
+}
+
+fn wide(b: u8) -> u32
+    ensures { λ r. ⌜ r ≡ b ⌝ }
+{
+    b as u32
+}
+
+// The same, with a look at an ASCII byte first.
+fn match_len(s: &[u8], at: usize, class: Class) -> usize
+    ensures { λ r. ⌜ r ≡ spec.matchLen class (now (s .entry)) at ⌝ }
+{
+    if at < s.len() {
+        let b = s[at];
+        if b < 0x80 {
+            let code = wide(b);
+            if in_class(class, code) {
+                return 1;
+            }
+            return 0;
+        }
+        return match_far(s, at, class);
+    }
+    0
+}
+
+// The place behind the run of characters of the class that starts at a place.
+fn eat_each(s: &[u8], at: usize, class: Class) -> usize
+    ensures { λ r. ⌜ r ≡ spec.eatWhile class (now (s .entry)) at ⌝ }
+{
+    let mut i = at;
+    loop {
+        let n = match_len(s, i, class);
+        if n == 0 {
+            return i;
+        }
+        i = i + n;
+    }
+}
+
+// Bytes from the first to the second; none where the first is above the second.
+struct Bytes(u8, u8);
+
+// ASCII characters of the class that come in runs: where a run of them ends is cheap to find.
+fn quick_bytes(class: Class) -> Bytes
+    ensures { λ r. ⌜ Quick class (r .0) (r .1) ⌝ }
+{
+    match class {
+        Class::Whitespace => Bytes(1, 0),
+        Class::PlainWhitespace => Bytes(1, 0),
+        Class::Numeric => Bytes(0x30, 0x39),
+        Class::AsciiDigit => Bytes(0x30, 0x39),
+        Class::AsciiAlphabetic => Bytes(0x61, 0x7A),
+        Class::Alphanumeric => Bytes(1, 0),
+        Class::Sign => Bytes(1, 0),
+        Class::Separator => Bytes(0x2D, 0x2D),
+        Class::Is(c) => one_byte(c),
+    }
+}
+
+// A character as a run of bytes, if it is ASCII.
+fn one_byte(c: u32) -> Bytes
+    ensures { λ r. ⌜ Quick (Is c) (r .0) (r .1) ⌝ }
+{
+    if c < 0x80 {
+        Bytes(c as u8, c as u8)
+    } else {
+        Bytes(1, 0)
+    }
+}
+
+// Past a run of bytes from lo to hi.
+fn eat_bytes(s: &[u8], at: usize, lo: u8, hi: u8) -> usize
+    ensures { λ r. ⌜ ((k : Class) → Quick k lo hi → spec.eatWhile k (now (s .entry)) r ≡ spec.eatWhile k (now (s .entry)) at) ⌝ }
+{
+    let mut i = at;
+    while i < s.len() {
+        let b = s[i];
+        if b < lo {
+            return i;
+        }
+        if hi < b {
+            return i;
+        }
+        i = i + 1;
+    }
+    i
+}
+
+// Past the run of characters of the class at the cursor: quickly over ASCII, then character by character.
+pub fn eat_while(s: &[u8], c: Cursor, class: Class) -> Cursor
+    ensures { λ r. ⌜ r .0 ≡ spec.eatWhile class (now (s .entry)) (c .0) ⌝ }
+{
+    let q = quick_bytes(class);
+    let i = eat_bytes(s, c.0, q.0, q.1);
+    Cursor(eat_each(s, i, class))
+}
+
+// Past the white space at the cursor. Mostly there is none: a printing ASCII character is looked at first.
+pub fn eat_whitespace(s: &[u8], c: Cursor) -> Cursor
+    ensures { λ r. ⌜ r .0 ≡ spec.eatWhile Whitespace (now (s .entry)) (c .0) ⌝ }
+{
+    let at = c.0;
+    if at < s.len() {
+        let b = s[at];
+        if 0x20 < b {
+            if b < 0x80 {
+                return c;
+            }
+        }
+    }
+    Cursor(eat_each(s, at, Class::Whitespace))
+}
+
+// Past the character at the cursor, if it is of the class.
+pub fn eat_if(s: &[u8], c: Cursor, class: Class) -> EatIf
+    ensures { λ r. ⌜ r ≡ spec.eatIf class (now (s .entry)) (c .0) ⌝ }
+{
+    let at = c.0;
+    let n = match_len(s, at, class);
+    if n == 0 {
+        return EatIf::Kept;
+    }
+    EatIf::Past(Cursor(at + n))
+}
+
+// Whether the text begins with t.
+fn begins(s: &[u8], t: &[u8]) -> bool
+    ensures { λ r. ⌜ r ≡ spec.begins (now (t .entry)) (now (s .entry)) ⌝ }
+{
+    let mut i = 0;
+    while i < t.len() {
+        if s.len() <= i {
+            return false;
+        }
+        if t[i] != s[i] {
+            return false;
+        }
+        i = i + 1;
+    }
+    true
+}
+
+// Past the text t, if it stands at the cursor.
+pub fn eat_text(s: &[u8], c: Cursor, t: &[u8]) -> EatIf
+    ensures { λ r. ⌜ r ≡ spec.eatText (now (t .entry)) (now (s .entry)) (c .0) ⌝ }
+{
+    let at = c.0;
+    if at <= s.len() {
+        if begins(&s[at..], t) {
+            return EatIf::Past(Cursor(at + t.len()));
+        }
+    }
+    EatIf::Kept
+}
+
+// The next character, and past it.
+pub fn eat(s: &[u8], c: Cursor) -> Next
+    ensures { λ r. ⌜ r ≡ spec.eatAt (now (s .entry)) (c .0) ⌝ }
+{
+    let at = c.0;
+    match chars::decode_at(s, at) {
+        Decoded::Char { code, len } => Next::Ate(code, Cursor(at + len)),
+        Decoded::Bad => Next::Nothing,
+        Decoded::End => Next::Nothing,
+    }
+}
+
+// Whether a character of the class stands at the cursor.
+pub fn peek(s: &[u8], c: Cursor, class: Class) -> bool
+    ensures { λ r. ⌜ r ≡ spec.peekAt class (now (s .entry)) (c .0) ⌝ }
+{
+    match_len(s, c.0, class) != 0
+}
+
+// Whether nothing is left at the cursor.
+pub fn done(s: &[u8], c: Cursor) -> bool
+    ensures { λ r. ⌜ r ≡ spec.doneAt (now (s .entry)) (c .0) ⌝ }
+{
+    s.len() <= c.0
+}
+
+// The text from a cursor to another.
+pub fn from(s: &[u8], start: Cursor, c: Cursor) -> &[u8]
+    ensures { λ r. ⌜ now r ≡ spec.part (now (s .entry)) (start .0) (c .0) ⌝ }
+{
+    let a = start.0;
+    let e = c.0;
+    let n = s.len();
+    if n < a {
+        return &s[n..];
+    }
+    if e < a {
+        return &s[a..a];
+    }
+    if n < e {
+        return &s[a..];
+    }
+    &s[a..e]
+}
