@@ -3,10 +3,10 @@
 -- Assumes nothing.
 use mathlib.Core.Path.{_≡_, refl, sym, ap, subst, _∙_}
 use mathlib.Core.Bool.{true, false, false≢true}
-use mathlib.Core.List.{List, [], _∷_}
+use mathlib.Core.List.{List, [], _∷_, _++_}
 use Prim.Native.Nat.{ℕ, suc, _+_, _-_, _*_, _/_, _%_, _≤_, _<_, zero-le}
 use native.Mathlib.Omega.{arith}
-use borrow.Author.Tests.{lt-ltb, le-ltb, ltb-true, ltb-false, leb-true}
+use borrow.Author.Tests.{lt-ltb, le-ltb, ltb-true, ltb-false, leb-true, le-leb}
 use lib.Dec.{ltb, leb, eqb, lit<}
 use lib.ListN.{length, getD, take, drop, length-take, length-drop, drop-of-length-le}
 use lib.Seq.{drop-cons, getD-drop}
@@ -15,6 +15,7 @@ use Rattle.chars.specs.Utf8.{lenOf, isCont, isSurrogate, code2, code3, c
 use Rattle.chars.specs.declared.Decoded.{Decoded}
 use Rattle.chars.specs.declared.Decoded.the-variants.{Char, Bad, End}
 use Rattle.chars.proofs.Cases.{by-test, and-true}
+use Rattle.chars.proofs.Encode.{encode-one, encode-two, encode-three, encode-four}
 
 -- the range of the first byte of a character of k bytes
 pub data Head (a : ℕ) : ℕ → Type 0 where
@@ -57,21 +58,17 @@ cont-bits {b} h = omega (arith, h .low, h .high)
 
 module _ (a b : ℕ) (hb : Cont b) where
   encode2 : 0xC0 ≤ a → a < 0xE0 → 0x80 ≤ code2 a b → encode (code2 a b) ≡ a ∷ b ∷ []
-  unfolding encode pick
   encode2 l h v =
       let e : 0xC0 + a % 32 ≡ a = omega arith in
-      rw (le-ltb (code2 a b) 0x80 v, lt-ltb (code2 a b) 0x800 (omega arith), shift-div (a % 32) b, shift-mod (a % 32) b, e, cont-bits hb)
+      rw (encode-two (code2 a b) v (omega arith), shift-div (a % 32) b, shift-mod (a % 32) b, e, cont-bits hb)
 
   module _ (c : ℕ) (hc : Cont c) where
     encode3 : 0xE0 ≤ a → a < 0xF0 → 0x800 ≤ code3 a b c → encode (code3 a b c) ≡ a ∷ b ∷ c ∷ []
-    unfolding encode pick
     encode3 l h v =
         let e : 0xE0 + a % 16 ≡ a = omega arith in
         let x : ℕ = a % 16 * 64 + b % 64 in
         rw (
-          le-ltb (code3 a b c) 0x80 (omega arith),
-          le-ltb (code3 a b c) 0x800 v,
-          lt-ltb (code3 a b c) 0x10000 (omega arith),
+          encode-three (code3 a b c) v (omega arith),
           shift-div x c,
           shift-mod x c,
           shift-div (a % 16) b,
@@ -83,15 +80,12 @@ module _ (a b : ℕ) (hb : Cont b) where
 
     module _ (d : ℕ) (hd : Cont d) where
       encode4 : 0xF0 ≤ a → a < 0xF8 → 0x10000 ≤ code4 a b c d → encode (code4 a b c d) ≡ a ∷ b ∷ c ∷ d ∷ []
-      unfolding encode pick
       encode4 l h v =
           let e : 0xF0 + a % 8 ≡ a = omega arith in
           let x : ℕ = a % 8 * 64 + b % 64 in
           let y : ℕ = x * 64 + c % 64 in
           rw (
-            le-ltb (code4 a b c d) 0x80 (omega arith),
-            le-ltb (code4 a b c d) 0x800 (omega arith),
-            le-ltb (code4 a b c d) 0x10000 v,
+            encode-four (code4 a b c d) v,
             shift-div y d,
             shift-mod y d,
             shift-div x c,
@@ -163,29 +157,98 @@ first-ways P n w (a ∷ b ∷ []) = decode-ways (w (a ∷ b ∷ []) a b 0 0 refl
 first-ways P n w (a ∷ b ∷ c ∷ []) = decode-ways (w (a ∷ b ∷ c ∷ []) a b c 0 refl (λ _. refl) (λ _. refl) (λ e. absurd (false≢true e)))
 first-ways P n w (a ∷ b ∷ c ∷ d ∷ r) = decode-ways (w (a ∷ b ∷ c ∷ d ∷ r) a b c d refl (λ _. refl) (λ _. refl) (λ _. refl))
 
--- What is known of what a text t begins with: a character has some bytes and no more than t, and they are those of its code.
+-- What is known of what a text t begins with: a character has some bytes and no more than t, its code is no larger
+-- than the largest one, and the bytes are those of the code.
 pub data Sound (t : List ℕ) : Decoded → Type 0 where
-  char : {k code : ℕ} → 0 < k → k ≤ length t → encode code ≡ take k t → Sound t (Char code k)
+  char : {k code : ℕ} → 0 < k → k ≤ length t → code < 0x110000 → encode code ≡ take k t → Sound t (Char code k)
   bad : Sound t Bad
   end : Sound t End
 
-sound-char : (t : List ℕ) (k : ℕ) (u : List ℕ) {code : ℕ} → take k t ≡ u → length u ≡ k → 0 < k → encode code ≡ u → Sound t (Char code k)
-sound-char t k u e l h f = char {k = k} h (omega (arith, length-take k t, ap length e)) (f ∙ sym e)
-
-encode1 : (a : ℕ) → a < 0x80 → encode a ≡ a ∷ []
-unfolding encode pick
-encode1 a h = rw (lt-ltb a 0x80 h)
+sound-char : (t : List ℕ) (k : ℕ) (u : List ℕ) {code : ℕ} → take k t ≡ u → length u ≡ k → 0 < k → code < 0x110000 → encode code ≡ u → Sound t (Char code k)
+sound-char t k u e l h m f = char {k = k} h (omega (arith, length-take k t, ap length e)) m (f ∙ sym e)
 
 pub first-sound : (t : List ℕ) → Sound t (first t)
 first-sound =
     first-ways Sound end λ t a b c d h1 h2 h3 h4.
     record {
       ill = bad;
-      one = λ h. sound-char t 1 (a ∷ []) h1 refl (lit< tt) (encode1 a h);
-      two-bytes = λ l h e v. sound-char t 2 (a ∷ b ∷ []) (h2 e) refl (lit< tt) (encode2 a b (cont b e) l h v);
-      three-bytes = λ l h e f v _. sound-char t 3 (a ∷ b ∷ c ∷ []) (h3 f) refl (lit< tt) (encode3 a b (cont b e) c (cont c f) l h v);
-      four-bytes = λ l h e f g v _. sound-char t 4 (a ∷ b ∷ c ∷ d ∷ []) (h4 g) refl (lit< tt) (encode4 a b (cont b e) c (cont c f) d (cont d g) l h v);
+      one = λ h. sound-char t 1 (a ∷ []) h1 refl (lit< tt) (omega arith) (encode-one a h);
+      two-bytes = λ l h e v. sound-char t 2 (a ∷ b ∷ []) (h2 e) refl (lit< tt) (omega arith) (encode2 a b (cont b e) l h v);
+      three-bytes = λ l h e f v _. sound-char t 3 (a ∷ b ∷ c ∷ []) (h3 f) refl (lit< tt) (omega arith) (encode3 a b (cont b e) c (cont c f) l h v);
+      four-bytes = λ l h e f g v m. sound-char t 4 (a ∷ b ∷ c ∷ d ∷ []) (h4 g) refl (lit< tt) (omega arith) (encode4 a b (cont b e) c (cont c f) d (cont d g) l h v);
     }
+
+-- the bytes of a character, with anything behind them
+module _ (a b : ℕ) where
+  pub two-is : (r : List ℕ) → 0xC0 ≤ a → a < 0xE0 → isCont b ≡ true → 0x80 ≤ code2 a b → first (a ∷ b ∷ r) ≡ Char (code2 a b) 2
+  unfolding first decode lenOf two pick
+  two-is r l h e v = rw (le-ltb a 0x80 (omega arith), le-ltb a 0xC0 l, lt-ltb a 0xE0 h, e, le-leb 0x80 (code2 a b) v)
+
+  pub three-is : (c : ℕ) (r : List ℕ) → 0xE0 ≤ a → a < 0xF0 → isCont b ≡ true → isCont c ≡ true → 0x800 ≤ code3 a b c → isSurrogate (code3 a b c) ≡ false → first (a ∷ b ∷ c ∷ r) ≡ Char (code3 a b c) 3
+  unfolding first decode lenOf three pick
+  three-is c r l h e f v n =
+      rw (le-ltb a 0x80 (omega arith), le-ltb a 0xC0 (omega arith), le-ltb a 0xE0 l, lt-ltb a 0xF0 h, e, f, le-leb 0x800 (code3 a b c) v, n)
+
+  pub four-is : (c d : ℕ) (r : List ℕ) → 0xF0 ≤ a → a < 0xF8 → isCont b ≡ true → isCont c ≡ true → isCont d ≡ true → 0x10000 ≤ code4 a b c d → code4 a b c d ≤ 0x10FFFF → first (a ∷ b ∷ c ∷ d ∷ r) ≡ Char (code4 a b c d) 4
+  unfolding first decode lenOf four pick
+  four-is c d r l h e f g v m =
+      rw (
+        le-ltb a 0x80 (omega arith),
+        le-ltb a 0xC0 (omega arith),
+        le-ltb a 0xE0 (omega arith),
+        le-ltb a 0xF0 l,
+        lt-ltb a 0xF8 h,
+        e,
+        f,
+        g,
+        le-leb 0x10000 (code4 a b c d) v,
+        le-leb (code4 a b c d) 0x10FFFF m,
+      )
+
+-- an ASCII byte is a character by itself
+pub first-ascii : (a : ℕ) (t : List ℕ) → a < 128 → first (a ∷ t) ≡ Char a 1
+unfolding first decode lenOf pick
+first-ascii a t l = rw (lt-ltb a 128 l)
+
+-- what is read as a character is read as it whatever stands behind it
+data Firm (t : List ℕ) : Decoded → Type 0 where
+  firm : {k code : ℕ} → ((r : List ℕ) → first (take k t ++ r) ≡ Char code k) → Firm t (Char code k)
+  ill : Firm t Bad
+  none : Firm t End
+
+first-firm : (t : List ℕ) → Firm t (first t)
+first-firm =
+    first-ways Firm none λ t a b c d h1 h2 h3 h4.
+    record {
+      ill = ill;
+      one = λ h. firm (λ r. rw h1 (first-ascii a r h));
+      two-bytes = λ l h e v. firm (λ r. rw (h2 e) (two-is a b r l h e v));
+      three-bytes = λ l h e f v n. firm (λ r. rw (h3 f) (three-is a b c r l h e f v n));
+      four-bytes = λ l h e f g v m. firm (λ r. rw (h4 g) (four-is a b c d r l h e f g v m));
+    }
+
+of-firm : {t : List ℕ} {code k : ℕ} → Firm t (Char code k) → (r : List ℕ) → first (take k t ++ r) ≡ Char code k
+of-firm (firm f) = f
+
+pub first-kept : (t r : List ℕ) {code k : ℕ} → first t ≡ Char code k → first (take k t ++ r) ≡ Char code k
+first-kept t r e = of-firm (subst (Firm t) e (first-firm t)) r
+
+-- only a text that is empty begins with nothing
+data Begun (t : List ℕ) : Decoded → Type 0 where
+  begun : {k code : ℕ} → Begun t (Char code k)
+  ill : Begun t Bad
+  over : t ≡ [] → Begun t End
+
+first-begun : (t : List ℕ) → Begun t (first t)
+first-begun =
+    first-ways Begun (over refl) λ t a b c d h1 h2 h3 h4.
+    record { ill = ill; one = λ _. begun; two-bytes = λ _ _ _ _. begun; three-bytes = λ _ _ _ _ _ _. begun; four-bytes = λ _ _ _ _ _ _ _. begun }
+
+of-over : {t : List ℕ} → Begun t End → t ≡ []
+of-over (over e) = e
+
+pub first-end : (t : List ℕ) → first t ≡ End → t ≡ []
+first-end t e = of-over (subst (Begun t) e (first-begun t))
 
 pub sound : (s : List ℕ) (at : ℕ) → Sound (drop at s) (decodeAt s at)
 unfolding decodeAt
@@ -195,14 +258,16 @@ sound s at = first-sound (drop at s)
 pub record OfChar (s : List ℕ) (at code k : ℕ) : Type 0 where
   pub some : 0 < k
   pub inside : k ≤ length s - at
+  pub below : code < 0x110000
   pub bytes : encode code ≡ take k (drop at s)
   pub long : length (encode code) ≡ k
 
 of-char : (s : List ℕ) (at : ℕ) {code k : ℕ} → Sound (drop at s) (Char code k) → OfChar s at code k
-of-char s at (char {k} {code} a b c) =
+of-char s at (char {k} {code} a b d c) =
     record {
       some = a;
       inside = omega (arith, b, length-drop at s);
+      below = d;
       bytes = c;
       long = omega (arith, ap length c, length-take k (drop at s));
     }
@@ -212,7 +277,7 @@ found s at e = of-char s at (subst (Sound (drop at s)) e (sound s at))
 
 within : {t : List ℕ} {r : Decoded} → Sound t r → lenD r ≤ length t
 unfolding lenD
-within (char a b c) = b
+within (char a b c d) = b
 within bad = zero-le
 within end = zero-le
 
@@ -235,10 +300,6 @@ inside-is s at h =
     rw (drop-cons s at 0 h, getD-drop (suc at) s 0 0, getD-drop (suc at) s 1 0, getD-drop (suc at) s 2 0, e0, e1, e2)
 
 -- an ASCII byte is a character by itself
-pub first-ascii : (a : ℕ) (t : List ℕ) → a < 128 → first (a ∷ t) ≡ Char a 1
-unfolding first decode lenOf pick
-first-ascii a t l = rw (lt-ltb a 128 l)
-
 pub ascii : (s : List ℕ) (at : ℕ) → at < length s → getD s at 0 < 128 → decodeAt s at ≡ Char (getD s at 0) 1
 unfolding decodeAt
 ascii s at h l = rw (drop-cons s at 0 h) (first-ascii _ _ l)

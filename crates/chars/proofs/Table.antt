@@ -9,13 +9,12 @@ use native.Mathlib.Decide.{decLt}
 use borrow.Author.Tests.{lt-ltb, le-ltb, le-leb, lt-leb}
 use lib.ListN.{length, take}
 use lib.Seq.{take-length}
-use Rattle.chars.specs.Pick.{pick}
-use Rattle.chars.specs.Utf8.{lenOf, isCont, isSurrogate, code2, code3, code4, two, three, four, decode, first}
+use Rattle.chars.specs.Utf8.{isCont, isSurrogate, code2, code3, code4, first}
 use Rattle.chars.specs.Table.{In, WellFormed}
 use Rattle.chars.specs.Table.WellFormed.{row1, row2, row3, row4, row5, row6, row7, row8, row9}
 use Rattle.chars.specs.declared.Decoded.{Decoded}
 use Rattle.chars.specs.declared.Decoded.the-variants.{Char, Bad, End}
-use Rattle.chars.proofs.Laws.{Cont, cont, first-ways, first-ascii}
+use Rattle.chars.proofs.Laws.{Cont, cont, first-ways, first-ascii, two-is, three-is, four-is}
 
 -- a row's bytes are one character
 is-cont : (b : ℕ) → In 0x80 0xBF b → isCont b ≡ true
@@ -30,49 +29,24 @@ past-surrogates : (n : ℕ) → 0xE000 ≤ n → isSurrogate n ≡ false
 unfolding isSurrogate
 past-surrogates n h = rw (le-leb 0xD800 n (omega arith), le-ltb n 0xE000 h)
 
-two-is : (a b : ℕ) → 0xC0 ≤ a → a < 0xE0 → isCont b ≡ true → 0x80 ≤ code2 a b → first (a ∷ b ∷ []) ≡ Char (code2 a b) 2
-unfolding first decode lenOf two pick
-two-is a b l h e v = rw (le-ltb a 0x80 (omega arith), le-ltb a 0xC0 l, lt-ltb a 0xE0 h, e, le-leb 0x80 (code2 a b) v)
-
-three-is : (a b c : ℕ) → 0xE0 ≤ a → a < 0xF0 → isCont b ≡ true → isCont c ≡ true → 0x800 ≤ code3 a b c → isSurrogate (code3 a b c) ≡ false → first (a ∷ b ∷ c ∷ []) ≡ Char (code3 a b c) 3
-unfolding first decode lenOf three pick
-three-is a b c l h e f v n =
-    rw (le-ltb a 0x80 (omega arith), le-ltb a 0xC0 (omega arith), le-ltb a 0xE0 l, lt-ltb a 0xF0 h, e, f, le-leb 0x800 (code3 a b c) v, n)
-
-four-is : (a b c d : ℕ) → 0xF0 ≤ a → a < 0xF8 → isCont b ≡ true → isCont c ≡ true → isCont d ≡ true → 0x10000 ≤ code4 a b c d → code4 a b c d ≤ 0x10FFFF → first (a ∷ b ∷ c ∷ d ∷ []) ≡ Char (code4 a b c d) 4
-unfolding first decode lenOf four pick
-four-is a b c d l h e f g v m =
-    rw (
-      le-ltb a 0x80 (omega arith),
-      le-ltb a 0xC0 (omega arith),
-      le-ltb a 0xE0 (omega arith),
-      le-ltb a 0xF0 l,
-      lt-ltb a 0xF8 h,
-      e,
-      f,
-      g,
-      le-leb 0x10000 (code4 a b c d) v,
-      le-leb (code4 a b c d) 0x10FFFF m,
-    )
-
 -- each sequence of the table is one character, all of it
 pub taken : {s : List ℕ} → WellFormed s → (code : ℕ) × (first s ≡ Char code (length s))
 taken (row1 {a} h) = (a, first-ascii a [] (omega (arith, h .high)))
-taken (row2 {a} {b} h k) = (code2 a b, two-is a b (omega (arith, h .low)) (omega (arith, h .high)) (is-cont b k) (omega (arith, h .low, h .high)))
+taken (row2 {a} {b} h k) = (code2 a b, two-is a b [] (omega (arith, h .low)) (omega (arith, h .high)) (is-cont b k) (omega (arith, h .low, h .high)))
 taken (row3 {a} {b} {c} h k l) =
-    (code3 a b c, three-is a b c (h .low) (omega (arith, h .high)) (is-cont b (record { low = omega (arith, k .low); high = k .high })) (is-cont c l) (omega (arith, h .low, h .high, k .low, k .high)) (no-surrogate (code3 a b c) (omega (arith, h .low, h .high))))
+    (code3 a b c, three-is a b c [] (h .low) (omega (arith, h .high)) (is-cont b (record { low = omega (arith, k .low); high = k .high })) (is-cont c l) (omega (arith, h .low, h .high, k .low, k .high)) (no-surrogate (code3 a b c) (omega (arith, h .low, h .high))))
 taken (row4 {a} {b} {c} h k l) =
-    (code3 a b c, three-is a b c (omega (arith, h .low)) (omega (arith, h .high)) (is-cont b k) (is-cont c l) (omega (arith, h .low, h .high)) (no-surrogate (code3 a b c) (omega (arith, h .low, h .high))))
+    (code3 a b c, three-is a b c [] (omega (arith, h .low)) (omega (arith, h .high)) (is-cont b k) (is-cont c l) (omega (arith, h .low, h .high)) (no-surrogate (code3 a b c) (omega (arith, h .low, h .high))))
 taken (row5 {a} {b} {c} h k l) =
-    (code3 a b c, three-is a b c (omega (arith, h .low)) (omega (arith, h .high)) (is-cont b (record { low = k .low; high = omega (arith, k .high) })) (is-cont c l) (omega (arith, h .low, h .high)) (no-surrogate (code3 a b c) (omega (arith, h .low, h .high, k .low, k .high))))
+    (code3 a b c, three-is a b c [] (omega (arith, h .low)) (omega (arith, h .high)) (is-cont b (record { low = k .low; high = omega (arith, k .high) })) (is-cont c l) (omega (arith, h .low, h .high)) (no-surrogate (code3 a b c) (omega (arith, h .low, h .high, k .low, k .high))))
 taken (row6 {a} {b} {c} h k l) =
-    (code3 a b c, three-is a b c (omega (arith, h .low)) (omega (arith, h .high)) (is-cont b k) (is-cont c l) (omega (arith, h .low, h .high)) (past-surrogates (code3 a b c) (omega (arith, h .low, h .high))))
+    (code3 a b c, three-is a b c [] (omega (arith, h .low)) (omega (arith, h .high)) (is-cont b k) (is-cont c l) (omega (arith, h .low, h .high)) (past-surrogates (code3 a b c) (omega (arith, h .low, h .high))))
 taken (row7 {a} {b} {c} {d} h k l m) =
-    (code4 a b c d, four-is a b c d (h .low) (omega (arith, h .high)) (is-cont b (record { low = omega (arith, k .low); high = k .high })) (is-cont c l) (is-cont d m) (omega (arith, h .low, h .high, k .low, k .high)) (omega (arith, h .low, h .high)))
+    (code4 a b c d, four-is a b c d [] (h .low) (omega (arith, h .high)) (is-cont b (record { low = omega (arith, k .low); high = k .high })) (is-cont c l) (is-cont d m) (omega (arith, h .low, h .high, k .low, k .high)) (omega (arith, h .low, h .high)))
 taken (row8 {a} {b} {c} {d} h k l m) =
-    (code4 a b c d, four-is a b c d (omega (arith, h .low)) (omega (arith, h .high)) (is-cont b k) (is-cont c l) (is-cont d m) (omega (arith, h .low, h .high)) (omega (arith, h .low, h .high)))
+    (code4 a b c d, four-is a b c d [] (omega (arith, h .low)) (omega (arith, h .high)) (is-cont b k) (is-cont c l) (is-cont d m) (omega (arith, h .low, h .high)) (omega (arith, h .low, h .high)))
 taken (row9 {a} {b} {c} {d} h k l m) =
-    (code4 a b c d, four-is a b c d (omega (arith, h .low)) (omega (arith, h .high)) (is-cont b (record { low = k .low; high = omega (arith, k .high) })) (is-cont c l) (is-cont d m) (omega (arith, h .low, h .high)) (omega (arith, h .low, h .high, k .low, k .high)))
+    (code4 a b c d, four-is a b c d [] (omega (arith, h .low)) (omega (arith, h .high)) (is-cont b (record { low = k .low; high = omega (arith, k .high) })) (is-cont c l) (is-cont d m) (omega (arith, h .low, h .high)) (omega (arith, h .low, h .high, k .low, k .high)))
 
 -- what is taken for a character is a sequence of the table
 data Listed (t : List ℕ) : Decoded → Type 0 where

@@ -3,7 +3,7 @@
 use mathlib.Core.Path.{_≡_, sym, ap, _∙_}
 use mathlib.Core.Bool.{true, false≢true}
 use mathlib.Core.List.{append-nil}
-use Prim.Native.Nat.{ℕ, _≤_}
+use Prim.Native.Nat.{ℕ, _≤_, _<_}
 use native.Mathlib.Omega.{arith}
 use native.Mathlib.Decide.{decLt}
 use borrow.Author.Tests.{le-leb, lt-leb, ne-eqb}
@@ -13,8 +13,9 @@ use Rattle.chars.specs.Utf8.{encode, encodeAll}
 use Rattle.chars.specs.Classes.{within}
 use Rattle.chars.specs.Upper.{loses32, upperOf, codesOf}
 use Rattle.chars.specs.declared.Upper.{Upper}
-use Rattle.chars.specs.declared.Upper.the-variants.{One}
+use Rattle.chars.specs.declared.Upper.the-variants.{One, Two}
 use Rattle.chars.proofs.Below.{agree}
+use Rattle.chars.proofs.Cases.{by-test}
 
 -- a letter that loses 32 is at least that
 pub loses-above : (c : ℕ) → loses32 c ≡ true → 32 ≤ c
@@ -49,3 +50,15 @@ upper-length c =
       | yes h ↦ agree (λ (c : ℕ). length (encodeAll (codesOf (upperOf c)))) (λ (c : ℕ). length (encode c)) 256 tt c h
       | no h ↦ ap (λ (u : Upper). length (encodeAll (codesOf u))) (upper-far c (omega (arith, h))) ∙ ap length (append-nil (encode c))
     ]
+
+-- what is known of an upper case: its codes are no larger than the largest one
+pub data Small : Upper → Type 0 where
+  small-one : {a : ℕ} → a < 0x110000 → Small (One a)
+  small-two : {a b : ℕ} → a < 0x110000 → b < 0x110000 → Small (Two a b)
+
+pub upper-small : (c : ℕ) → c < 0x110000 → Small (upperOf c)
+unfolding upperOf
+upper-small c h =
+    by-test Small _ (λ _. small-one (omega arith))
+    (λ _. by-test Small _ (λ _. small-one (omega arith))
+    (λ _. by-test Small _ (λ _. small-one (omega arith)) (λ _. by-test Small _ (λ _. small-two (omega arith) (omega arith)) (λ _. small-one h))))

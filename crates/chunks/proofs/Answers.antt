@@ -1,0 +1,86 @@
+-- What formatting answers and stores, by what the checks found and by the room there is.
+-- Assumes nothing.
+use mathlib.Core.Path.{_≡_, refl, sym, ap, _∙_}
+use mathlib.Core.Bool.{Bool, true, false}
+use mathlib.Core.List.{List, _++_, append-nil}
+use Prim.Native.Nat.{ℕ, _+_, _*_, _/_, _≤_, _<_}
+use native.Mathlib.Omega.{arith}
+use borrow.Author.Tests.{le-leb, lt-leb}
+use lib.ListN.{length, take, drop}
+use lib.Seq.{sets, drop-length, drop-at}
+use Rattle.chars.specs.Pick.{pick}
+use Rattle.chars.proofs.Cases.{of-test}
+use Rattle.refusals.specs.declared.Kind.the-variants.{NoRoom}
+use Rattle.refusals.specs.declared.Refusal.{Refusal}
+use Rattle.refusals.specs.Refusal.{fileSpan, refusal}
+use Rattle.chunks.specs.declared.Checked.the-variants.{Clean, Faulty}
+use Rattle.chunks.specs.declared.Formatted.the-variants.{Text, Refused}
+use Rattle.chunks.specs.Chunks.{chunksOf, fits, isShort}
+use Rattle.chunks.specs.Check.{faultOf, checked}
+use Rattle.chunks.specs.Format.{formatted}
+use Rattle.chunks.specs.Upper.{uppercase}
+use Rattle.chunks.specs.Answer.{textOf, roomOf, answered, answer, stored}
+use Rattle.chunks.proofs.Tables.{count}
+use Rattle.chunks.proofs.Room.{text-short}
+use Rattle.chunks.proofs.Fill.{stored-front, held}
+use Rattle.chunks.proofs.Proper.{faulty-not, upper-keeps, proper-text}
+
+module _ (b table : List ℕ) where
+  -- the room that is asked for, as the code counts it
+  pub room-is : roomOf b table ≡ length b + length table / 4 * 2
+  unfolding roomOf
+  room-is = omega (arith, count table)
+
+  -- a list without a fault has a table that fits
+  pub clean-fits : checked b table ≡ Clean → fits b table ≡ true
+  unfolding checked pick
+  clean-fits e = of-test (fits b table) (λ t. t) (λ t. absurd (faulty-not (rw t at e)))
+
+  pub clean-faultless : checked b table ≡ Clean → faultOf 0 b (chunksOf table) ≡ Clean
+  unfolding checked pick
+  clean-faultless e =
+      of-test (isShort b table) (λ t. rw (clean-fits e, t) at e) (λ t. absurd (faulty-not (rw (clean-fits e, t) at e)))
+
+  -- upper case keeps its text's length
+  pub upper-same : checked b table ≡ Clean → length (uppercase (formatted b table)) ≡ length (formatted b table)
+  upper-same e = upper-keeps (proper-text b table (clean-faultless e))
+
+  pub same-long : (u : Bool) → checked b table ≡ Clean → length (textOf u b table) ≡ length (formatted b table)
+  unfolding textOf pick
+  same-long true e = upper-same e
+  same-long false e = refl
+
+  module _ (u : Bool) (buf : List ℕ) where
+    pub faulted : {e : Refusal} → checked b table ≡ Faulty e → (Refused e ≡ answer u b table buf) × (buf ≡ stored (Refused e) (textOf u b table) buf)
+    unfolding answer answered stored
+    faulted h = rw h (refl, refl)
+
+    pub no-room : {e : Refusal} → checked b table ≡ Clean → length buf < roomOf b table → e ≡ refusal NoRoom (fileSpan 0 0) → (Refused e ≡ answer u b table buf) × (buf ≡ stored (Refused e) (textOf u b table) buf)
+    unfolding answer answered stored pick
+    no-room h l e = rw (h, lt-leb _ _ l, e) (refl, refl)
+
+    pub texted : (n : ℕ) (last : List ℕ) → checked b table ≡ Clean → roomOf b table ≤ length buf → n ≡ length (textOf u b table) → last ≡ sets buf 0 (textOf u b table) → (Text n ≡ answer u b table buf) × (last ≡ stored (Text n) (textOf u b table) buf)
+    unfolding answer answered stored pick
+    texted n last h l e g =
+        rw (h, le-leb _ _ l, e)
+        (refl, g ∙ stored-front buf (textOf u b table) (omega (arith, same-long u h, text-short b table)))
+
+-- the text at the front of a buffer, put in upper case there
+pub raised : (buf mid last all : List ℕ) (n : ℕ) → n ≡ length all → length all ≤ length buf → mid ≡ sets buf 0 all → length (uppercase all) ≡ length all → last ≡ sets (take n mid) 0 (uppercase (take n mid)) → last ++ drop n mid ≡ sets buf 0 (uppercase all)
+raised buf mid last all n z h m e g =
+    let up : List ℕ = uppercase all in
+    let front : take n mid ≡ all = held buf mid all n z m (omega arith) in
+    let whole : mid ≡ all ++ drop (length all) buf = m ∙ stored-front buf all h in
+    let now : last ≡ up = g ∙ ap (λ (l : List ℕ). sets l 0 (uppercase l)) front ∙ stored-front all up (omega arith) ∙ ap (λ (k : ℕ). up ++ drop k all) e ∙ ap (λ (l : List ℕ). up ++ l) (drop-length all) ∙ append-nil up in
+    let rest : drop n mid ≡ drop (length all) buf = ap (drop n) whole ∙ drop-at all (drop (length all) buf) n (sym z) in
+    rw (now, rest) (sym (stored-front buf up (omega arith) ∙ ap (λ (k : ℕ). up ++ drop k buf) e))
+
+-- the text that is asked for, by what is asked
+module _ (b table : List ℕ) {u : Bool} where
+  pub raised-text : u ≡ true → textOf u b table ≡ uppercase (formatted b table)
+  unfolding textOf pick
+  raised-text e = rw e
+
+  pub plain-as-is : u ≡ false → textOf u b table ≡ formatted b table
+  unfolding textOf pick
+  plain-as-is e = rw e

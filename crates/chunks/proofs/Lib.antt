@@ -1,0 +1,12 @@
+pub mod Fill
+pub mod Walk
+pub mod Tables
+pub mod Lengths
+pub mod Room
+pub mod Cased
+pub mod Faults
+pub mod Plains
+pub mod Turn
+pub mod Proper
+pub mod Answers
+pub mod Reached

@@ -1,0 +1,56 @@
+-- The formatted text of a chunk list. The flag says whether the previous character was white space; it is clear at first.
+use Prim.Native.Nat.{ℕ}
+use mathlib.Core.Bool.{Bool, true, false, _||_}
+use mathlib.Core.List.{List, [], _∷_, _++_}
+use lib.Dec.{eqb}
+use lib.ListN.{take, drop}
+use Rattle.chars.specs.Pick.{pick}
+use Rattle.chars.specs.Utf8.{encode}
+use Rattle.chars.specs.Classes.{isWhitespace}
+use Rattle.chunks.specs.Characters.{codes}
+use Rattle.chunks.specs.Chunks.{Chunk, chunksOf}
+
+-- a line feed or a carriage return
+unfoldable pub isBreak : ℕ → Bool
+isBreak c = eqb c 0x0A || eqb c 0x0D
+
+-- what a character of a Normal chunk puts out: a line break becomes a space, or is dropped if the flag is set
+unfoldable pub oneOut : Bool → ℕ → List ℕ
+oneOut white c = pick (isBreak c) (pick white [] (0x20 ∷ [])) (encode c)
+
+-- the flag behind it: each character put out sets it anew, and behind a dropped line break it is still set
+unfoldable pub oneFlag : ℕ → Bool
+oneFlag c = pick (isBreak c) true (isWhitespace c)
+
+-- what the characters of a Normal chunk put out
+unfoldable pub normal : Bool → List ℕ → List ℕ
+normal white [] = []
+normal white (c ∷ cs) = oneOut white c ++ normal (oneFlag c) cs
+
+-- the flag behind them
+unfoldable pub normalFlag : Bool → List ℕ → Bool
+normalFlag white [] = white
+normalFlag white (c ∷ cs) = normalFlag (oneFlag c) cs
+
+-- whether the last character is white space; with no character, what was said before
+unfoldable pub lastWhite : Bool → List ℕ → Bool
+lastWhite white [] = white
+lastWhite white (c ∷ cs) = lastWhite (isWhitespace c) cs
+
+-- what a chunk puts out: Normal by its characters, Verbatim as it is, Math between two dollar signs
+unfoldable pub chunkOut : Bool → ℕ → List ℕ → List ℕ
+chunkOut white kind t = pick (eqb kind 0) (normal white (codes t)) (pick (eqb kind 1) t (0x24 ∷ (t ++ 0x24 ∷ [])))
+
+-- the flag behind it: of Verbatim that of its last character, false if it is empty; Math leaves it
+unfoldable pub chunkFlag : Bool → ℕ → List ℕ → Bool
+chunkFlag white kind t = pick (eqb kind 0) (normalFlag white (codes t)) (pick (eqb kind 1) (lastWhite false (codes t)) white)
+
+-- what chunks put out, one behind the other
+unfoldable pub chunksOut : Bool → List ℕ → List Chunk → List ℕ
+chunksOut white b [] = []
+chunksOut white b (c ∷ cs) =
+    chunkOut white (c .kind) (take (c .len) b) ++ chunksOut (chunkFlag white (c .kind) (take (c .len) b)) (drop (c .len) b) cs
+
+-- the formatted text of a list
+unfoldable pub formatted : List ℕ → List ℕ → List ℕ
+formatted b table = chunksOut false b (chunksOf table)

@@ -1,0 +1,7 @@
+pub mod Characters
+pub mod Chunks
+pub mod Check
+pub mod Format
+pub mod Upper
+pub mod Plain
+pub mod Answer

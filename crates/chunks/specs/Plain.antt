@@ -1,0 +1,32 @@
+-- The usual list, one Normal chunk of ASCII, in one pass. What this gives is proved to be what the definitions of `Format` and `Upper`
+-- give; no other crate's contract rests on it.
+use Prim.Native.Nat.{ℕ, _-_}
+use mathlib.Core.Bool.{Bool, true, false, _&&_}
+use mathlib.Core.List.{List, [], _∷_, _++_}
+use lib.Dec.{ltb, leb, eqb}
+use lib.ListN.{length, getD}
+use Rattle.chars.specs.Pick.{pick}
+use Rattle.chunks.specs.Format.{isBreak, oneFlag}
+
+-- whether all bytes are ASCII
+unfoldable pub allAscii : List ℕ → Bool
+allAscii [] = true
+allAscii (b ∷ t) = ltb b 0x80 && allAscii t
+
+-- whether a list is one Normal chunk of at most 4,096 ASCII bytes
+unfoldable pub isPlain : List ℕ → List ℕ → Bool
+isPlain b table =
+    eqb (length table) 4 && (eqb (getD table 0 0) 0 && (eqb (getD table 1 0) (length b) && (leb (length b) 4096 && allAscii b)))
+
+-- an ASCII letter in upper case, where that is asked; any other byte as it is
+unfoldable pub plainByte : Bool → ℕ → ℕ
+plainByte upper b = pick upper (pick (leb 0x61 b && leb b 0x7A) (b - 32) b) b
+
+-- what a byte puts out
+unfoldable pub plainOut : Bool → Bool → ℕ → List ℕ
+plainOut upper white b = pick (isBreak b) (pick white [] (0x20 ∷ [])) (plainByte upper b ∷ [])
+
+-- what the bytes put out
+unfoldable pub plainText : Bool → Bool → List ℕ → List ℕ
+plainText upper white [] = []
+plainText upper white (b ∷ t) = plainOut upper white b ++ plainText upper (oneFlag b) t

@@ -1,0 +1,502 @@
+// Chunk lists: the checks before a list is read, its span, and its formatted text.
+// A list is lent bytes and a lent table of four numbers a chunk: kind (0 Normal, 1 Verbatim, 2 Math), length, span start, span end.
+ghost use mathlib.Core.Path.{_≡_};
+ghost use mathlib.Core.Bool.{true, false, _&&_};
+ghost use Prim.Native.Nat.{_+_, _%_, _^_, _<_, _≤_};
+ghost use lib.Dec.{eqb};
+ghost use lib.ListN.{length};
+ghost use lib.Seq.{sets};
+ghost use Rattle.chars.specs.Utf8.{encode};
+ghost use Rattle.refusals.specs.Refusal.{fileSpan, refusal};
+ghost use Rattle.chunks.specs.declared.Checked.the-variants.{Faulty};
+ghost use Rattle.chunks.specs.Characters.{codes};
+ghost use Rattle.chunks.specs.Chunks as chunks_;
+ghost use Rattle.chunks.specs.Check as check_;
+ghost use Rattle.chunks.specs.Format as format_;
+ghost use Rattle.chunks.specs.Upper as upper_;
+ghost use Rattle.chunks.specs.Plain as plain_;
+ghost use Rattle.chunks.specs.Answer as answer_;
+use chars::Decoded;
+use chars::Upper;
+use refusals::FileSpan;
+use refusals::Kind;
+use refusals::Refusal;
+
+// Whether a list may be read, or what is wrong with it.
+pub enum Checked {
+    Clean,
+    Faulty(Refusal),
+}
+
+// A text in the lent buffer, with its length; or why there is none.
+pub enum Formatted {
+    Text(usize),
+    Refused(Refusal),
+}
+
+// How far a buffer is filled, and whether what was put last was white space.
+struct Put {
+    n: usize,
+    white: bool,
+}
+
+// Whether the kinds of a table are known and its lengths sum to a number of bytes. What is left of the bytes is counted down, so
+// that no sum can wrap.
+fn lengths_fit(table: &[u64], bytes: usize) -> bool
+    requires { ⌜ length (now table) % 4 ≡ 0 ⌝ }
+    ensures { λ r. ⌜ r ≡ (chunks_.kindsKnown (chunks_.chunksOf (now (table .entry))) && eqb (chunks_.lengths (chunks_.chunksOf (now (table .entry)))) bytes) ⌝ }
+{
+    let mut left = bytes as u64;
+    let mut k = 0;
+    while k < table.len() {
+        let kind = table[k];
+        if 2 < kind {
+            return false;
+        }
+        let len = table[k + 1];
+        if left < len {
+            return false;
+        }
+        left = left - len;
+        k = k + 4;
+    }
+    left == 0
+}
+
+// Whether the table fits the bytes.
+fn fits(bytes: &[u8], table: &[u64]) -> bool
+    ensures { λ r. ⌜ r ≡ chunks_.fits (now (bytes .entry)) (now (table .entry)) ⌝ }
+{
+    if table.len() % 4 == 0 {
+        return lengths_fit(table, bytes.len());
+    }
+    false
+}
+
+// The first ill-formed or unsupported character: the chunks and their characters in turn, left at the first fault.
+fn check_characters(bytes: &[u8], table: &[u64]) -> Checked
+    requires { ⌜ chunks_.fits (now bytes) (now table) ≡ true ⌝ }
+    ensures { λ r. ⌜ r ≡ check_.faultOf 0 (now (bytes .entry)) (chunks_.chunksOf (now (table .entry))) ⌝ }
+{
+    let mut at = 0;
+    let mut k = 0;
+    let mut found = Checked::Clean;
+    'chunks: while k < table.len() {
+        let len = table[k + 1] as usize;
+        let t = &bytes[at..at + len];
+        let mut i = 0;
+        'characters: loop {
+            match chars::decode_at(t, i) {
+                Decoded::Char { code, len: n } => {
+                    if chars::is_admitted(code) {
+                        i = i + n;
+                    } else {
+                        found = faulty(Kind::UnsupportedChar, at + i, n);
+                        break 'chunks;
+                    }
+                }
+                Decoded::Bad => {
+                    found = faulty(Kind::BadUtf8, at + i, 1);
+                    break 'chunks;
+                }
+                Decoded::End => {
+                    break 'characters;
+                }
+            }
+        }
+        at = at + len;
+        k = k + 4;
+    }
+    found
+}
+
+// A fault at a place of the lent bytes.
+fn faulty(kind: Kind, at: usize, len: usize) -> Checked
+    requires { ⌜ at + len < 2 ^ 64 ⌝ }
+    ensures { λ r. ⌜ r ≡ Faulty (refusal kind (fileSpan at (at + len))) ⌝ }
+{
+    let start = at as u64;
+    let end = (at + len) as u64;
+    Checked::Faulty(refusals::refuse(kind, FileSpan(start, end)))
+}
+
+// A refusal that names no place.
+fn refused(kind: Kind) -> Refusal
+    ensures { λ r. ⌜ r ≡ refusal kind (fileSpan 0 0) ⌝ }
+{
+    refusals::refuse(kind, FileSpan(0, 0))
+}
+
+// Whether the list keeps within the limits: 64 chunks and 4,096 bytes.
+fn is_short(bytes: &[u8], table: &[u64]) -> bool
+    ensures { λ r. ⌜ r ≡ chunks_.isShort (now (bytes .entry)) (now (table .entry)) ⌝ }
+{
+    if table.len() / 4 <= 64 {
+        return bytes.len() <= 4096;
+    }
+    false
+}
+
+// The checks of a list, in their order: the table, the limits, the characters.
+pub fn check(bytes: &[u8], table: &[u64]) -> Checked
+    ensures { λ r. ⌜ r ≡ check_.checked (now (bytes .entry)) (now (table .entry)) ⌝ }
+{
+    if fits(bytes, table) {
+        if is_short(bytes, table) {
+            return check_characters(bytes, table);
+        }
+        return Checked::Faulty(refused(Kind::TooLong));
+    }
+    Checked::Faulty(refused(Kind::BadChunks))
+}
+
+// The span of a list: from its first chunk's start to its last one's end, and 0, 0 of no chunk.
+pub fn span(table: &[u64]) -> FileSpan
+    ensures { λ r. ⌜ r ≡ chunks_.spanOf (chunks_.chunksOf (now (table .entry))) ⌝ }
+{
+    let n = table.len() / 4 * 4;
+    if n == 0 {
+        return FileSpan(0, 0);
+    }
+    FileSpan(table[2], table[n - 1])
+}
+
+// Puts the bytes of a character.
+fn put_char(buf: &mut [u8], n: usize, code: u32) -> usize
+    requires { ⌜ (code < 0x110000) × (n + length (encode code) ≤ length (now buf)) ⌝ }
+    ensures { λ r. ⌜ (r ≡ n + length (encode code)) × (now (buf .exit) ≡ sets (now (buf .entry)) n (encode code)) ⌝ }
+{
+    if code < 0x80 {
+        buf[n] = code as u8;
+        return n + 1;
+    }
+    let last = (0x80 + code % 64) as u8;
+    if code < 0x800 {
+        buf[n] = (0xC0 + code / 64) as u8;
+        buf[n + 1] = last;
+        return n + 2;
+    }
+    let third = (0x80 + code / 64 % 64) as u8;
+    if code < 0x10000 {
+        buf[n] = (0xE0 + code / 64 / 64) as u8;
+        buf[n + 1] = third;
+        buf[n + 2] = last;
+        return n + 3;
+    }
+    buf[n] = (0xF0 + code / 64 / 64 / 64) as u8;
+    buf[n + 1] = (0x80 + code / 64 / 64 % 64) as u8;
+    buf[n + 2] = third;
+    buf[n + 3] = last;
+    n + 4
+}
+
+// Whether the character is a line feed or a carriage return.
+fn is_break(code: u32) -> bool
+    ensures { λ r. ⌜ r ≡ format_.isBreak code ⌝ }
+{
+    if code == 0x0A {
+        return true;
+    }
+    code == 0x0D
+}
+
+// Puts one character of a Normal chunk: a line break as a space, or not at all behind white space.
+fn put_one(buf: &mut [u8], n: usize, white: bool, code: u32) -> Put
+    requires { ⌜ (code < 0x110000) × (n + length (format_.oneOut white code) ≤ length (now buf)) ⌝ }
+    ensures { λ r. ⌜ (r .n ≡ n + length (format_.oneOut white code)) × (r .white ≡ format_.oneFlag code) × (now (buf .exit) ≡ sets (now (buf .entry)) n (format_.oneOut white code)) ⌝ }
+{
+    if is_break(code) {
+        if white {
+            return Put { n, white: true };
+        }
+        let m = put_char(buf, n, 0x20);
+        return Put { n: m, white: true };
+    }
+    let m = put_char(buf, n, code);
+    let w = chars::is_whitespace(code);
+    Put { n: m, white: w }
+}
+
+// Puts a Normal chunk.
+fn put_normal(buf: &mut [u8], n: usize, t: &[u8], white: bool) -> Put
+    requires { ⌜ n + length (now t) ≤ length (now buf) ⌝ }
+    ensures { λ r. ⌜ (r .n ≡ n + length (format_.normal white (codes (now (t .entry))))) × (r .white ≡ format_.normalFlag white (codes (now (t .entry)))) × (now (buf .exit) ≡ sets (now (buf .entry)) n (format_.normal white (codes (now (t .entry))))) ⌝ }
+{
+    let mut m = n;
+    let mut w = white;
+    let mut i = 0;
+    loop {
+        match chars::decode_at(t, i) {
+            Decoded::Char { code, len } => {
+                let p = put_one(buf, m, w, code);
+                m = p.n;
+                w = p.white;
+                i = i + len;
+            }
+            Decoded::Bad => {
+                return Put { n: m, white: w };
+            }
+            Decoded::End => {
+                return Put { n: m, white: w };
+            }
+        }
+    }
+}
+
+// Copies bytes.
+fn put_bytes(buf: &mut [u8], n: usize, t: &[u8]) -> usize
+    requires { ⌜ n + length (now t) ≤ length (now buf) ⌝ }
+    ensures { λ r. ⌜ (r ≡ n + length (now (t .entry))) × (now (buf .exit) ≡ sets (now (buf .entry)) n (now (t .entry))) ⌝ }
+{
+    let mut m = n;
+    let mut i = 0;
+    while i < t.len() {
+        buf[m] = t[i];
+        m = m + 1;
+        i = i + 1;
+    }
+    m
+}
+
+// Whether the last character is white space; of no characters it is not.
+fn last_white(t: &[u8]) -> bool
+    ensures { λ r. ⌜ r ≡ format_.lastWhite false (codes (now (t .entry))) ⌝ }
+{
+    let mut w = false;
+    let mut i = 0;
+    loop {
+        match chars::decode_at(t, i) {
+            Decoded::Char { code, len } => {
+                w = chars::is_whitespace(code);
+                i = i + len;
+            }
+            Decoded::Bad => {
+                return w;
+            }
+            Decoded::End => {
+                return w;
+            }
+        }
+    }
+}
+
+// Puts a chunk of a kind: Normal, Verbatim, or Math between dollar signs.
+fn put_chunk(buf: &mut [u8], n: usize, kind: u64, t: &[u8], white: bool) -> Put
+    requires { ⌜ n + length (now t) + 2 ≤ length (now buf) ⌝ }
+    ensures { λ r. ⌜ (r .n ≡ n + length (format_.chunkOut white kind (now (t .entry)))) × (r .white ≡ format_.chunkFlag white kind (now (t .entry))) × (now (buf .exit) ≡ sets (now (buf .entry)) n (format_.chunkOut white kind (now (t .entry)))) ⌝ }
+{
+    if kind == 0 {
+        return put_normal(buf, n, t, white);
+    }
+    if kind == 1 {
+        let m = put_bytes(buf, n, t);
+        let w = last_white(t);
+        return Put { n: m, white: w };
+    }
+    let m = put_char(buf, n, 0x24);
+    let p = put_bytes(buf, m, t);
+    let q = put_char(buf, p, 0x24);
+    Put { n: q, white }
+}
+
+// Puts the chunks of a list, one behind the other.
+fn put_list(bytes: &[u8], table: &[u64], buf: &mut [u8]) -> usize
+    requires { ⌜ chunks_.fits (now bytes) (now table) ≡ true ⌝ }
+    requires { ⌜ answer_.roomOf (now bytes) (now table) ≤ length (now buf) ⌝ }
+    ensures { λ r. ⌜ (r ≡ length (format_.formatted (now (bytes .entry)) (now (table .entry)))) × (now (buf .exit) ≡ sets (now (buf .entry)) 0 (format_.formatted (now (bytes .entry)) (now (table .entry)))) × (r ≤ length (now (buf .entry))) ⌝ }
+{
+    let mut at = 0;
+    let mut k = 0;
+    let mut n = 0;
+    let mut w = false;
+    while k < table.len() {
+        let kind = table[k];
+        let len = table[k + 1] as usize;
+        let p = put_chunk(buf, n, kind, &bytes[at..at + len], w);
+        n = p.n;
+        w = p.white;
+        at = at + len;
+        k = k + 4;
+    }
+    n
+}
+
+// Puts a character's upper case.
+fn put_upper(buf: &mut [u8], n: usize, code: u32) -> usize
+    requires { ⌜ (code < 0x110000) × (n + length (upper_.upperOut code) ≤ length (now buf)) ⌝ }
+    ensures { λ r. ⌜ (r ≡ n + length (upper_.upperOut code)) × (now (buf .exit) ≡ sets (now (buf .entry)) n (upper_.upperOut code)) ⌝ }
+{
+    match chars::to_uppercase(code) {
+        Upper::One(a) => put_char(buf, n, a),
+        Upper::Two(a, b) => {
+            let m = put_char(buf, n, a);
+            put_char(buf, m, b)
+        }
+    }
+}
+
+// Puts a text in upper case, in place: no character's upper case has another number of bytes.
+fn upper_all(buf: &mut [u8])
+    ensures { λ _. ⌜ now (buf .exit) ≡ sets (now (buf .entry)) 0 (upper_.uppercase (now (buf .entry))) ⌝ }
+{
+    let mut i = 0;
+    loop {
+        match chars::decode_at(buf, i) {
+            Decoded::Char { code, len: _ } => {
+                i = put_upper(buf, i, code);
+            }
+            Decoded::Bad => {
+                return;
+            }
+            Decoded::End => {
+                return;
+            }
+        }
+    }
+}
+
+// Whether all bytes are ASCII.
+fn all_ascii(t: &[u8]) -> bool
+    ensures { λ r. ⌜ r ≡ plain_.allAscii (now (t .entry)) ⌝ }
+{
+    let mut i = 0;
+    while i < t.len() {
+        if 0x80 <= t[i] {
+            return false;
+        }
+        i = i + 1;
+    }
+    true
+}
+
+// Whether a list is one Normal chunk of ASCII within the limits: the usual one, which is formatted in one pass.
+fn is_plain(bytes: &[u8], table: &[u64]) -> bool
+    ensures { λ r. ⌜ r ≡ plain_.isPlain (now (bytes .entry)) (now (table .entry)) ⌝ }
+{
+    if table.len() == 4 {
+        if table[0] == 0 {
+            if table[1] == bytes.len() as u64 {
+                if bytes.len() <= 4096 {
+                    return all_ascii(bytes);
+                }
+            }
+        }
+    }
+    false
+}
+
+fn wide(b: u8) -> u32
+    ensures { λ r. ⌜ r ≡ b ⌝ }
+{
+    b as u32
+}
+
+// An ASCII byte in upper case, where that is asked.
+fn plain_byte(upper: bool, b: u8) -> u8
+    ensures { λ r. ⌜ r ≡ plain_.plainByte upper b ⌝ }
+{
+    if upper {
+        if 0x61 <= b {
+            if b <= 0x7A {
+                return b - 32;
+            }
+        }
+    }
+    b
+}
+
+// Puts one byte of a plain list. A byte above the space is no white space and no line break, and is looked at first.
+fn put_plain_byte(buf: &mut [u8], n: usize, upper: bool, white: bool, b: u8) -> Put
+    requires { ⌜ (n < length (now buf)) × (b < 0x80) ⌝ }
+    ensures { λ r. ⌜ (r .n ≡ n + length (plain_.plainOut upper white b)) × (r .white ≡ format_.oneFlag b) × (now (buf .exit) ≡ sets (now (buf .entry)) n (plain_.plainOut upper white b)) ⌝ }
+{
+    let u = plain_byte(upper, b);
+    if 0x20 < b {
+        buf[n] = u;
+        return Put {
+            n: n + 1,
+            white: false,
+        };
+    }
+    let code = wide(b);
+    if is_break(code) {
+        if white {
+            return Put { n, white: true };
+        }
+        buf[n] = 0x20;
+        return Put {
+            n: n + 1,
+            white: true,
+        };
+    }
+    let w = chars::is_whitespace(code);
+    buf[n] = u;
+    Put { n: n + 1, white: w }
+}
+
+// Puts a plain list.
+fn put_plain(buf: &mut [u8], t: &[u8], upper: bool) -> usize
+    requires { ⌜ (length (now t) ≤ length (now buf)) × (plain_.allAscii (now t) ≡ true) ⌝ }
+    ensures { λ r. ⌜ (r ≡ length (plain_.plainText upper false (now (t .entry)))) × (now (buf .exit) ≡ sets (now (buf .entry)) 0 (plain_.plainText upper false (now (t .entry)))) ⌝ }
+{
+    let mut m = 0;
+    let mut w = false;
+    let mut i = 0;
+    while i < t.len() {
+        let p = put_plain_byte(buf, m, upper, w, t[i]);
+        m = p.n;
+        w = p.white;
+        i = i + 1;
+    }
+    m
+}
+
+// The text of any list.
+fn format_any(bytes: &[u8], table: &[u64], upper: bool, buf: &mut [u8]) -> Formatted
+    ensures { λ r. ⌜ r ≡ answer_.answer upper (now (bytes .entry)) (now (table .entry)) (now (buf .entry)) ⌝ }
+    ensures { λ r. ⌜ now (buf .exit) ≡ answer_.stored r (answer_.textOf upper (now (bytes .entry)) (now (table .entry))) (now (buf .entry)) ⌝ }
+{
+    match check(bytes, table) {
+        Checked::Faulty(e) => Formatted::Refused(e),
+        Checked::Clean => {
+            if buf.len() < bytes.len() + table.len() / 4 * 2 {
+                return Formatted::Refused(refused(Kind::NoRoom));
+            }
+            let n = put_list(bytes, table, buf);
+            if upper {
+                upper_all(&mut buf[..n]);
+            }
+            Formatted::Text(n)
+        }
+    }
+}
+
+// The text of a list: the usual one in one pass, any other by the way for all.
+fn format(bytes: &[u8], table: &[u64], upper: bool, buf: &mut [u8]) -> Formatted
+    ensures { λ r. ⌜ r ≡ answer_.answer upper (now (bytes .entry)) (now (table .entry)) (now (buf .entry)) ⌝ }
+    ensures { λ r. ⌜ now (buf .exit) ≡ answer_.stored r (answer_.textOf upper (now (bytes .entry)) (now (table .entry))) (now (buf .entry)) ⌝ }
+{
+    if is_plain(bytes, table) {
+        if buf.len() < bytes.len() + 2 {
+            return Formatted::Refused(refused(Kind::NoRoom));
+        }
+        return Formatted::Text(put_plain(buf, bytes, upper));
+    }
+    format_any(bytes, table, upper, buf)
+}
+
+// The formatted text of a list.
+pub fn format_verbatim(bytes: &[u8], table: &[u64], buf: &mut [u8]) -> Formatted
+    ensures { λ r. ⌜ r ≡ answer_.answer false (now (bytes .entry)) (now (table .entry)) (now (buf .entry)) ⌝ }
+    ensures { λ r. ⌜ now (buf .exit) ≡ answer_.stored r (answer_.textOf false (now (bytes .entry)) (now (table .entry))) (now (buf .entry)) ⌝ }
+{
+    format(bytes, table, false, buf)
+}
+
+// The formatted text of a list, in upper case.
+pub fn format_uppercase(bytes: &[u8], table: &[u64], buf: &mut [u8]) -> Formatted
+    ensures { λ r. ⌜ r ≡ answer_.answer true (now (bytes .entry)) (now (table .entry)) (now (buf .entry)) ⌝ }
+    ensures { λ r. ⌜ now (buf .exit) ≡ answer_.stored r (answer_.textOf true (now (bytes .entry)) (now (table .entry))) (now (buf .entry)) ⌝ }
+{
+    format(bytes, table, true, buf)
+}
