@@ -316,7 +316,7 @@ fn put_list(bytes: &[u8], table: &[u64], buf: &mut [u8]) -> usize
         n = p.n;
         w = p.white;
         at = at + len;
-        k = k + 4;
+        k = k + 4; // past the four numbers
     }
     n
 }
