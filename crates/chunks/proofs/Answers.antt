@@ -1,18 +1,20 @@
 -- What formatting answers and stores, by what the checks found and by the room there is.
 -- Assumes nothing.
 use mathlib.Core.Path.{_≡_, refl, sym, ap, _∙_}
-use mathlib.Core.Bool.{Bool, true, false}
+use mathlib.Core.Bool.{Bool, true, false, false≢true}
 use mathlib.Core.List.{List, _++_, append-nil}
 use Prim.Native.Nat.{ℕ, _+_, _*_, _/_, _≤_, _<_}
 use native.Mathlib.Omega.{arith}
 use borrow.Author.Tests.{le-leb, lt-leb}
-use lib.ListN.{length, take, drop}
-use lib.Seq.{sets, drop-length, drop-at}
+use lib.Dec.{leb}
+use lib.ListN.{length, take, drop, length-append}
+use lib.Seq.{sets, drop-length, drop-at, take-append-seam}
 use Rattle.chars.specs.Pick.{pick}
 use Rattle.chars.proofs.Cases.{of-test}
 use Rattle.refusals.specs.declared.Kind.the-variants.{NoRoom}
 use Rattle.refusals.specs.declared.Refusal.{Refusal}
 use Rattle.refusals.specs.Refusal.{fileSpan, refusal}
+use Rattle.chunks.specs.declared.Checked.{Checked}
 use Rattle.chunks.specs.declared.Checked.the-variants.{Clean, Faulty}
 use Rattle.chunks.specs.declared.Formatted.the-variants.{Text, Refused}
 use Rattle.chunks.specs.Chunks.{chunksOf, fits, isShort}
@@ -40,6 +42,11 @@ module _ (b table : List ℕ) where
   unfolding checked pick
   clean-faultless e =
       of-test (isShort b table) (λ t. rw (clean-fits e, t) at e) (λ t. absurd (faulty-not (rw (clean-fits e, t) at e)))
+
+  -- and keeps within the limits
+  pub clean-short : checked b table ≡ Clean → isShort b table ≡ true
+  unfolding checked pick
+  clean-short e = of-test (isShort b table) (λ t. t) (λ t. absurd (faulty-not (rw (clean-fits e, t) at e)))
 
   -- upper case keeps its text's length
   pub upper-same : checked b table ≡ Clean → length (uppercase (formatted b table)) ≡ length (formatted b table)
@@ -84,3 +91,42 @@ module _ (b table : List ℕ) {u : Bool} where
   pub plain-as-is : u ≡ false → textOf u b table ≡ formatted b table
   unfolding textOf pick
   plain-as-is e = rw e
+
+-- the answer taken apart
+text-of : (k : Checked) (room : Bool) (m n : ℕ) → Text n ≡ answered k room m → (k ≡ Clean) × (room ≡ true) × (n ≡ m)
+unfolding answered pick
+text-of Clean true m n e = (refl, refl, cc)
+text-of Clean false m n e = let z : _≡_ {A = ℕ} 0 1 = cc in absurd (omega arith)
+text-of (Faulty f) room m n e = let z : _≡_ {A = ℕ} 0 1 = cc in absurd (omega arith)
+
+refused-of : (k : Checked) (room : Bool) (m : ℕ) {e : Refusal} → Refused e ≡ answered k room m → (k ≡ Clean → room ≡ true) → k ≡ Faulty e
+unfolding answered pick
+refused-of Clean true m e h = let z : _≡_ {A = ℕ} 0 1 = cc in absurd (omega arith)
+refused-of Clean false m e h = absurd (false≢true (h refl))
+refused-of (Faulty f) room m e h = cc
+
+-- What a caller that lends a buffer with room enough knows of the answer.
+module _ (u : Bool) (b table buf : List ℕ) where
+  -- a text: the list has no fault, and the text stands at the buffer's front
+  pub record Given (n : ℕ) (last : List ℕ) : Type 0 where
+    pub clean : checked b table ≡ Clean
+    pub front : take n last ≡ textOf u b table
+    pub within : n ≤ length last
+
+  pub given : (n : ℕ) (last : List ℕ) → Text n ≡ answer u b table buf → last ≡ stored (Text n) (textOf u b table) buf → Given n last
+  unfolding answer stored
+  given n last e g =
+      let t = text-of (checked b table) (leb (roomOf b table) (length buf)) (length (textOf u b table)) n e in
+      let z = t .2 in
+      record {
+        clean = t .0;
+        front = rw (z, g) (take-append-seam (textOf u b table) (drop (length (textOf u b table)) buf));
+        within = omega (arith, ap length g, length-append (textOf u b table) (drop (length (textOf u b table)) buf));
+      }
+
+  -- a refusal: it is the list's fault
+  pub not-given : {e : Refusal} → Refused e ≡ answer u b table buf → (isShort b table ≡ true → roomOf b table ≤ length buf) → checked b table ≡ Faulty e
+  unfolding answer
+  not-given e h =
+      refused-of (checked b table) (leb (roomOf b table) (length buf)) (length (textOf u b table)) e
+      (λ k. le-leb (roomOf b table) (length buf) (h (clean-short b table k)))

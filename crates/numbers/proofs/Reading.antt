@@ -1,0 +1,186 @@
+-- Reading what is known: digits that stand at a place are read as the number that they are. What callers that know the text use.
+-- Assumes nothing.
+use mathlib.Core.Path.{_≡_, refl, sym, ap, _∙_}
+use mathlib.Core.Bool.{true, false}
+use mathlib.Core.List.{List, [], _∷_, _++_}
+use Prim.Native.Nat.{ℕ, suc, _+_, _*_, _<_}
+use native.Mathlib.Nat.{add-zero, add-sub-cancel-left}
+use native.Mathlib.Omega.{arith}
+use borrow.Author.Tests.{lt-ltb, le-ltb, le-leb, ne-eqb}
+use lib.Dec.{lit<}
+use lib.IntN.{pos, negℤ}
+use lib.ListN.{length, take}
+use Rattle.chars.specs.Pick.{pick}
+use Rattle.chars.specs.Classes.{within, isWhitespace, isAsciiDigit, isNumeric}
+use Rattle.scanner.specs.declared.Class.{Class}
+use Rattle.scanner.specs.declared.Class.the-variants.{Whitespace, Numeric, Sign, Is}
+use Rattle.scanner.specs.declared.Cursor.{Cursor}
+use Rattle.scanner.specs.declared.EatIf.the-variants.{Past, Kept}
+use Rattle.scanner.specs.Class.{inClass}
+use Rattle.scanner.specs.Scan.{matchLen, eatWhile, eatIf, peekAt, part}
+use Rattle.scanner.proofs.Front.{From, front-rest, front-match, front-go, front-stop, front-end}
+use Rattle.scanner.proofs.Laws.{not-white}
+use Rattle.numbers.specs.Number.{admits, cursor, digitOf, valueOf, runOf, runAt, parseUnsignedInt, orKept, behindSign, signed, withSign, intAt, parseInt}
+use Rattle.numbers.specs.declared.Digits.{Digits}
+use Rattle.numbers.specs.declared.Parsed.the-variants.{Number, Wrong}
+use Rattle.numbers.specs.declared.ReadInt.the-variants.{Int, NoInt}
+
+-- digits, by what they say: their bytes, and the number that they are
+abbrev pub bytes : List ℕ → List ℕ
+bytes [] = []
+bytes (d ∷ ds) = (48 + d) ∷ bytes ds
+
+abbrev pub value : ℕ → List ℕ → ℕ
+value acc [] = acc
+value acc (d ∷ ds) = value (acc * 10 + d) ds
+
+abbrev pub AreDigits : List ℕ → Type 0
+AreDigits [] = Unit {0}
+AreDigits (d ∷ ds) = (d < 10) × AreDigits ds
+
+-- what may stand behind digits: nothing, or an ASCII character that is neither numeric nor white space
+pub data Behind : List ℕ → Type 0 where
+  end : Behind []
+  stop : {c : ℕ} {t : List ℕ} → c < 128 → inClass Whitespace c ≡ false → inClass Numeric c ≡ false → Behind (c ∷ t)
+
+-- the classes of a digit
+pub digit-numeric : (d : ℕ) → d < 10 → inClass Numeric (48 + d) ≡ true
+unfolding inClass isNumeric isAsciiDigit within
+digit-numeric d h = simp (le-leb 0x30 (48 + d) (omega arith), le-leb (48 + d) 0x39 (omega arith))
+
+pub digit-sign : (d : ℕ) → d < 10 → inClass Sign (48 + d) ≡ false
+unfolding inClass
+digit-sign d h = simp (ne-eqb (48 + d) 0x2B (λ e. omega arith), ne-eqb (48 + d) 0x2D (λ e. omega arith))
+
+pub digit-hyphen : (d : ℕ) → d < 10 → inClass (Is 0x2D) (48 + d) ≡ false
+unfolding inClass
+digit-hyphen d h = ne-eqb (48 + d) 0x2D (λ e. omega arith)
+
+-- and of a hyphen
+pub hyphen : {t : List ℕ} → Behind (0x2D ∷ t)
+unfolding inClass isWhitespace isNumeric isAsciiDigit within
+hyphen = stop (lit< tt) refl refl
+
+pub hyphen-hyphen : inClass (Is 0x2D) 0x2D ≡ true
+unfolding inClass
+hyphen-hyphen = refl
+
+pub hyphen-sign : inClass Sign 0x2D ≡ true
+unfolding inClass
+hyphen-sign = refl
+
+digit-value : (d : ℕ) → d < 10 → digitOf (48 + d) ≡ d
+unfolding digitOf pick
+digit-value d h = simp (le-ltb (48 + d) 48 (omega arith), lt-ltb (48 + d) 58 (omega arith)) (omega arith)
+
+-- no white space, and no digits, stand behind
+pub behind-white : {s t : List ℕ} {i : ℕ} → Behind t → From s i t → eatWhile Whitespace s i ≡ i
+behind-white end f = front-end f Whitespace
+behind-white (stop l w n) f = front-stop f Whitespace l w
+
+behind-numeric : {s t : List ℕ} {i : ℕ} → Behind t → From s i t → eatWhile Numeric s i ≡ i
+behind-numeric end f = front-end f Numeric
+behind-numeric (stop l w n) f = front-stop f Numeric l n
+
+-- the run of digits
+pub run-digits : (ds : List ℕ) {s t : List ℕ} {i : ℕ} → AreDigits ds → Behind t → From s i (bytes ds ++ t) → eatWhile Numeric s i ≡ i + length ds
+run-digits [] {s} {t} {i} h b f = behind-numeric b f ∙ sym (add-zero i)
+run-digits (d ∷ ds) {s} {t} {i} h b f =
+    front-go f Numeric (omega (arith, h .0)) (digit-numeric d (h .0)) ∙ run-digits ds (h .1) b (front-rest f) ∙ omega arith
+
+value-digits : (ds : List ℕ) (c : Cursor) (acc : ℕ) → AreDigits ds → valueOf c acc (bytes ds) ≡ Number (value acc ds) c
+unfolding valueOf pick
+value-digits [] c acc h = refl
+value-digits (d ∷ ds) c acc h = simp (digit-value d (h .0), lt-ltb d 10 (h .0)) (value-digits ds c (acc * 10 + d) (h .1))
+
+pub length-bytes : (ds : List ℕ) → length (bytes ds) ≡ length ds
+length-bytes [] = refl
+length-bytes (d ∷ ds) = ap suc (length-bytes ds)
+
+take-front : (u t : List ℕ) → take (length u) (u ++ t) ≡ u
+take-front [] t = refl
+take-front (x ∷ u) t = ap (λ (l : List ℕ). x ∷ l) (take-front u t)
+
+module _ (ds : List ℕ) {s t : List ℕ} {i : ℕ} (h : AreDigits ds) (b : Behind t) (f : From s i (bytes ds ++ t)) where
+  run-part : part s i (i + length ds) ≡ bytes ds
+  unfolding part
+  run-part =
+      rw (add-sub-cancel-left, f .is)
+      (ap (λ (n : ℕ). take n (bytes ds ++ t)) (sym (length-bytes ds)) ∙ take-front (bytes ds) t)
+
+  -- as many digits as are admitted
+  pub run-read : (g : Digits) → admits g (length ds) ≡ true → runAt s i g ≡ Number (value 0 ds) (cursor (i + length ds))
+  unfolding runAt runOf pick
+  run-read g l = rw (run-digits ds h b f, run-part, length-bytes ds, l) (value-digits ds (cursor (i + length ds)) 0 h)
+
+  -- another number of them
+  pub run-wrong : (g : Digits) → admits g (length ds) ≡ false → runAt s i g ≡ Wrong (cursor (i + length ds))
+  unfolding runAt runOf pick
+  run-wrong g l = rw (run-digits ds h b f, run-part, length-bytes ds, l)
+
+-- what eating one character does, by what stands there
+module _ {s t : List ℕ} {i c : ℕ} (f : From s i (c ∷ t)) (k : Class) (l : c < 128) where
+  pub front-ate : inClass k c ≡ true → eatIf k s i ≡ Past (cursor (i + 1))
+  unfolding eatIf pick
+  front-ate y = let m : matchLen k s i ≡ 1 = rw y at (front-match f k l) in rw m
+
+  pub front-kept : inClass k c ≡ false → eatIf k s i ≡ Kept
+  unfolding eatIf pick
+  front-kept y = let m : matchLen k s i ≡ 0 = rw y at (front-match f k l) in rw m
+
+  pub front-seen : inClass k c ≡ true → peekAt k s i ≡ true
+  unfolding peekAt pick
+  front-seen y = let m : matchLen k s i ≡ 1 = rw y at (front-match f k l) in rw m
+
+  pub front-unseen : inClass k c ≡ false → peekAt k s i ≡ false
+  unfolding peekAt pick
+  front-unseen y = let m : matchLen k s i ≡ 0 = rw y at (front-match f k l) in rw m
+
+-- a digit at the front: no white space, no sign
+module _ {s t : List ℕ} {i d : ℕ} (h : d < 10) (f : From s i ((48 + d) ∷ t)) where
+  pub digit-white : eatWhile Whitespace s i ≡ i
+  digit-white = front-stop f Whitespace (omega arith) (not-white (48 + d) (omega arith) (omega arith))
+
+  behind-none : behindSign s i ≡ i
+  unfolding behindSign orKept
+  behind-none = rw (front-kept f Sign (omega arith) (digit-sign d h))
+
+  no-minus : peekAt (Is 0x2D) s i ≡ false
+  no-minus = front-unseen f (Is 0x2D) (omega arith) (digit-hyphen d h)
+
+module _ {s t : List ℕ} {i : ℕ} (f : From s i (0x2D ∷ t)) where
+  behind-minus : behindSign s i ≡ i + 1
+  unfolding behindSign orKept
+  behind-minus = rw (front-ate f Sign (lit< tt) hyphen-sign)
+
+  a-minus : peekAt (Is 0x2D) s i ≡ true
+  a-minus = front-seen f (Is 0x2D) (lit< tt) hyphen-hyphen
+
+-- a number of digits, where white space may stand before it
+module _ (d : ℕ) (ds : List ℕ) {s t : List ℕ} {i : ℕ} (h : AreDigits (d ∷ ds)) (b : Behind t) (f : From s i (bytes (d ∷ ds) ++ t)) where
+  pub number-read : (g : Digits) → admits g (suc (length ds)) ≡ true → parseUnsignedInt s i g ≡ Number (value 0 (d ∷ ds)) (cursor (i + suc (length ds)))
+  unfolding parseUnsignedInt
+  number-read g l = rw (digit-white (h .0) f) (run-read (d ∷ ds) h b f g l)
+
+  pub number-wrong : (g : Digits) → admits g (suc (length ds)) ≡ false → parseUnsignedInt s i g ≡ Wrong (cursor (i + suc (length ds)))
+  unfolding parseUnsignedInt
+  number-wrong g l = rw (digit-white (h .0) f) (run-wrong (d ∷ ds) h b f g l)
+
+  -- the same where a sign may stand
+  pub int-read : (g : Digits) → admits g (suc (length ds)) ≡ true → parseInt s i g ≡ Int (pos (value 0 (d ∷ ds))) (cursor (i + suc (length ds)))
+  unfolding parseInt intAt withSign signed
+  int-read g l = rw (digit-white (h .0) f, no-minus (h .0) f, behind-none (h .0) f, number-read g l)
+
+  pub int-wrong : (g : Digits) → admits g (suc (length ds)) ≡ false → parseInt s i g ≡ NoInt (cursor (i + suc (length ds)))
+  unfolding parseInt intAt withSign
+  int-wrong g l = rw (digit-white (h .0) f, no-minus (h .0) f, behind-none (h .0) f, number-wrong g l)
+
+-- and behind a minus
+module _ (d : ℕ) (ds : List ℕ) {s t : List ℕ} {i : ℕ} (h : AreDigits (d ∷ ds)) (b : Behind t) (f : From s i (0x2D ∷ bytes (d ∷ ds) ++ t)) where
+  pub minus-read : (g : Digits) → admits g (suc (length ds)) ≡ true → parseInt s i g ≡ Int (negℤ (pos (value 0 (d ∷ ds)))) (cursor (i + 1 + suc (length ds)))
+  unfolding parseInt intAt withSign signed
+  minus-read g l = rw (behind-white hyphen f, a-minus f, behind-minus f, number-read d ds h b (front-rest f) g l)
+
+  pub minus-wrong : (g : Digits) → admits g (suc (length ds)) ≡ false → parseInt s i g ≡ NoInt (cursor (i + 1 + suc (length ds)))
+  unfolding parseInt intAt withSign
+  minus-wrong g l = rw (behind-white hyphen f, a-minus f, behind-minus f, number-wrong d ds h b (front-rest f) g l)

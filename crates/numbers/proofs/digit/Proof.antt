@@ -1,0 +1,28 @@
+use Rattle.chars.specs.Pick.{pick}
+use Rattle.numbers.specs.Number.{digitOf}
+use borrow.Author.Tests.{lt-ltb, le-ltb}
+use borrow.Author.Needs.{needs}
+use Rattle.numbers.proofs.digit.Statement.{statement}
+use Rattle.numbers.proofs.digit.Tie as tie
+
+returns : tie.Need-returns
+unfolding digitOf pick
+returns c = simp (lt-ltb _ _ (c .if1 .taken))
+
+cast-result : tie.Need-cast-result
+cast-result c = search needs
+
+returns-2 : tie.Need-returns-2
+unfolding digitOf pick
+returns-2 c =
+    let b1 = c .before in
+    simp (le-ltb _ _ (b1 .if1 .left), lt-ltb _ _ (c .if2 .taken))
+
+returns-3 : tie.Need-returns-3
+unfolding digitOf pick
+returns-3 c =
+    let b1 = c .before in
+    simp (le-ltb _ _ (b1 .if1 .left), le-ltb _ _ (c .if2 .left))
+
+pub digit-spec : {M : Type 1} → statement M
+digit-spec = tie.close (tie.spec returns cast-result returns-2 returns-3)

@@ -1,0 +1,29 @@
+use Rattle.numbers.specs.Number.{behindSign, orKept}
+use borrow.Author.Needs.{needs}
+use Rattle.numbers.proofs.eat_sign.Statement.{statement}
+use Rattle.numbers.proofs.eat_sign.Tie as tie
+
+eat-if-requires : tie.Need-eat-if-requires
+eat-if-requires c κs = search needs
+
+enum-known-next : tie.Need-enum-known-next
+enum-known-next c = search needs
+
+enum-told : tie.Need-enum-told
+enum-told c = search needs
+
+returns : tie.Need-returns
+unfolding behindSign orKept
+returns c =
+    let b1 = c .before in
+    let b3 = b1 .before .before in
+    simp (← b3 .eat-if .ensures, b1 .next .given .1)
+
+returns-2 : tie.Need-returns-2
+unfolding behindSign orKept
+returns-2 c =
+    let b2 = c .before .before in
+    simp (← b2 .eat-if .ensures, c .enum-told .given .1)
+
+pub eat-sign-spec : {M : Type 1} → statement M
+eat-sign-spec = tie.close (tie.spec eat-if-requires enum-known-next enum-told returns returns-2)

@@ -1,0 +1,56 @@
+use Rattle.numbers.proofs.Laws.{admitted-most, at-most-four}
+use native.Mathlib.Omega.{arith}
+use mathlib.Core.Path.{sym, _∙_}
+use Rattle.chars.specs.Pick.{pick}
+use Rattle.numbers.specs.Number.{parseUnsignedInt, runAt, runOf}
+use borrow.Author.Needs.{needs}
+use Rattle.numbers.proofs.parse_unsigned_int.Statement.{statement}
+use Rattle.numbers.proofs.parse_unsigned_int.Tie as tie
+
+eat-whitespace-requires : tie.Need-eat-whitespace-requires
+eat-whitespace-requires c κs = search needs
+
+eat-while-requires : tie.Need-eat-while-requires
+eat-while-requires c κs = search needs
+
+from-requires : tie.Need-from-requires
+from-requires c κs = search needs
+
+contains-requires : tie.Need-contains-requires
+contains-requires c κs = search needs
+
+parse-digits-requires : tie.Need-parse-digits-requires
+parse-digits-requires c κs =
+    let g = c .before .before .before .before .before .before .args .digits in
+    omega (arith, admitted-most g _ (sym (c .before .contains .ensures) ∙ c .if1 .taken), at-most-four g)
+
+returns : tie.Need-returns
+unfolding parseUnsignedInt runAt runOf pick
+returns c =
+    let b1 = c .before in
+    let b2 = b1 .before in
+    let b3 = b2 .before in
+    let b4 = b3 .before in
+    let b5 = b4 .before in
+    simp (← b5 .eat-whitespace .ensures, ← b4 .eat-while .ensures, ← b3 .from .ensures, ← b2 .contains .ensures, b1 .if1 .taken) (c .parse-digits .ensures)
+
+returns-2 : tie.Need-returns-2
+unfolding parseUnsignedInt runAt runOf pick
+returns-2 c =
+    let b1 = c .before in
+    let b2 = b1 .before in
+    let b3 = b2 .before in
+    let b4 = b3 .before in
+    simp (← b4 .eat-whitespace .ensures, ← b3 .eat-while .ensures, ← b2 .from .ensures, ← b1 .contains .ensures, c .if1 .left)
+
+pub parse-unsigned-int-spec : {M : Type 1} → statement M
+parse-unsigned-int-spec =
+    tie.close
+    (tie.spec
+    eat-whitespace-requires
+    eat-while-requires
+    from-requires
+    contains-requires
+    parse-digits-requires
+    returns
+    returns-2)

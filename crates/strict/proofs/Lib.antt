@@ -1,0 +1,11 @@
+pub mod Digits
+pub mod Places
+pub mod Signs
+pub mod Pieces
+pub mod Points
+pub mod Ranges
+pub mod Complete
+pub mod Sound
+pub mod Texts
+pub mod Exact
+pub mod Written

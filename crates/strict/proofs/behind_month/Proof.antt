@@ -1,0 +1,70 @@
+use Rattle.dates.specs.declared.Datetime.{Datetime}
+use Rattle.strict.specs.declared.ReadPoint.the-variants.{Upto}
+use Rattle.strict.specs.declared.ReadPoint.{ReadPoint}
+use mathlib.Core.Path.{ap}
+use mir.Syntax.{w32}
+use mir.ValLaws.{toZ-ofZ}
+use Rattle.strict.specs.Matcher.{behindMonth, on}
+use borrow.Author.Needs.{needs}
+use Rattle.strict.proofs.behind_month.Statement.{statement}
+use Rattle.strict.proofs.behind_month.Tie as tie
+
+days-in-month-requires : tie.Need-days-in-month-requires
+days-in-month-requires c κs = search needs
+
+field-at-requires : tie.Need-field-at-requires
+field-at-requires c κs = search needs
+
+enum-told : tie.Need-enum-told
+enum-told c = search needs
+
+new-requires : tie.Need-new-requires
+new-requires c κs = search needs
+
+enum-known-day : tie.Need-enum-known-day
+enum-known-day c = search needs
+
+add-time-at : tie.Need-add-time-at
+add-time-at c = search needs
+
+time-at-requires : tie.Need-time-at-requires
+time-at-requires c κs = search needs
+
+on-day-requires : tie.Need-on-day-requires
+on-day-requires c κs = search needs
+
+returns : tie.Need-returns
+unfolding behindMonth on
+returns c =
+    let b3 = c .before .before .before in
+    let b6 = b3 .before .before .before in
+    let y = toZ-ofZ w32 (b6 .args .year) (b6 .fits .year) in
+    let d = rw y at (b3 .before .days-in-month .ensures) in
+    let n = rw y at (c .new .ensures) in
+    simp (← d, ← b3 .field-at .ensures, c .before .enum-told .given .1) (ap {B = ReadPoint} (λ (d : Datetime). Upto d (b6 .args .at)) n)
+
+returns-2 : tie.Need-returns-2
+unfolding behindMonth on
+returns-2 c =
+    let b3 = c .before .before .before in
+    let b5 = b3 .before .before in
+    let b8 = b5 .before .before .before in
+    let y = toZ-ofZ w32 (b8 .args .year) (b8 .fits .year) in
+    let d = rw y at (b5 .before .days-in-month .ensures) in
+    let n = rw y at (c .on-day .ensures) in
+    simp (← d, ← b5 .field-at .ensures, b3 .day .given .1, ← c .before .time-at .ensures, ← n)
+
+pub behind-month-spec : {M : Type 1} → statement M
+behind-month-spec =
+    tie.close
+    (tie.spec
+    days-in-month-requires
+    field-at-requires
+    enum-told
+    new-requires
+    enum-known-day
+    add-time-at
+    time-at-requires
+    on-day-requires
+    returns
+    returns-2)

@@ -1,0 +1,51 @@
+use mir.Syntax.{w32}
+use mir.ValLaws.{toZ-ofZ}
+use Rattle.strict.specs.Matcher.{pointAt, onFour}
+use borrow.Author.Needs.{needs}
+use Rattle.strict.proofs.point_at.Statement.{statement}
+use Rattle.strict.proofs.point_at.Tie as tie
+
+four-at-requires : tie.Need-four-at-requires
+four-at-requires c κs = search needs
+
+enum-told : tie.Need-enum-told
+enum-told c = search needs
+
+enum-known-n : tie.Need-enum-known-n
+enum-known-n c = search needs
+
+add-behind-year : tie.Need-add-behind-year
+add-behind-year c = search needs
+
+signed-requires : tie.Need-signed-requires
+signed-requires c κs = search needs
+
+behind-year-requires : tie.Need-behind-year-requires
+behind-year-requires c κs = search needs
+
+returns : tie.Need-returns
+unfolding pointAt onFour
+returns c =
+    let b2 = c .before .before in
+    simp (← b2 .four-at .ensures, c .enum-told .given .1)
+
+returns-2 : tie.Need-returns-2
+unfolding pointAt onFour
+returns-2 c =
+    let b3 = c .before .before .before in
+    let b5 = b3 .before .before in
+    let n = rw (toZ-ofZ w32 (c .before .signed .result) (record { sfits = c .before .signed .ok })) at (c .behind-year .ensures) in
+    simp (← b5 .four-at .ensures, b3 .n .given .1, ← c .before .signed .ensures, ← n)
+
+pub point-at-spec : {M : Type 1} → statement M
+point-at-spec =
+    tie.close
+    (tie.spec
+    four-at-requires
+    enum-told
+    enum-known-n
+    add-behind-year
+    signed-requires
+    behind-year-requires
+    returns
+    returns-2)

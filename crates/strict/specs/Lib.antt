@@ -1,0 +1,4 @@
+pub mod Ascii
+pub mod Grammar
+pub mod Matcher
+pub mod Canonical

@@ -1,0 +1,65 @@
+-- What callers use of a number that was parsed: it is at most the largest one. And how its digits are read, one by one.
+-- Assumes nothing.
+use mathlib.Core.Path.{_≡_, subst}
+use mathlib.Core.List.{List, [], _∷_}
+use Prim.Native.Nat.{ℕ, _+_, _*_, _≤_, _<_, zero-le}
+use native.Mathlib.Numerals.{add-one}
+use native.Mathlib.Omega.{arith}
+use borrow.Author.Tests.{lt-ltb, le-ltb, ltb-false}
+use lib.Dec.{ltb, leb, eqb}
+use lib.ListN.{length, getD, drop, drop-of-length-le}
+use lib.Seq.{drop-cons}
+use Rattle.chars.specs.Pick.{pick}
+use Rattle.chars.proofs.Cases.{by-test}
+use Rattle.strs.specs.declared.ParsedNumber.{ParsedNumber}
+use Rattle.strs.specs.declared.ParsedNumber.the-variants.{Value, NoValue}
+use Rattle.strs.specs.Parse.{digitOf, valueOf, digitsFrom, parse}
+
+module _ (top acc d i : ℕ) (s : List ℕ) (h : i < length s) (e : d ≡ digitOf (getD s i 0)) where
+  -- no digit stands there
+  pub digit-none : 9 < d → valueOf top acc (drop i s) ≡ NoValue
+  unfolding valueOf pick
+  digit-none l = rw (drop-cons s i 0 h, ← e, lt-ltb 9 d l)
+
+  module _ (l : d ≤ 9) where
+    -- the number is too large with it
+    pub digit-above : top < acc * 10 + d → valueOf top acc (drop i s) ≡ NoValue
+    unfolding valueOf pick
+    digit-above g = rw (drop-cons s i 0 h, ← e, le-ltb 9 d l, lt-ltb top (acc * 10 + d) g)
+
+    -- on behind it
+    pub digit-on : acc * 10 + d ≤ top → valueOf top acc (drop i s) ≡ valueOf top (acc * 10 + d) (drop (i + 1) s)
+    unfolding valueOf pick
+    digit-on g = rw (add-one, drop-cons s i 0 h, ← e, le-ltb 9 d l, le-ltb top (acc * 10 + d) g)
+
+-- no digit is left
+pub digits-over : (top acc i : ℕ) (s : List ℕ) → length s ≤ i → valueOf top acc (drop i s) ≡ Value acc
+unfolding valueOf
+digits-over top acc i s h = rw (drop-of-length-le s h)
+
+-- a number that was parsed is at most n
+pub data AtMost (n : ℕ) : ParsedNumber → Type 0 where
+  at-most : {v : ℕ} → v ≤ n → AtMost n (Value v)
+  no-number : AtMost n NoValue
+
+value-most : (top acc : ℕ) (t : List ℕ) → acc ≤ top → AtMost top (valueOf top acc t)
+unfolding valueOf
+value-most top acc [] h = at-most h
+value-most top acc (b ∷ t) h =
+    by-test (AtMost top) _ (λ _. no-number)
+    (λ _. by-test (AtMost top) _ (λ _. no-number)
+    (λ e. value-most top (acc * 10 + digitOf b) t (ltb-false top (acc * 10 + digitOf b) e)))
+
+from-most : (top : ℕ) (s : List ℕ) (at : ℕ) → AtMost top (digitsFrom top s at)
+unfolding digitsFrom
+from-most top s at = by-test (AtMost top) _ (λ _. no-number) (λ _. value-most top 0 (drop at s) zero-le)
+
+pub parse-most : (top : ℕ) (s : List ℕ) → AtMost top (parse top s)
+unfolding parse
+parse-most top s = by-test (AtMost top) _ (λ _. from-most top s 1) (λ _. from-most top s 0)
+
+of-most : {n v : ℕ} → AtMost n (Value v) → v ≤ n
+of-most (at-most h) = h
+
+pub value-in : (top : ℕ) (s : List ℕ) {v : ℕ} → parse top s ≡ Value v → v ≤ top
+value-in top s e = of-most (subst (AtMost top) e (parse-most top s))

@@ -1,0 +1,85 @@
+use Rattle.strs.proofs.Digits.{digits-over, digit-on, digit-none, digit-above}
+use Rattle.chars.specs.Pick.{pick, pick}
+use Rattle.strs.specs.Parse.{digitsFrom, valueOf, digitsFrom}
+use borrow.Author.Tests.{le-leb, lt-leb}
+use lib.ListN.{length, drop}
+use Prim.Native.Nat.{_-_, _≤_}
+use borrow.Author.Needs.{needs}
+use native.Mathlib.Omega.{arith}
+use mathlib.Core.Path.{sym, _∙_, _≡_}
+use Rattle.strs.proofs.parse_digits.Statement.{statement}
+use Rattle.strs.proofs.parse_digits.Tie as tie
+use Rattle.strs.proofs.parse_digits.Reads as reads
+use Rattle.strs.proofs.parse_digits.Lts as lts
+use Rattle.strs.proofs.digit.Reads as digit-reads
+
+abbrev Inv-loop : tie.InvT-loop
+Inv-loop s at top value₀ i₀ value i = (valueOf top value (drop i s) ≡ digitsFrom top s at) × ((i ≤ length s) × (value ≤ top))
+
+abbrev μ-loop : tie.MeasureT-loop
+μ-loop s at top value₀ i₀ value i = length s - i
+
+returns : tie.Need-returns Inv-loop μ-loop
+unfolding digitsFrom pick
+returns c = simp (le-leb _ _ (c .if1 .taken))
+
+loop-holds : tie.Need-loop-holds Inv-loop μ-loop
+unfolding digitsFrom pick
+loop-holds c = (simp (lt-leb _ _ (c .if1 .left)), (omega arith, omega arith))
+
+shared-slice-read-digit : tie.Need-shared-slice-read-digit Inv-loop μ-loop
+shared-slice-read-digit c = omega arith
+
+digit-requires : tie.Need-digit-requires Inv-loop μ-loop
+digit-requires c κs = search needs
+
+returns-2 : tie.Need-returns-2 Inv-loop μ-loop
+returns-2 c = let a = c .before .before .before .before .before .before .before .args in let l = c .before .before .before .before .loop in sym (digit-none (a .top) (l .value) _ (l .i) (a .s .now) (c .before .before .before .loop-test .taken) (c .before .digit .ensures) (c .if2 .taken)) ∙ l .inv .0
+
+cast-more : tie.Need-cast-more Inv-loop μ-loop
+cast-more c = search needs
+
+mul-more : tie.Need-mul-more Inv-loop μ-loop
+mul-more c = search needs
+
+add-more : tie.Need-add-more Inv-loop μ-loop
+add-more c = search needs
+
+returns-3 : tie.Need-returns-3 Inv-loop μ-loop
+returns-3 c = let a = c .before .before .before .before .before .before .before .before .args in let l = c .before .before .before .before .before .loop in sym (digit-above (a .top) (l .value) _ (l .i) (a .s .now) (c .before .before .before .before .loop-test .taken) (c .before .before .digit .ensures) (c .before .if2 .left) (c .if3 .taken)) ∙ l .inv .0
+
+cast-value : tie.Need-cast-value Inv-loop μ-loop
+cast-value c = search needs
+
+add-i : tie.Need-add-i Inv-loop μ-loop
+add-i c = omega arith
+
+loop-less : tie.Need-loop-less Inv-loop μ-loop
+loop-less c = omega arith
+
+loop-again : tie.Need-loop-again Inv-loop μ-loop
+loop-again c = let a = c .before .before .before .before .before .before .before .before .args in let l = c .before .before .before .before .before .loop in (sym (digit-on (a .top) (l .value) _ (l .i) (a .s .now) (c .before .before .before .before .loop-test .taken) (c .before .before .digit .ensures) (c .before .if2 .left) (c .if3 .left)) ∙ l .inv .0, (omega arith, omega arith))
+
+returns-4 : tie.Need-returns-4 Inv-loop μ-loop
+returns-4 c = let l = c .before .loop in sym (digits-over _ (l .value) (l .i) _ (c .loop-test .left)) ∙ l .inv .0
+
+pub parse-digits-spec : {M : Type 1} → statement M
+parse-digits-spec =
+    tie.close
+    (tie.spec
+    Inv-loop
+    μ-loop
+    returns
+    loop-holds
+    shared-slice-read-digit
+    digit-requires
+    returns-2
+    cast-more
+    mul-more
+    add-more
+    returns-3
+    cast-value
+    add-i
+    loop-less
+    loop-again
+    returns-4)

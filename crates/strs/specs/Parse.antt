@@ -1,0 +1,26 @@
+-- A whole text as a number, as Rust's `str::parse` reads it for a type of unsigned numbers.
+use Prim.Native.Nat.{ℕ, _+_, _*_, _-_}
+use mathlib.Core.List.{List, [], _∷_}
+use lib.Dec.{ltb, leb, eqb}
+use lib.ListN.{length, getD, drop}
+use Rattle.chars.specs.Pick.{pick}
+use Rattle.strs.specs.declared.ParsedNumber.{ParsedNumber}
+use Rattle.strs.specs.declared.ParsedNumber.the-variants.{Value, NoValue}
+
+-- what a byte says as an ASCII digit, and 10 for any other byte
+unfoldable pub digitOf : ℕ → ℕ
+digitOf b = pick (ltb b 0x30) 10 (pick (ltb b 0x3A) (b - 0x30) 10)
+
+-- the decimal number that ASCII digits say, behind those read so far; none if another byte stands there, or the number is above top
+unfoldable pub valueOf : ℕ → ℕ → List ℕ → ParsedNumber
+valueOf top acc [] = Value acc
+valueOf top acc (b ∷ t) =
+    pick (ltb 9 (digitOf b)) NoValue (pick (ltb top (acc * 10 + digitOf b)) NoValue (valueOf top (acc * 10 + digitOf b) t))
+
+-- the number that the text from a place on is: at least one digit
+unfoldable pub digitsFrom : ℕ → List ℕ → ℕ → ParsedNumber
+digitsFrom top s at = pick (leb (length s) at) NoValue (valueOf top 0 (drop at s))
+
+-- a plus or none, then digits to the end
+unfoldable pub parse : ℕ → List ℕ → ParsedNumber
+parse top s = pick (eqb (getD s 0 0) 0x2B) (digitsFrom top s 1) (digitsFrom top s 0)
