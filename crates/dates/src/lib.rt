@@ -1,7 +1,11 @@
 // The values that are read, compared and written, with the names of the ported code; and the calendar.
 ghost use mathlib.Core.Path.{_≡_};
+ghost use Prim.Native.Nat.{_<_};
+ghost use lib.Signed.{mag};
 ghost use Rattle.dates.specs.Calendar.{leapYear, monthLength};
 ghost use Rattle.dates.specs.Value as spec;
+ghost use Rattle.dates.specs.Time as clock;
+ghost use Rattle.dates.specs.declared.OptionOffset.the-variants.{NoOffset, SomeOffset};
 
 // A month as it is stored, counted from zero.
 pub struct Month(pub u8);
@@ -77,6 +81,96 @@ pub struct Date {
     pub value: DateValue,
     pub uncertain: bool,
     pub approximate: bool,
+}
+
+impl Time {
+    // The time of an hour, a minute and a second, without an offset; none if one of them is out of range.
+    pub fn from_hms(hour: u8, minute: u8, second: u8) -> OptionTime
+        ensures { λ r. ⌜ r ≡ clock.timeOf hour minute second NoOffset ⌝ }
+    {
+        let offset = OptionOffset::NoOffset;
+        from_parts(hour, minute, second, offset)
+    }
+
+    // The same with an offset, which is not checked.
+    pub fn from_hms_offset(hour: u8, minute: u8, second: u8, offset: TimeOffset) -> OptionTime
+        ensures { λ r. ⌜ r ≡ clock.timeOf hour minute second (SomeOffset offset) ⌝ }
+    {
+        let some = OptionOffset::SomeOffset(offset);
+        from_parts(hour, minute, second, some)
+    }
+
+    // The seconds in UTC.
+    pub fn to_utc_seconds(self) -> i64
+        ensures { λ r. ⌜ r ≡ clock.utcSeconds self ⌝ }
+    {
+        let offset = self.offset;
+        let ahead = ahead_of(offset);
+        seconds(self.hour, self.minute, self.second) as i64 - ahead
+    }
+}
+
+impl TimeOffset {
+    // The seconds that the offset is ahead of UTC.
+    pub fn to_seconds(self) -> i64
+        ensures { λ r. ⌜ (r ≡ clock.offsetSeconds self) × (mag r < 1000000) ⌝ }
+    {
+        match self {
+            TimeOffset::Utc => 0,
+            TimeOffset::Offset {
+                positive,
+                hours,
+                minutes,
+            } => {
+                let n = seconds(hours, minutes, 0) as i64;
+                if positive { n } else { 0 - n }
+            }
+        }
+    }
+}
+
+// Whether hour, minute and second are in their ranges.
+fn in_range(hour: u8, minute: u8, second: u8) -> bool
+    ensures { λ r. ⌜ r ≡ clock.inRange hour minute second ⌝ }
+{
+    if hour <= 23 {
+        if minute <= 59 {
+            return second <= 59;
+        }
+    }
+    false
+}
+
+// The time of four parts, if it is one.
+fn from_parts(hour: u8, minute: u8, second: u8, offset: OptionOffset) -> OptionTime
+    ensures { λ r. ⌜ r ≡ clock.timeOf hour minute second offset ⌝ }
+{
+    if in_range(hour, minute, second) {
+        return OptionTime::SomeTime(Time {
+            hour,
+            minute,
+            second,
+            offset,
+        });
+    }
+    OptionTime::NoTime
+}
+
+// Hours, minutes and seconds as seconds.
+fn seconds(hour: u8, minute: u8, second: u8) -> u32
+    ensures { λ r. ⌜ (r ≡ clock.seconds hour minute second) × (r < 1000000) ⌝ }
+{
+    hour as u32 * 3600 + minute as u32 * 60 + second as u32
+}
+
+// The seconds that an offset is ahead of UTC, if there is one.
+fn ahead_of(offset: OptionOffset) -> i64
+    ensures { λ r. ⌜ (r ≡ clock.aheadOf offset) × (mag r < 1000000) ⌝ }
+{
+    match offset {
+        OptionOffset::NoOffset => 0,
+        OptionOffset::SomeOffset(o) => o.to_seconds(),
+    }
 }
 
 impl Datetime {

@@ -5,7 +5,6 @@ use lib.Dec.{ltb, eqb}
 use lib.IntN.{pos}
 use Rattle.chars.specs.Pick.{pick}
 use Rattle.scanner.specs.declared.Class.the-variants.{Whitespace, AsciiDigit, Is}
-use Rattle.scanner.specs.declared.Cursor.{Cursor}
 use Rattle.scanner.specs.Scan.{eatWhile, doneAt, part}
 use Rattle.refusals.specs.declared.Kind.{Kind}
 use Rattle.refusals.specs.declared.Kind.the-variants.{MonthOutOfRange, WrongNumberOfDigits, InvalidFormat, RustPanics}

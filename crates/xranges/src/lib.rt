@@ -102,7 +102,11 @@ fn years(digits: u32, variable: u32) -> ReadRange
     let year = digits * variable;
     ReadRange::Range(
         date(year, OptionMonth::NoMonth, OptionDay::NoDay),
-        date(year + (variable - 1), OptionMonth::NoMonth, OptionDay::NoDay),
+        date(
+            year + (variable - 1),
+            OptionMonth::NoMonth,
+            OptionDay::NoDay,
+        ),
     )
 }
 
@@ -123,8 +127,16 @@ fn days(year: u32, month: Month) -> ReadRange
     ensures { λ r. ⌜ r ≡ spec.days year (month .0) ⌝ }
 {
     ReadRange::Range(
-        date(year, OptionMonth::SomeMonth(month), OptionDay::SomeDay(Day(0))),
-        date(year, OptionMonth::SomeMonth(month), OptionDay::SomeDay(Day(30))),
+        date(
+            year,
+            OptionMonth::SomeMonth(month),
+            OptionDay::SomeDay(Day(0)),
+        ),
+        date(
+            year,
+            OptionMonth::SomeMonth(month),
+            OptionDay::SomeDay(Day(30)),
+        ),
     )
 }
 

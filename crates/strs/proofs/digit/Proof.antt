@@ -4,8 +4,6 @@ use borrow.Author.Tests.{lt-ltb, le-ltb}
 use borrow.Author.Needs.{needs}
 use Rattle.strs.proofs.digit.Statement.{statement}
 use Rattle.strs.proofs.digit.Tie as tie
-use Rattle.strs.proofs.digit.Reads as reads
-use Rattle.strs.proofs.digit.Lts as lts
 
 returns : tie.Need-returns
 unfolding digitOf pick

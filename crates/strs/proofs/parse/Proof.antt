@@ -1,23 +1,16 @@
 use Rattle.chars.specs.Pick.{pick}
 use Rattle.strs.specs.Parse.{parse}
-use borrow.Author.Tests.{lt-ltb, le-ltb, le-leb, lt-leb, eq-eqb, ne-eqb}
+use borrow.Author.Tests.{eq-eqb, ne-eqb}
 use borrow.Author.Needs.{needs}
 use Rattle.strs.proofs.parse.Statement.{statement}
 use Rattle.strs.proofs.parse.Tie as tie
-use Rattle.strs.proofs.parse.Reads as reads
-use Rattle.strs.proofs.parse.Lts as lts
-use Rattle.chars.proofs.byte_at.Reads as byte-at-reads
-use Rattle.strs.proofs.parse_digits.Reads as parse-digits-reads
 
--- src/lib.rt:91:8
 byte-at-requires : tie.Need-byte-at-requires
 byte-at-requires c κs = search needs
 
--- src/lib.rt:92:9
 parse-digits-requires : tie.Need-parse-digits-requires
 parse-digits-requires c κs = search needs
 
--- src/lib.rt:92:9
 returns : tie.Need-returns
 unfolding parse pick
 returns c =
@@ -25,11 +18,9 @@ returns c =
     let b2 = b1 .before in
     simp (← b2 .byte-at .ensures, eq-eqb _ _ (b1 .if1 .taken), ← c .parse-digits .ensures)
 
--- src/lib.rt:94:5
 parse-digits-requires-2 : tie.Need-parse-digits-requires-2
 parse-digits-requires-2 c κs = search needs
 
--- src/lib.rt:88:1
 returns-2 : tie.Need-returns-2
 unfolding parse pick
 returns-2 c =

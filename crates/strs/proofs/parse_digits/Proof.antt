@@ -9,9 +9,6 @@ use native.Mathlib.Omega.{arith}
 use mathlib.Core.Path.{sym, _∙_, _≡_}
 use Rattle.strs.proofs.parse_digits.Statement.{statement}
 use Rattle.strs.proofs.parse_digits.Tie as tie
-use Rattle.strs.proofs.parse_digits.Reads as reads
-use Rattle.strs.proofs.parse_digits.Lts as lts
-use Rattle.strs.proofs.digit.Reads as digit-reads
 
 abbrev Inv-loop : tie.InvT-loop
 Inv-loop s at top value₀ i₀ value i = (valueOf top value (drop i s) ≡ digitsFrom top s at) × ((i ≤ length s) × (value ≤ top))

@@ -7,9 +7,6 @@ use native.Mathlib.Omega.{arith}
 use mathlib.Core.Path.{sym, _∙_, refl, _≡_}
 use Rattle.strs.proofs.trim_end.Statement.{statement}
 use Rattle.strs.proofs.trim_end.Tie as tie
-use Rattle.strs.proofs.trim_end.Reads as reads
-use Rattle.strs.proofs.trim_end.Lts as lts
-use Rattle.strs.proofs.trim_step.Reads as trim-step-reads
 
 abbrev Inv-loop : tie.InvT-loop
 Inv-loop s i₀ i = trimFrom s i ≡ trimFrom s 0

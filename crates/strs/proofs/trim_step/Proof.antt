@@ -6,14 +6,9 @@ use Prim.Native.Nat.{_+_, _≤_}
 use native.Mathlib.Omega.{arith}
 use mathlib.Core.Path.{sym, _∙_}
 use Rattle.strs.specs.Trim.{trimStep, stepOver, stepBy}
-use borrow.Author.Tests.{lt-ltb, le-ltb, le-leb, lt-leb, eq-eqb, ne-eqb}
 use borrow.Author.Needs.{needs}
 use Rattle.strs.proofs.trim_step.Statement.{statement}
 use Rattle.strs.proofs.trim_step.Tie as tie
-use Rattle.strs.proofs.trim_step.Reads as reads
-use Rattle.strs.proofs.trim_step.Lts as lts
-use Rattle.chars.proofs.decode_at.Reads as decode-at-reads
-use Rattle.scanner.proofs.eat_whitespace.Reads as eat-whitespace-reads
 
 -- a character that stands behind the white space lies within the text
 inside : (c : tie.After-struct-known) → c .before .before .before .before .before .eat-whitespace .result .0 + c .before .before .len .given .0 .1 .0 ≤ length (c .before .before .before .before .before .before .before .args .s .now)

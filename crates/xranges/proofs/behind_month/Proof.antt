@@ -1,48 +1,31 @@
 use Rattle.chars.specs.Pick.{pick}
 use Rattle.xranges.specs.Range.{behindMonth, onHyphen, dayRun, endOfDays}
-use borrow.Author.Tests.{lt-ltb, le-ltb, le-leb, lt-leb, eq-eqb, ne-eqb}
+use borrow.Author.Tests.{eq-eqb, ne-eqb}
 use borrow.Author.Needs.{needs}
 use Rattle.xranges.proofs.behind_month.Statement.{statement}
 use Rattle.xranges.proofs.behind_month.Tie as tie
-use Rattle.xranges.proofs.behind_month.Reads as reads
-use Rattle.xranges.proofs.behind_month.Lts as lts
-use Rattle.scanner.proofs.done.Reads as done-reads
-use Rattle.scanner.proofs.eat_while.Reads as eat-while-reads
-use Rattle.scanner.proofs.eat_whitespace.Reads as eat-whitespace-reads
-use Rattle.xranges.proofs.days.Reads as days-reads
-use Rattle.xranges.proofs.get_hyphen.Reads as get-hyphen-reads
-use Rattle.xranges.proofs.here.Reads as here-reads
-use Rattle.xranges.proofs.len.Reads as len-reads
 
--- src/lib.rt:157:11
 get-hyphen-requires : tie.Need-get-hyphen-requires
 get-hyphen-requires c κs = search needs
 
--- src/lib.rt:158:28
 enum-known-c1 : tie.Need-enum-known-c1
 enum-known-c1 c = search needs
 
--- src/lib.rt:159:17
 eat-while-requires : tie.Need-eat-while-requires
 eat-while-requires c κs = search needs
 
--- src/lib.rt:160:16
 len-requires : tie.Need-len-requires
 len-requires c κs = search needs
 
--- src/lib.rt:161:21
 eat-whitespace-requires : tie.Need-eat-whitespace-requires
 eat-whitespace-requires c κs = search needs
 
--- src/lib.rt:162:20
 done-requires : tie.Need-done-requires
 done-requires c κs = search needs
 
--- src/lib.rt:163:21
 days-requires : tie.Need-days-requires
 days-requires c κs = search needs
 
--- src/lib.rt:163:21
 returns : tie.Need-returns
 unfolding behindMonth onHyphen dayRun endOfDays pick
 returns c =
@@ -56,11 +39,9 @@ returns c =
     let b10 = b8 .before .before in
     simp (← b10 .get-hyphen .ensures, b8 .c1 .given .1, ← b6 .eat-while .ensures, ← b5 .len .ensures, eq-eqb _ _ (b4 .if1 .taken), ← b3 .eat-whitespace .ensures, ← b2 .done .ensures, b1 .if2 .taken, ← c .days .ensures)
 
--- src/lib.rt:165:43
 here-requires : tie.Need-here-requires
 here-requires c κs = search needs
 
--- src/lib.rt:165:17
 returns-2 : tie.Need-returns-2
 unfolding behindMonth onHyphen dayRun endOfDays pick
 returns-2 c =
@@ -74,15 +55,12 @@ returns-2 c =
     let b10 = b8 .before .before in
     simp (← b10 .get-hyphen .ensures, b8 .c1 .given .1, ← b6 .eat-while .ensures, ← b5 .len .ensures, eq-eqb _ _ (b4 .if1 .taken), ← b3 .eat-whitespace .ensures, ← b2 .done .ensures, b1 .if2 .left, ← c .here .ensures)
 
--- src/lib.rt:167:32
 here-requires-2 : tie.Need-here-requires-2
 here-requires-2 c κs = search needs
 
--- src/lib.rt:169:30
 enum-known-e : tie.Need-enum-known-e
 enum-known-e c = search needs
 
--- src/lib.rt:153:1
 returns-3 : tie.Need-returns-3
 unfolding behindMonth onHyphen dayRun endOfDays pick
 returns-3 c =
@@ -93,7 +71,6 @@ returns-3 c =
     let b7 = b5 .before .before in
     simp (← b7 .get-hyphen .ensures, b5 .c1 .given .1, ← b3 .eat-while .ensures, ← b2 .len .ensures, ne-eqb _ _ (b1 .if1 .left), ← c .here2 .ensures)
 
--- src/lib.rt:153:1
 returns-4 : tie.Need-returns-4
 unfolding behindMonth onHyphen dayRun endOfDays pick
 returns-4 c =

@@ -1,51 +1,34 @@
 use Rattle.chars.specs.Pick.{pick}
 use Rattle.xranges.specs.Range.{behindYear, onHyphen, monthsRun}
-use borrow.Author.Tests.{lt-ltb, le-ltb, le-leb, lt-leb, eq-eqb, ne-eqb}
+use borrow.Author.Tests.{ne-eqb}
 use borrow.Author.Needs.{needs}
 use Rattle.xranges.proofs.behind_year.Statement.{statement}
 use Rattle.xranges.proofs.behind_year.Tie as tie
-use Rattle.xranges.proofs.behind_year.Reads as reads
-use Rattle.xranges.proofs.behind_year.Lts as lts
-use Rattle.scanner.proofs.eat_while.Reads as eat-while-reads
-use Rattle.xranges.proofs.behind_months.Reads as behind-months-reads
-use Rattle.xranges.proofs.get_hyphen.Reads as get-hyphen-reads
-use Rattle.xranges.proofs.len.Reads as len-reads
-use Rattle.xranges.proofs.month.Reads as month-reads
-use Rattle.xranges.proofs.refused.Reads as refused-reads
 
--- src/lib.rt:201:11
 get-hyphen-requires : tie.Need-get-hyphen-requires
 get-hyphen-requires c κs = search needs
 
--- src/lib.rt:202:28
 enum-known-idx : tie.Need-enum-known-idx
 enum-known-idx c = search needs
 
--- src/lib.rt:203:17
 eat-while-requires : tie.Need-eat-while-requires
 eat-while-requires c κs = search needs
 
--- src/lib.rt:204:19
 len-requires : tie.Need-len-requires
 len-requires c κs = search needs
 
--- src/lib.rt:205:22
 month-requires : tie.Need-month-requires
 month-requires c κs = search needs
 
--- src/lib.rt:206:22
 behind-months-requires : tie.Need-behind-months-requires
 behind-months-requires c κs = search needs
 
--- src/lib.rt:207:41
 refused-requires : tie.Need-refused-requires
 refused-requires c κs = search needs
 
--- src/lib.rt:210:30
 enum-known-e : tie.Need-enum-known-e
 enum-known-e c = search needs
 
--- src/lib.rt:197:1
 returns : tie.Need-returns
 unfolding behindYear onHyphen monthsRun pick
 returns c =
@@ -55,7 +38,6 @@ returns c =
     let b7 = b5 .before .before in
     simp (← b7 .get-hyphen .ensures, b5 .idx .given .1, ← b3 .eat-while .ensures, ← b2 .len .ensures, c .before .match2 .keys1, ← c .month .ensures)
 
--- src/lib.rt:197:1
 returns-2 : tie.Need-returns-2
 unfolding behindYear onHyphen monthsRun pick
 returns-2 c =
@@ -65,7 +47,6 @@ returns-2 c =
     let b7 = b5 .before .before in
     simp (← b7 .get-hyphen .ensures, b5 .idx .given .1, ← b3 .eat-while .ensures, ← b2 .len .ensures, c .before .match2 .keys2, ← c .behind-months .ensures)
 
--- src/lib.rt:197:1
 returns-3 : tie.Need-returns-3
 unfolding behindYear onHyphen monthsRun pick
 returns-3 c =
@@ -76,7 +57,6 @@ returns-3 c =
     let b7 = b5 .before .before in
     simp (← b7 .get-hyphen .ensures, b5 .idx .given .1, ← b3 .eat-while .ensures, ← b2 .len .ensures, ne-eqb _ _ (b1 .match2 .rest .1), ne-eqb _ _ (b1 .match2 .rest .0 .1), ← c .refused .ensures)
 
--- src/lib.rt:197:1
 returns-4 : tie.Need-returns-4
 unfolding behindYear onHyphen monthsRun pick
 returns-4 c =

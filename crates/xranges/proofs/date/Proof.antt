@@ -3,9 +3,6 @@ use mir.ValLaws.{toZ-pos}
 use borrow.Author.Needs.{needs}
 use Rattle.xranges.proofs.date.Statement.{statement}
 use Rattle.xranges.proofs.date.Tie as tie
-use Rattle.xranges.proofs.date.Reads as reads
-use Rattle.xranges.proofs.date.Lts as lts
-use Rattle.dates.proofs.Datetime.new.Reads as new-reads
 
 cast-new : tie.Need-cast-new
 cast-new c = search needs

@@ -1,11 +1,7 @@
 use Rattle.xranges.specs.Range.{days}
-use borrow.Author.Tests.{lt-ltb, le-ltb, le-leb, lt-leb, eq-eqb, ne-eqb}
 use borrow.Author.Needs.{needs}
 use Rattle.xranges.proofs.days.Statement.{statement}
 use Rattle.xranges.proofs.days.Tie as tie
-use Rattle.xranges.proofs.days.Reads as reads
-use Rattle.xranges.proofs.days.Lts as lts
-use Rattle.xranges.proofs.date.Reads as date-reads
 
 date-requires : tie.Need-date-requires
 date-requires c κs = search needs

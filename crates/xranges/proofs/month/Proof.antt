@@ -1,32 +1,19 @@
 use Rattle.chars.specs.Pick.{pick}
 use Rattle.xranges.specs.Range.{month, monthRun, onValue}
-use borrow.Author.Tests.{lt-ltb, le-ltb, le-leb, lt-leb, eq-eqb, ne-eqb}
+use borrow.Author.Tests.{lt-ltb, le-ltb, eq-eqb, ne-eqb}
 use borrow.Author.Needs.{needs}
 use Rattle.xranges.proofs.month.Statement.{statement}
 use Rattle.xranges.proofs.month.Tie as tie
-use Rattle.xranges.proofs.month.Reads as reads
-use Rattle.xranges.proofs.month.Lts as lts
-use Rattle.scanner.proofs.eat_while.Reads as eat-while-reads
-use Rattle.scanner.proofs.from.Reads as from-reads
-use Rattle.strs.proofs.parse.Reads as parse-reads
-use Rattle.xranges.proofs.behind_month.Reads as behind-month-reads
-use Rattle.xranges.proofs.len.Reads as len-reads
-use Rattle.xranges.proofs.panics.Reads as panics-reads
-use Rattle.xranges.proofs.refused.Reads as refused-reads
 
--- src/lib.rt:178:9
 eat-while-requires : tie.Need-eat-while-requires
 eat-while-requires c κs = search needs
 
--- src/lib.rt:179:8
 len-requires : tie.Need-len-requires
 len-requires c κs = search needs
 
--- src/lib.rt:180:35
 refused-requires : tie.Need-refused-requires
 refused-requires c κs = search needs
 
--- src/lib.rt:180:9
 returns : tie.Need-returns
 unfolding month monthRun onValue pick
 returns c =
@@ -35,23 +22,18 @@ returns c =
     let b3 = b2 .before in
     simp (← b3 .eat-while .ensures, ← b2 .len .ensures, ne-eqb _ _ (b1 .if1 .taken), ← c .refused .ensures)
 
--- src/lib.rt:182:23
 from-requires : tie.Need-from-requires
 from-requires c κs = search needs
 
--- src/lib.rt:182:11
 parse-requires : tie.Need-parse-requires
 parse-requires c κs = search needs
 
--- src/lib.rt:183:29
 enum-known-written : tie.Need-enum-known-written
 enum-known-written c = search needs
 
--- src/lib.rt:185:17
 panics-requires : tie.Need-panics-requires
 panics-requires c κs = search needs
 
--- src/lib.rt:185:17
 returns-2 : tie.Need-returns-2
 unfolding month monthRun onValue pick
 returns-2 c =
@@ -64,11 +46,9 @@ returns-2 c =
     let b9 = b8 .before in
     simp (← b9 .eat-while .ensures, ← b8 .len .ensures, eq-eqb _ _ (b7 .if1 .left), ← b6 .from .ensures, ← b5 .parse .ensures, b3 .written .given .1, eq-eqb _ _ (b1 .if2 .taken), ← c .panics .ensures)
 
--- src/lib.rt:188:43
 refused-requires-2 : tie.Need-refused-requires-2
 refused-requires-2 c κs = search needs
 
--- src/lib.rt:188:17
 returns-3 : tie.Need-returns-3
 unfolding month monthRun onValue pick
 returns-3 c =
@@ -82,27 +62,21 @@ returns-3 c =
     let b10 = b9 .before in
     simp (← b10 .eat-while .ensures, ← b9 .len .ensures, eq-eqb _ _ (b8 .if1 .left), ← b7 .from .ensures, ← b6 .parse .ensures, b4 .written .given .1, ne-eqb _ _ (b2 .if2 .left), lt-ltb _ _ (b1 .if3 .taken), ← c .refused2 .ensures)
 
--- src/lib.rt:190:45
 sub-t17 : tie.Need-sub-t17
 sub-t17 c = search needs
 
--- src/lib.rt:190:44
 cast-t18 : tie.Need-cast-t18
 cast-t18 c = search needs
 
--- src/lib.rt:190:13
 behind-month-requires : tie.Need-behind-month-requires
 behind-month-requires c κs = search needs
 
--- src/lib.rt:192:34
 enum-told : tie.Need-enum-told
 enum-told c = search needs
 
--- src/lib.rt:192:34
 panics-requires-2 : tie.Need-panics-requires-2
 panics-requires-2 c κs = search needs
 
--- src/lib.rt:174:1
 returns-4 : tie.Need-returns-4
 unfolding month monthRun onValue pick
 returns-4 c =
@@ -116,7 +90,6 @@ returns-4 c =
     let b10 = b9 .before in
     simp (← b10 .eat-while .ensures, ← b9 .len .ensures, eq-eqb _ _ (b8 .if1 .left), ← b7 .from .ensures, ← b6 .parse .ensures, b4 .written .given .1, ne-eqb _ _ (b2 .if2 .left), le-ltb _ _ (b1 .if3 .left), ← c .behind-month .ensures)
 
--- src/lib.rt:174:1
 returns-5 : tie.Need-returns-5
 unfolding month monthRun onValue pick
 returns-5 c =

@@ -4,22 +4,10 @@ use native.Mathlib.Omega.{arith}
 use mathlib.Core.Path.{sym, _∙_}
 use Rattle.chars.specs.Pick.{pick}
 use Rattle.xranges.specs.Range.{rangeDates, rangeFrom, digitRun, yearRun, onValue}
-use borrow.Author.Tests.{lt-ltb, le-ltb, le-leb, lt-leb, eq-eqb, ne-eqb}
+use borrow.Author.Tests.{lt-ltb, le-ltb, eq-eqb, ne-eqb}
 use borrow.Author.Needs.{needs}
 use Rattle.xranges.proofs.range_dates.Statement.{statement}
 use Rattle.xranges.proofs.range_dates.Tie as tie
-use Rattle.xranges.proofs.range_dates.Reads as reads
-use Rattle.xranges.proofs.range_dates.Lts as lts
-use Rattle.scanner.proofs.eat_while.Reads as eat-while-reads
-use Rattle.scanner.proofs.eat_whitespace.Reads as eat-whitespace-reads
-use Rattle.scanner.proofs.from.Reads as from-reads
-use Rattle.strs.proofs.parse.Reads as parse-reads
-use Rattle.xranges.proofs.behind_year.Reads as behind-year-reads
-use Rattle.xranges.proofs.len.Reads as len-reads
-use Rattle.xranges.proofs.panics.Reads as panics-reads
-use Rattle.xranges.proofs.refused.Reads as refused-reads
-use Rattle.xranges.proofs.variable.Reads as variable-reads
-use Rattle.xranges.proofs.years.Reads as years-reads
 
 eat-whitespace-requires : tie.Need-eat-whitespace-requires
 eat-whitespace-requires c κs = search needs

@@ -1,11 +1,8 @@
 use Prim.Native.Nat.{_-_}
 use native.Mathlib.Omega.{arith}
 use mathlib.Core.Path.{_≡_}
-use borrow.Author.Tests.{lt-ltb, le-ltb, le-leb, lt-leb, eq-eqb, ne-eqb}
 use Rattle.xranges.proofs.variable.Statement.{statement}
 use Rattle.xranges.proofs.variable.Tie as tie
-use Rattle.xranges.proofs.variable.Reads as reads
-use Rattle.xranges.proofs.variable.Lts as lts
 
 returns : tie.Need-returns
 returns c = simp (c .match .keys1)

@@ -1,13 +1,9 @@
 use Rattle.xranges.proofs.Bounds.{bounded}
 use native.Mathlib.Omega.{arith}
 use Rattle.xranges.specs.Range.{years}
-use borrow.Author.Tests.{lt-ltb, le-ltb, le-leb, lt-leb, eq-eqb, ne-eqb}
 use borrow.Author.Needs.{needs}
 use Rattle.xranges.proofs.years.Statement.{statement}
 use Rattle.xranges.proofs.years.Tie as tie
-use Rattle.xranges.proofs.years.Reads as reads
-use Rattle.xranges.proofs.years.Lts as lts
-use Rattle.xranges.proofs.date.Reads as date-reads
 
 mul-year : tie.Need-mul-year
 mul-year c = omega (arith, bounded (c .args .digits) (c .args .variable) (omega arith) (omega arith))

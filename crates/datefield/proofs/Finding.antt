@@ -1,0 +1,43 @@
+-- The first byte of a value, by what stands at a place.
+-- Assumes nothing.
+use mathlib.Core.Path.{_≡_, refl, sym, ap, _∙_}
+use mathlib.Core.Bool.{true, false, false≢true}
+use mathlib.Core.List.{List, [], _∷_}
+use Prim.Native.Nat.{ℕ, suc, _+_, _-_, _≤_, _<_}
+use native.Mathlib.Numerals.{add-one}
+use native.Mathlib.Omega.{arith}
+use borrow.Author.Tests.{eq-eqb, ne-eqb}
+use lib.Dec.{eqb}
+use lib.ListN.{length, getD, drop, drop-of-length-le, List·getD-eq-default}
+use lib.Seq.{drop-cons}
+use Rattle.chars.specs.Pick.{pick}
+use Rattle.datefield.specs.Text.{isUncertain, isApproximate, firstOf, lastByte}
+
+module _ (b : ℕ) (s : List ℕ) (i : ℕ) where
+  pub first-here : i < length s → getD s i 0 ≡ b → firstOf b (drop i s) ≡ 0
+  unfolding firstOf pick
+  first-here h e = rw (drop-cons s i 0 h, eq-eqb _ _ e)
+
+  pub first-on : i < length s → (getD s i 0 ≡ b → ⊥) → i + firstOf b (drop i s) ≡ i + 1 + firstOf b (drop (i + 1) s)
+  unfolding firstOf pick
+  first-on h n = rw (add-one, drop-cons s i 0 h, ne-eqb _ _ n) (omega arith)
+
+  pub first-none : length s ≤ i → firstOf b (drop i s) ≡ 0
+  unfolding firstOf
+  first-none h = rw (drop-of-length-le s h)
+
+-- the last byte of the empty text
+pub last-none : (s : List ℕ) → length s ≡ 0 → 0 ≡ lastByte s
+unfolding lastByte
+last-none s h = sym (List·getD-eq-default s 0 (omega arith))
+
+-- a text that ends with a mark is not empty
+pub uncertain-some : (s : List ℕ) → isUncertain (lastByte s) ≡ true → 0 < length s
+unfolding isUncertain lastByte
+uncertain-some [] e = absurd (false≢true e)
+uncertain-some (x ∷ t) e = omega arith
+
+pub approximate-some : (s : List ℕ) → isApproximate (lastByte s) ≡ true → 0 < length s
+unfolding isApproximate lastByte
+approximate-some [] e = absurd (false≢true e)
+approximate-some (x ∷ t) e = omega arith

@@ -1,0 +1,30 @@
+use lib.Seq.{length-take-le}
+use native.Mathlib.Omega.{arith}
+use mathlib.Core.Path.{sym}
+use Rattle.datefield.specs.Value.{firstHalf}
+use borrow.Author.Tests.{lt-ltb, le-ltb, le-leb, lt-leb, eq-eqb, ne-eqb}
+use borrow.Author.Needs.{needs}
+use Rattle.datefield.proofs.first_half.Statement.{statement}
+use Rattle.datefield.proofs.first_half.Tie as tie
+use Rattle.datefield.proofs.first_half.Reads as reads
+use Rattle.datefield.proofs.first_half.Lts as lts
+use Rattle.datefield.proofs.moved.Reads as moved-reads
+use Rattle.points.proofs.parse.Reads as parse-reads
+
+slice-aggregate-parse : tie.Need-slice-aggregate-parse
+slice-aggregate-parse c = sym (length-take-le _ _ (omega arith))
+
+parse-requires : tie.Need-parse-requires
+parse-requires c κs = search needs
+
+moved-requires : tie.Need-moved-requires
+moved-requires c κs = search needs
+
+returns : tie.Need-returns
+unfolding firstHalf
+returns c =
+    let b1 = c .before in
+    simp (← b1 .parse .ensures, ← c .moved .ensures)
+
+pub first-half-spec : {M : Type 1} → statement M
+first-half-spec = tie.close (tie.spec slice-aggregate-parse parse-requires moved-requires returns)

@@ -1,0 +1,163 @@
+use lib.Seq.{length-take-le}
+use native.Mathlib.Omega.{arith}
+use mathlib.Core.Path.{sym}
+use Rattle.scanner.proofs.Parts.{rest}
+use Prim.Native.Nat.{_+_}
+use Rattle.chars.specs.Pick.{pick}
+use Rattle.datefield.specs.Value.{halves, onHalf}
+use borrow.Author.Tests.{lt-ltb, le-ltb, le-leb, lt-leb, eq-eqb, ne-eqb}
+use borrow.Author.Needs.{needs}
+use Rattle.datefield.proofs.halves.Statement.{statement}
+use Rattle.datefield.proofs.halves.Tie as tie
+use Rattle.datefield.proofs.halves.Reads as reads
+use Rattle.datefield.proofs.halves.Lts as lts
+use Rattle.datefield.proofs.both_halves.Reads as both-halves-reads
+use Rattle.datefield.proofs.first_half.Reads as first-half-reads
+use Rattle.datefield.proofs.is_open_range.Reads as is-open-range-reads
+use Rattle.datefield.proofs.second_half.Reads as second-half-reads
+use Rattle.refusals.proofs.refuse.Reads as refuse-reads
+
+slice-aggregate-is-open-range : tie.Need-slice-aggregate-is-open-range
+slice-aggregate-is-open-range c = sym (length-take-le _ _ (omega arith))
+
+is-open-range-requires : tie.Need-is-open-range-requires
+is-open-range-requires c κs = search needs
+
+add-is-open-range : tie.Need-add-is-open-range
+add-is-open-range c = search needs
+
+sub-is-open-range : tie.Need-sub-is-open-range
+sub-is-open-range c = search needs
+
+part-is-open-range-start : tie.Need-part-is-open-range-start
+part-is-open-range-start c = search needs
+
+part-is-open-range-end : tie.Need-part-is-open-range-end
+part-is-open-range-end c = search needs
+
+is-open-range-requires-2 : tie.Need-is-open-range-requires-2
+is-open-range-requires-2 c κs = search needs
+
+refuse-requires : tie.Need-refuse-requires
+refuse-requires c κs = search needs
+
+returns : tie.Need-returns
+unfolding halves onHalf pick
+returns c =
+    let b1 = c .before in
+    let b2 = b1 .before in
+    let b3 = b2 .before in
+    let b5 = b3 .before .before in
+    let a = b3 .before .before .before .before .before .args in
+    let e = rw (rest (a .s .now) (a .slash + 1)) at (b3 .is-open-range2 .ensures) in
+    simp (← b5 .is-open-range .ensures, ← e, b2 .if1 .taken, b1 .if2 .taken, ← c .refuse .ensures)
+
+second-half-requires : tie.Need-second-half-requires
+second-half-requires c κs = search needs
+
+enum-known-b : tie.Need-enum-known-b
+enum-known-b c = search needs
+
+enum-known-e : tie.Need-enum-known-e
+enum-known-e c = search needs
+
+returns-2 : tie.Need-returns-2
+unfolding halves onHalf pick
+returns-2 c =
+    let b1 = c .before in
+    let b3 = b1 .before .before in
+    let b4 = b3 .before in
+    let b5 = b4 .before in
+    let b6 = b5 .before in
+    let b8 = b6 .before .before in
+    let a = b6 .before .before .before .before .before .args in
+    let e = rw (rest (a .s .now) (a .slash + 1)) at (b6 .is-open-range2 .ensures) in
+    simp (← b8 .is-open-range .ensures, ← e, b5 .if1 .taken, b4 .if2 .left, ← b3 .second-half .ensures, b1 .b .given .1)
+
+returns-3 : tie.Need-returns-3
+unfolding halves onHalf pick
+returns-3 c =
+    let b1 = c .before in
+    let b3 = b1 .before .before in
+    let b4 = b3 .before in
+    let b5 = b4 .before in
+    let b6 = b5 .before in
+    let b8 = b6 .before .before in
+    let a = b6 .before .before .before .before .before .args in
+    let e = rw (rest (a .s .now) (a .slash + 1)) at (b6 .is-open-range2 .ensures) in
+    simp (← b8 .is-open-range .ensures, ← e, b5 .if1 .taken, b4 .if2 .left, ← b3 .second-half .ensures, b1 .e .given .1)
+
+first-half-requires : tie.Need-first-half-requires
+first-half-requires c κs = search needs
+
+enum-known-a : tie.Need-enum-known-a
+enum-known-a c = search needs
+
+enum-known-e-2 : tie.Need-enum-known-e-2
+enum-known-e-2 c = search needs
+
+returns-4 : tie.Need-returns-4
+unfolding halves onHalf pick
+returns-4 c =
+    let b1 = c .before in
+    let b3 = b1 .before .before in
+    let b4 = b3 .before in
+    let b5 = b4 .before in
+    let b6 = b5 .before in
+    let b8 = b6 .before .before in
+    let a = b6 .before .before .before .before .before .args in
+    let e = rw (rest (a .s .now) (a .slash + 1)) at (b6 .is-open-range2 .ensures) in
+    simp (← b8 .is-open-range .ensures, ← e, b5 .if1 .left, b4 .if3 .taken, ← b3 .first-half .ensures, b1 .a .given .1)
+
+returns-5 : tie.Need-returns-5
+unfolding halves onHalf pick
+returns-5 c =
+    let b1 = c .before in
+    let b3 = b1 .before .before in
+    let b4 = b3 .before in
+    let b5 = b4 .before in
+    let b6 = b5 .before in
+    let b8 = b6 .before .before in
+    let a = b6 .before .before .before .before .before .args in
+    let e = rw (rest (a .s .now) (a .slash + 1)) at (b6 .is-open-range2 .ensures) in
+    simp (← b8 .is-open-range .ensures, ← e, b5 .if1 .left, b4 .if3 .taken, ← b3 .first-half .ensures, b1 .e2 .given .1)
+
+both-halves-requires : tie.Need-both-halves-requires
+both-halves-requires c κs = search needs
+
+returns-6 : tie.Need-returns-6
+unfolding halves onHalf pick
+returns-6 c =
+    let b1 = c .before in
+    let b2 = b1 .before in
+    let b3 = b2 .before in
+    let b5 = b3 .before .before in
+    let a = b3 .before .before .before .before .before .args in
+    let e = rw (rest (a .s .now) (a .slash + 1)) at (b3 .is-open-range2 .ensures) in
+    simp (← b5 .is-open-range .ensures, ← e, b2 .if1 .left, b1 .if3 .left, ← c .both-halves .ensures)
+
+pub halves-spec : {M : Type 1} → statement M
+halves-spec =
+    tie.close
+    (tie.spec
+    slice-aggregate-is-open-range
+    is-open-range-requires
+    add-is-open-range
+    sub-is-open-range
+    part-is-open-range-start
+    part-is-open-range-end
+    is-open-range-requires-2
+    refuse-requires
+    returns
+    second-half-requires
+    enum-known-b
+    enum-known-e
+    returns-2
+    returns-3
+    first-half-requires
+    enum-known-a
+    enum-known-e-2
+    returns-4
+    returns-5
+    both-halves-requires
+    returns-6)

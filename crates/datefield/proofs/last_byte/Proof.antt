@@ -1,0 +1,24 @@
+use Rattle.datefield.proofs.Finding.{last-none}
+use Rattle.datefield.specs.Text.{lastByte}
+use mathlib.Core.Path.{refl}
+use borrow.Author.Needs.{needs}
+use Rattle.datefield.proofs.last_byte.Statement.{statement}
+use Rattle.datefield.proofs.last_byte.Tie as tie
+use Rattle.datefield.proofs.last_byte.Reads as reads
+use Rattle.datefield.proofs.last_byte.Lts as lts
+
+returns : tie.Need-returns
+returns c = last-none _ (c .if1 .taken)
+
+sub-result : tie.Need-sub-result
+sub-result c = search needs
+
+shared-slice-read-result : tie.Need-shared-slice-read-result
+shared-slice-read-result c = search needs
+
+returns-2 : tie.Need-returns-2
+unfolding lastByte
+returns-2 c = refl
+
+pub last-byte-spec : {M : Type 1} → statement M
+last-byte-spec = tie.close (tie.spec returns sub-result shared-slice-read-result returns-2)

@@ -1,0 +1,103 @@
+use Rattle.datefield.proofs.Marks.{mark-uncertain, mark-approximate, mark-date, mark-none}
+use Rattle.datefield.proofs.Finding.{uncertain-some, approximate-some}
+use lib.Seq.{length-take-le}
+use native.Mathlib.Omega.{arith}
+use mathlib.Core.Path.{sym, _∙_}
+use Rattle.chars.specs.Pick.{pick}
+use Rattle.datefield.specs.Text.{unmarked}
+use Rattle.datefield.specs.Value.{trimmedDate}
+use borrow.Author.Tests.{lt-ltb, le-ltb, le-leb, lt-leb, eq-eqb, ne-eqb}
+use borrow.Author.Needs.{needs}
+use Rattle.datefield.proofs.read_trimmed.Statement.{statement}
+use Rattle.datefield.proofs.read_trimmed.Tie as tie
+use Rattle.datefield.proofs.read_trimmed.Reads as reads
+use Rattle.datefield.proofs.read_trimmed.Lts as lts
+use Rattle.datefield.proofs.is_approximate.Reads as is-approximate-reads
+use Rattle.datefield.proofs.is_uncertain.Reads as is-uncertain-reads
+use Rattle.datefield.proofs.last_byte.Reads as last-byte-reads
+use Rattle.datefield.proofs.marked.Reads as marked-reads
+use Rattle.datefield.proofs.read_value.Reads as read-value-reads
+
+last-byte-requires : tie.Need-last-byte-requires
+last-byte-requires c κs = search needs
+
+is-uncertain-requires : tie.Need-is-uncertain-requires
+is-uncertain-requires c κs = search needs
+
+is-approximate-requires : tie.Need-is-approximate-requires
+is-approximate-requires c κs = search needs
+
+sub-read-value : tie.Need-sub-read-value
+sub-read-value c = omega (arith, uncertain-some (c .before .before .before .before .before .args .s .now) (rw (c .before .before .before .last-byte .ensures) at (sym (c .before .before .is-uncertain .ensures) ∙ c .if1 .taken)))
+
+slice-aggregate-read-value : tie.Need-slice-aggregate-read-value
+slice-aggregate-read-value c = sym (length-take-le _ _ (omega arith))
+
+read-value-requires : tie.Need-read-value-requires
+read-value-requires c κs = search needs
+
+marked-requires : tie.Need-marked-requires
+marked-requires c κs = search needs
+
+returns : tie.Need-returns
+returns c =
+    let a = c .before .before .before .before .before .before .before .before .args in
+    let e = c .before .before .before .before .before .before .last-byte .ensures in
+    let f = c .before .before .before .before .before .is-uncertain .ensures in
+    let g = c .before .before .before .before .is-approximate .ensures in
+    mark-date (a .s .now) e f g (a .span) (mark-uncertain (a .s .now) e f g (c .before .before .before .if1 .taken)) (c .before .read-value .ensures) (c .marked .ensures)
+
+sub-read-value-2 : tie.Need-sub-read-value-2
+sub-read-value-2 c = omega (arith, approximate-some (c .before .before .before .before .before .before .args .s .now) (rw (c .before .before .before .before .last-byte .ensures) at (sym (c .before .before .is-approximate .ensures) ∙ c .if2 .taken)))
+
+slice-aggregate-read-value-2 : tie.Need-slice-aggregate-read-value-2
+slice-aggregate-read-value-2 c = sym (length-take-le _ _ (omega arith))
+
+read-value-requires-2 : tie.Need-read-value-requires-2
+read-value-requires-2 c κs = search needs
+
+marked-requires-2 : tie.Need-marked-requires-2
+marked-requires-2 c κs = search needs
+
+returns-2 : tie.Need-returns-2
+returns-2 c =
+    let a = c .before .before .before .before .before .before .before .before .before .args in
+    let e = c .before .before .before .before .before .before .before .last-byte .ensures in
+    let f = c .before .before .before .before .before .before .is-uncertain .ensures in
+    let g = c .before .before .before .before .before .is-approximate .ensures in
+    mark-date (a .s .now) e f g (a .span) (mark-approximate (a .s .now) e f g (c .before .before .before .before .if1 .left) (c .before .before .before .if2 .taken)) (c .before .read-value2 .ensures) (c .marked2 .ensures)
+
+read-value-requires-3 : tie.Need-read-value-requires-3
+read-value-requires-3 c κs = search needs
+
+marked-requires-3 : tie.Need-marked-requires-3
+marked-requires-3 c κs = search needs
+
+returns-3 : tie.Need-returns-3
+returns-3 c =
+    let a = c .before .before .before .before .before .before .before .before .args in
+    let e = c .before .before .before .before .before .before .last-byte .ensures in
+    let f = c .before .before .before .before .before .is-uncertain .ensures in
+    let g = c .before .before .before .before .is-approximate .ensures in
+    mark-date (a .s .now) e f g (a .span) (mark-none (a .s .now) e f g (c .before .before .before .if1 .left) (c .before .before .if2 .left)) (c .before .read-value3 .ensures) (c .marked3 .ensures)
+
+pub read-trimmed-spec : {M : Type 1} → statement M
+read-trimmed-spec =
+    tie.close
+    (tie.spec
+    last-byte-requires
+    is-uncertain-requires
+    is-approximate-requires
+    sub-read-value
+    slice-aggregate-read-value
+    read-value-requires
+    marked-requires
+    returns
+    sub-read-value-2
+    slice-aggregate-read-value-2
+    read-value-requires-2
+    marked-requires-2
+    returns-2
+    read-value-requires-3
+    marked-requires-3
+    returns-3)

@@ -1,0 +1,234 @@
+// The text of a date field: its mark, then an X range, two halves or a point. `Date::parse` behind the formatting.
+ghost use mathlib.Core.Path.{_≡_};
+ghost use Prim.Native.Nat.{_<_};
+ghost use lib.ListN.{length};
+ghost use Rattle.refusals.specs.Offset.{offset};
+ghost use Rattle.datefield.specs.Text as text;
+ghost use Rattle.datefield.specs.Value as spec;
+use dates::Date;
+use dates::DateValue;
+use dates::Datetime;
+use points::ReadPoint;
+use refusals::FileSpan;
+use refusals::Kind;
+use refusals::Refusal;
+use scanner::Cursor;
+use xranges::ReadRange;
+
+// A half of a range, or why it is refused.
+pub enum ReadHalf {
+    Half(Datetime),
+    NoHalf(Refusal),
+}
+
+// What a text without its mark says, or why it is refused.
+pub enum ReadValue {
+    Read(DateValue),
+    NoValue(Refusal),
+}
+
+// What a text says, or why it is refused.
+pub enum ReadDate {
+    Accepted(Date),
+    Refused(Refusal),
+}
+
+// The place of the first byte that is b, or the end.
+fn find(s: &[u8], b: u8) -> usize
+    ensures { λ r. ⌜ r ≡ text.firstOf b (now (s .entry)) ⌝ }
+{
+    let mut i = 0;
+    while i < s.len() {
+        if s[i] == b {
+            return i;
+        }
+        i = i + 1;
+    }
+    i
+}
+
+fn is_blank(s: &[u8]) -> bool
+    ensures { λ r. ⌜ r ≡ text.isBlank (now (s .entry)) ⌝ }
+{
+    let c = scanner::eat_whitespace(s, Cursor(0));
+    s.len() <= c.0
+}
+
+fn is_dots(s: &[u8]) -> bool
+    ensures { λ r. ⌜ r ≡ text.isDots (now (s .entry)) ⌝ }
+{
+    if s.len() == 2 {
+        if s[0] == b'.' {
+            return s[1] == b'.';
+        }
+    }
+    false
+}
+
+// A half that is blank or exactly two dots.
+fn is_open_range(s: &[u8]) -> bool
+    ensures { λ r. ⌜ r ≡ text.isOpen (now (s .entry)) ⌝ }
+{
+    if is_blank(s) {
+        return true;
+    }
+    is_dots(s)
+}
+
+// A point of the text; a refusal has its place moved by the span's start.
+fn moved(p: ReadPoint, start: u64) -> ReadHalf
+    ensures { λ r. ⌜ r ≡ spec.moved p (λ e. offset e start) ⌝ }
+{
+    match p {
+        ReadPoint::Point(d) => ReadHalf::Half(d),
+        ReadPoint::Refused(e) => ReadHalf::NoHalf(refusals::offset(e, start)),
+    }
+}
+
+// The half before the slash.
+fn first_half(s: &[u8], slash: usize, span: FileSpan) -> ReadHalf
+    requires { ⌜ slash < length (now s) ⌝ }
+    ensures { λ r. ⌜ r ≡ spec.firstHalf span (now (s .entry)) slash ⌝ }
+{
+    moved(points::parse(&s[..slash]), span.0)
+}
+
+// The half behind the slash.
+fn second_half(s: &[u8], slash: usize, span: FileSpan) -> ReadHalf
+    requires { ⌜ slash < length (now s) ⌝ }
+    ensures { λ r. ⌜ r ≡ spec.secondHalf span (now (s .entry)) slash ⌝ }
+{
+    match points::parse(&s[slash + 1..]) {
+        ReadPoint::Point(d) => ReadHalf::Half(d),
+        ReadPoint::Refused(e) => ReadHalf::NoHalf(refusals::offset_second(e, span.0, slash)),
+    }
+}
+
+// Both halves.
+fn both_halves(s: &[u8], slash: usize, span: FileSpan) -> ReadValue
+    requires { ⌜ slash < length (now s) ⌝ }
+    ensures { λ r. ⌜ r ≡ spec.bothHalves span (now (s .entry)) slash ⌝ }
+{
+    match first_half(s, slash, span) {
+        ReadHalf::Half(a) => match second_half(s, slash, span) {
+            ReadHalf::Half(b) => ReadValue::Read(DateValue::Between(a, b)),
+            ReadHalf::NoHalf(e) => ReadValue::NoValue(e),
+        },
+        ReadHalf::NoHalf(e) => ReadValue::NoValue(e),
+    }
+}
+
+// A range with a slash: which of its halves are open.
+fn halves(s: &[u8], slash: usize, span: FileSpan) -> ReadValue
+    requires { ⌜ slash < length (now s) ⌝ }
+    ensures { λ r. ⌜ r ≡ spec.halves span (now (s .entry)) slash ⌝ }
+{
+    let first = is_open_range(&s[..slash]);
+    let second = is_open_range(&s[slash + 1..]);
+    if first {
+        if second {
+            return ReadValue::NoValue(refusals::refuse(Kind::UndefinedRange, span));
+        }
+        return match second_half(s, slash, span) {
+            ReadHalf::Half(b) => ReadValue::Read(DateValue::Before(b)),
+            ReadHalf::NoHalf(e) => ReadValue::NoValue(e),
+        };
+    }
+    if second {
+        return match first_half(s, slash, span) {
+            ReadHalf::Half(a) => ReadValue::Read(DateValue::After(a)),
+            ReadHalf::NoHalf(e) => ReadValue::NoValue(e),
+        };
+    }
+    both_halves(s, slash, span)
+}
+
+// What a text without its mark says: an X anywhere makes it an X range, else a slash a range.
+fn read_value(s: &[u8], span: FileSpan) -> ReadValue
+    ensures { λ r. ⌜ r ≡ spec.value span (now (s .entry)) ⌝ }
+{
+    let start = span.0;
+    let x = find(s, b'X');
+    if x < s.len() {
+        return match xranges::range_dates(s) {
+            ReadRange::Range(a, b) => ReadValue::Read(DateValue::Between(a, b)),
+            ReadRange::NoRange(e) => ReadValue::NoValue(refusals::offset(e, start)),
+        };
+    }
+    let slash = find(s, b'/');
+    if slash < s.len() {
+        return halves(s, slash, span);
+    }
+    match moved(points::parse(s), start) {
+        ReadHalf::Half(d) => ReadValue::Read(DateValue::At(d)),
+        ReadHalf::NoHalf(e) => ReadValue::NoValue(e),
+    }
+}
+
+fn is_uncertain(mark: u8) -> bool
+    ensures { λ r. ⌜ r ≡ text.isUncertain mark ⌝ }
+{
+    if mark == b'?' {
+        return true;
+    }
+    mark == b'%'
+}
+
+fn is_approximate(mark: u8) -> bool
+    ensures { λ r. ⌜ r ≡ text.isApproximate mark ⌝ }
+{
+    if mark == b'~' {
+        return true;
+    }
+    mark == b'%'
+}
+
+// The last byte; 0 of no byte.
+fn last_byte(s: &[u8]) -> u8
+    ensures { λ r. ⌜ r ≡ text.lastByte (now (s .entry)) ⌝ }
+{
+    let n = s.len();
+    if n == 0 {
+        return 0;
+    }
+    s[n - 1]
+}
+
+// A value with its marks.
+fn marked(value: ReadValue, uncertain: bool, approximate: bool) -> ReadDate
+    ensures { λ r. ⌜ r ≡ spec.marked uncertain approximate value ⌝ }
+{
+    match value {
+        ReadValue::Read(v) => ReadDate::Accepted(Date {
+            value: v,
+            uncertain,
+            approximate,
+        }),
+        ReadValue::NoValue(e) => ReadDate::Refused(e),
+    }
+}
+
+// A text that is trimmed: one final mark is dropped, and the rest is read.
+fn read_trimmed(s: &[u8], span: FileSpan) -> ReadDate
+    ensures { λ r. ⌜ r ≡ spec.trimmedDate span (now (s .entry)) ⌝ }
+{
+    let mark = last_byte(s);
+    let uncertain = is_uncertain(mark);
+    let approximate = is_approximate(mark);
+    if uncertain {
+        return marked(read_value(&s[..s.len() - 1], span), uncertain, approximate);
+    }
+    if approximate {
+        return marked(read_value(&s[..s.len() - 1], span), uncertain, approximate);
+    }
+    marked(read_value(s, span), uncertain, approximate)
+}
+
+// The text of a date field, in upper case, of a chunk list with this span.
+pub fn parse_text(s: &[u8], span: FileSpan) -> ReadDate
+    ensures { λ r. ⌜ r ≡ spec.dateText span (now (s .entry)) ⌝ }
+{
+    let end = strs::trim_end(s);
+    let n = end.0;
+    read_trimmed(&s[..n], span)
+}

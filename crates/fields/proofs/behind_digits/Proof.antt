@@ -1,0 +1,127 @@
+use mathlib.Core.Path.{_∙_}
+use mir.Syntax.{w32}
+use mir.ValLaws.{toZ-ofZ}
+use Rattle.chars.specs.Pick.{pick}
+use Rattle.fields.specs.Year.{behindDigits, withEra}
+use borrow.Author.Tests.{eq-eqb, ne-eqb}
+use borrow.Author.Needs.{needs}
+use Rattle.fields.proofs.behind_digits.Statement.{statement}
+use Rattle.fields.proofs.behind_digits.Tie as tie
+
+parse-era-marker-requires : tie.Need-parse-era-marker-requires
+parse-era-marker-requires c κs = search needs
+
+enum-known-positive : tie.Need-enum-known-positive
+enum-known-positive c = search needs
+
+has-sign-requires : tie.Need-has-sign-requires
+has-sign-requires c κs = search needs
+
+refused-requires : tie.Need-refused-requires
+refused-requires c κs = search needs
+
+returns : tie.Need-returns
+unfolding behindDigits withEra pick
+returns c =
+    let b1 = c .before in
+    let b2 = b1 .before in
+    let b4 = b2 .before .before in
+    let b6 = b4 .before .before in
+    simp (← b6 .parse-era-marker .ensures, b4 .positive .given .1, ← b2 .has-sign .ensures, b1 .if1 .taken, ← c .refused .ensures)
+
+refused-requires-2 : tie.Need-refused-requires-2
+refused-requires-2 c κs = search needs
+
+returns-2 : tie.Need-returns-2
+unfolding behindDigits withEra pick
+returns-2 c =
+    let b1 = c .before in
+    let b2 = b1 .before in
+    let b3 = b2 .before in
+    let b5 = b3 .before .before in
+    let b7 = b5 .before .before in
+    simp (← b7 .parse-era-marker .ensures, b5 .positive .given .1, ← b3 .has-sign .ensures, b2 .if1 .left, eq-eqb _ _ (b1 .if2 .taken), ← c .refused2 .ensures)
+
+signed-requires : tie.Need-signed-requires
+signed-requires c κs = search needs
+
+ended-requires : tie.Need-ended-requires
+ended-requires c κs = search needs
+
+returns-3 : tie.Need-returns-3
+unfolding behindDigits withEra pick
+returns-3 c =
+    let b1 = c .before in
+    let b2 = b1 .before in
+    let b3 = b2 .before in
+    let b4 = b3 .before in
+    let b5 = b4 .before in
+    let b7 = b5 .before .before in
+    let b9 = b7 .before .before in
+    let e = rw (toZ-ofZ w32 (b1 .signed .result) (record { sfits = b1 .signed .ok }) ∙ b1 .signed .ensures) at (c .ended .ensures) in
+    simp (← b9 .parse-era-marker .ensures, b7 .positive .given .1, ← b5 .has-sign .ensures, b4 .if1 .left, ne-eqb _ _ (b3 .if2 .left), b2 .if3 .taken, ← e)
+
+before-christ-requires : tie.Need-before-christ-requires
+before-christ-requires c κs = search needs
+
+enum-known-next : tie.Need-enum-known-next
+enum-known-next c = search needs
+
+signed-requires-2 : tie.Need-signed-requires-2
+signed-requires-2 c κs = search needs
+
+ended-requires-2 : tie.Need-ended-requires-2
+ended-requires-2 c κs = search needs
+
+enum-known-e : tie.Need-enum-known-e
+enum-known-e c = search needs
+
+returns-4 : tie.Need-returns-4
+unfolding behindDigits withEra pick
+returns-4 c =
+    let b1 = c .before in
+    let b2 = b1 .before in
+    let b3 = b2 .before in
+    let b4 = b3 .before in
+    let b6 = b4 .before .before in
+    let b8 = b6 .before .before in
+    simp (← b8 .parse-era-marker .ensures, b6 .positive .given .1, ← b4 .has-sign .ensures, b3 .if1 .left, ne-eqb _ _ (b2 .if2 .left), b1 .if3 .left, toZ-ofZ w32 (c .before-christ .result) (record { sfits = c .before-christ .ok }) ∙ c .before-christ .ensures)
+
+returns-5 : tie.Need-returns-5
+unfolding behindDigits withEra pick
+returns-5 c =
+    let b1 = c .before in
+    let b3 = b1 .before .before in
+    let b5 = b3 .before .before in
+    let e = rw (toZ-ofZ w32 (b1 .signed2 .result) (record { sfits = b1 .signed2 .ok }) ∙ b1 .signed2 .ensures) at (c .ended2 .ensures) in
+    simp (← b5 .parse-era-marker .ensures, b3 .next .given .1, ← e)
+
+returns-6 : tie.Need-returns-6
+unfolding behindDigits withEra pick
+returns-6 c =
+    let b1 = c .before in
+    let b3 = b1 .before .before in
+    simp (← b3 .parse-era-marker .ensures, b1 .e .given .1)
+
+pub behind-digits-spec : {M : Type 1} → statement M
+behind-digits-spec =
+    tie.close
+    (tie.spec
+    parse-era-marker-requires
+    enum-known-positive
+    has-sign-requires
+    refused-requires
+    returns
+    refused-requires-2
+    returns-2
+    signed-requires
+    ended-requires
+    returns-3
+    before-christ-requires
+    enum-known-next
+    signed-requires-2
+    ended-requires-2
+    enum-known-e
+    returns-4
+    returns-5
+    returns-6)

@@ -1,0 +1,79 @@
+use Rattle.fields.proofs.Days.{day-in}
+use native.Mathlib.Omega.{arith}
+use mathlib.Core.Path.{sym, _∙_}
+use Rattle.chars.specs.Pick.{pick}
+use Rattle.fields.specs.Day.{dayDigits, dayOf}
+use borrow.Author.Needs.{needs}
+use Rattle.fields.proofs.day_digits.Statement.{statement}
+use Rattle.fields.proofs.day_digits.Tie as tie
+
+from-requires : tie.Need-from-requires
+from-requires c κs = search needs
+
+parse-requires : tie.Need-parse-requires
+parse-requires c κs = search needs
+
+enum-known-d : tie.Need-enum-known-d
+enum-known-d c = search needs
+
+is-day-requires : tie.Need-is-day-requires
+is-day-requires c κs = search needs
+
+sub-t9 : tie.Need-sub-t9
+sub-t9 c = let h = day-in _ (sym (c .before .is-day .ensures) ∙ c .if1 .taken) in omega arith
+
+cast-t10 : tie.Need-cast-t10
+cast-t10 c = let h = day-in _ (sym (c .before .is-day .ensures) ∙ c .if1 .taken) in omega arith
+
+returns : tie.Need-returns
+unfolding dayDigits dayOf pick
+returns c =
+    let b1 = c .before in
+    let b3 = b1 .before .before in
+    let b5 = b3 .before .before in
+    let b6 = b5 .before in
+    simp (← b6 .from .ensures, ← b5 .parse .ensures, b3 .d .given .1, ← b1 .is-day .ensures, c .if1 .taken)
+
+refused-requires : tie.Need-refused-requires
+refused-requires c κs = search needs
+
+enum-told : tie.Need-enum-told
+enum-told c = search needs
+
+panics-requires : tie.Need-panics-requires
+panics-requires c κs = search needs
+
+returns-2 : tie.Need-returns-2
+unfolding dayDigits dayOf pick
+returns-2 c =
+    let b1 = c .before in
+    let b2 = b1 .before in
+    let b4 = b2 .before .before in
+    let b6 = b4 .before .before in
+    let b7 = b6 .before in
+    simp (← b7 .from .ensures, ← b6 .parse .ensures, b4 .d .given .1, ← b2 .is-day .ensures, b1 .if1 .left, ← c .refused .ensures)
+
+returns-3 : tie.Need-returns-3
+unfolding dayDigits dayOf pick
+returns-3 c =
+    let b1 = c .before in
+    let b3 = b1 .before .before in
+    let b4 = b3 .before in
+    simp (← b4 .from .ensures, ← b3 .parse .ensures, b1 .enum-told .given .1, ← c .panics .ensures)
+
+pub day-digits-spec : {M : Type 1} → statement M
+day-digits-spec =
+    tie.close
+    (tie.spec
+    from-requires
+    parse-requires
+    enum-known-d
+    is-day-requires
+    sub-t9
+    cast-t10
+    returns
+    refused-requires
+    enum-told
+    panics-requires
+    returns-2
+    returns-3)

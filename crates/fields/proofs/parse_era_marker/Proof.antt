@@ -1,0 +1,88 @@
+use Rattle.fields.specs.Year.{parseEraMarker, eraAt, onPast}
+use borrow.Author.Needs.{needs}
+use Rattle.fields.proofs.parse_era_marker.Statement.{statement}
+use Rattle.fields.proofs.parse_era_marker.Tie as tie
+
+eat-whitespace-requires : tie.Need-eat-whitespace-requires
+eat-whitespace-requires c κs = search needs
+
+slice-aggregate-eat-text : tie.Need-slice-aggregate-eat-text
+slice-aggregate-eat-text c = search needs
+
+eat-text-requires : tie.Need-eat-text-requires
+eat-text-requires c κs = search needs
+
+enum-known-e : tie.Need-enum-known-e
+enum-known-e c = search needs
+
+era-end-requires : tie.Need-era-end-requires
+era-end-requires c κs = search needs
+
+enum-told : tie.Need-enum-told
+enum-told c = search needs
+
+slice-aggregate-eat-text-2 : tie.Need-slice-aggregate-eat-text-2
+slice-aggregate-eat-text-2 c = search needs
+
+eat-text-requires-2 : tie.Need-eat-text-requires-2
+eat-text-requires-2 c κs = search needs
+
+enum-known-e-2 : tie.Need-enum-known-e-2
+enum-known-e-2 c = search needs
+
+era-end-requires-2 : tie.Need-era-end-requires-2
+era-end-requires-2 c κs = search needs
+
+enum-told-2 : tie.Need-enum-told-2
+enum-told-2 c = search needs
+
+negative-era-requires : tie.Need-negative-era-requires
+negative-era-requires c κs = search needs
+
+returns : tie.Need-returns
+unfolding parseEraMarker eraAt onPast
+returns c =
+    let b2 = c .before .before in
+    let b4 = b2 .before .before in
+    let b6 = b4 .before .before in
+    simp (← b6 .eat-whitespace .ensures, ← b4 .eat-text .ensures, b2 .e .given .1, ← c .era-end .ensures)
+
+returns-2 : tie.Need-returns-2
+unfolding parseEraMarker eraAt onPast
+returns-2 c =
+    let b2 = c .before .before in
+    let b4 = b2 .before .before in
+    let b6 = b4 .before .before in
+    let b8 = b6 .before .before in
+    let b10 = b8 .before .before in
+    simp (← b10 .eat-whitespace .ensures, ← b8 .eat-text .ensures, b6 .enum-told .given .1, ← b4 .eat-text2 .ensures, b2 .e2 .given .1, ← c .era-end2 .ensures)
+
+returns-3 : tie.Need-returns-3
+unfolding parseEraMarker eraAt onPast
+returns-3 c =
+    let b1 = c .before in
+    let b3 = b1 .before .before in
+    let b5 = b3 .before .before in
+    let b7 = b5 .before .before in
+    let b9 = b7 .before .before in
+    simp (← b9 .eat-whitespace .ensures, ← b7 .eat-text .ensures, b5 .enum-told .given .1, ← b3 .eat-text2 .ensures, b1 .enum-told2 .given .1, ← c .negative-era .ensures)
+
+pub parse-era-marker-spec : {M : Type 1} → statement M
+parse-era-marker-spec =
+    tie.close
+    (tie.spec
+    eat-whitespace-requires
+    slice-aggregate-eat-text
+    eat-text-requires
+    enum-known-e
+    era-end-requires
+    enum-told
+    slice-aggregate-eat-text-2
+    eat-text-requires-2
+    enum-known-e-2
+    era-end-requires-2
+    enum-told-2
+    negative-era-requires
+    returns
+    returns-2
+    returns-3)

@@ -1,0 +1,4 @@
+pub mod Year
+pub mod Names
+pub mod Month
+pub mod Day

@@ -1,0 +1,125 @@
+-- The year field: a sign, one to four digits, and an era.
+use Prim.Native.Nat.{ℕ}
+use mathlib.Core.Bool.{Bool, true, false}
+use mathlib.Core.List.{List}
+use lib.Dec.{ltb, eqb}
+use lib.IntN.{ℤ, pos, negℤ, _-ℤ_}
+use lib.ListN.{length}
+use Rattle.chars.specs.Pick.{pick}
+use Rattle.scanner.specs.declared.Class.the-variants.{Whitespace, AsciiDigit, Alphanumeric, Is}
+use Rattle.scanner.specs.declared.EatIf.{EatIf}
+use Rattle.scanner.specs.declared.EatIf.the-variants.{Past, Kept}
+use Rattle.scanner.specs.Scan.{eatWhile, eatIf, eatText, peekAt, doneAt, part}
+use Rattle.refusals.specs.declared.Kind.{Kind}
+use Rattle.refusals.specs.declared.Kind.the-variants.{WrongNumberOfDigits, InvalidFormat, YearZeroCE, RustPanics}
+use Rattle.refusals.specs.declared.TextRefusal.{TextRefusal}
+use Rattle.refusals.specs.Offset.{textRefusal}
+use Rattle.strs.specs.declared.ParsedNumber.{ParsedNumber}
+use Rattle.strs.specs.declared.ParsedNumber.the-variants.{Value, NoValue}
+use Rattle.strs.specs.Parse.{parse}
+use Rattle.fields.specs.declared.Sign.{Sign}
+use Rattle.fields.specs.declared.Sign.the-variants.{NoSign, Plus, Minus}
+use Rattle.fields.specs.declared.ReadEra.{ReadEra}
+use Rattle.fields.specs.declared.ReadEra.the-variants.{Era, NoEra, BadEra}
+use Rattle.fields.specs.declared.ReadYear.{ReadYear}
+use Rattle.fields.specs.declared.ReadYear.the-variants.{Year, NoYear}
+use Rattle.strs.specs.Ascii.{ascii}
+
+-- a refusal of what stands from a place to another
+abbrev pub refused : Kind → ℕ → ℕ → TextRefusal
+refused k start end = textRefusal k start end
+
+-- the ported code panics
+abbrev pub panics : TextRefusal
+panics = refused RustPanics 0 0
+
+-- a plus or a minus stands before the year
+abbrev pub hasSign : Sign → Bool
+hasSign NoSign = false
+hasSign Plus = true
+hasSign Minus = true
+
+-- a number behind its sign: it is the year, whatever its number of digits
+abbrev pub signed : Sign → ℕ → ℤ
+signed NoSign n = pos n
+signed Plus n = pos n
+signed Minus n = negℤ (pos n)
+
+-- n BC is 1 - n
+abbrev pub beforeChrist : ℕ → ℤ
+beforeChrist n = pos 1 -ℤ pos n
+
+-- on behind what was eaten, or where nothing was
+unfoldable pub onPast : {A : Type 0} → EatIf → (ℕ → A) → A → A
+onPast (Past c) go else = go (c .0)
+onPast Kept go else = else
+
+-- an era from a place to another, AD or not: a letter or a digit behind it is refused, at the era alone
+unfoldable pub eraEnd : List ℕ → ℕ → Bool → ℕ → ReadEra
+eraEnd s start positive end =
+    pick (peekAt Alphanumeric s end) (BadEra (refused InvalidFormat start end)) (Era positive (record { 0 = end }))
+
+-- BC or BCE at a place, or no era
+unfoldable pub negativeEra : List ℕ → ℕ → ReadEra
+negativeEra s start =
+    onPast (eatText (ascii "BC") s start)
+    (λ c. onPast (eatText (ascii "E") s c) (eraEnd s start false) (eraEnd s start false c))
+    (NoEra (record { 0 = start }))
+
+-- AD, CE, BC or BCE at a place, or no era
+unfoldable pub eraAt : List ℕ → ℕ → ReadEra
+eraAt s start =
+    onPast (eatText (ascii "AD") s start) (eraEnd s start true)
+    (onPast (eatText (ascii "CE") s start) (eraEnd s start true) (negativeEra s start))
+
+-- white space, then an era or none
+unfoldable pub parseEraMarker : List ℕ → ℕ → ReadEra
+parseEraMarker s at = eraAt s (eatWhile Whitespace s at)
+
+-- a year that nothing may follow
+unfoldable pub ended : List ℕ → ℕ → ℕ → ℤ → ReadYear
+ended s idx at year = pick (doneAt s at) (Year year) (NoYear (refused InvalidFormat idx at))
+
+-- with an era: a sign is refused first, then a zero; behind AD nothing may follow, behind BC nothing more is read.
+-- With no era nothing may follow the digits
+unfoldable pub withEra : List ℕ → ℕ → Sign → ℕ → ReadEra → ReadYear
+withEra s idx sign n (Era positive c) =
+    pick (hasSign sign) (NoYear (refused InvalidFormat idx (c .0)))
+    (pick (eqb n 0) (NoYear (refused YearZeroCE idx (c .0)))
+    (pick positive (ended s idx (c .0) (pos n)) (Year (beforeChrist n))))
+withEra s idx sign n (NoEra c) = ended s idx (c .0) (signed sign n)
+withEra s idx sign n (BadEra e) = NoYear e
+
+-- behind the digits
+unfoldable pub behindDigits : List ℕ → ℕ → ℕ → Sign → ℕ → ReadYear
+behindDigits s idx at sign n = withEra s idx sign n (parseEraMarker s at)
+
+-- with the number that digits are on; digits that are none panic
+unfoldable pub onNumber : ParsedNumber → (ℕ → ReadYear) → ReadYear
+onNumber (Value n) go = go n
+onNumber NoValue go = NoYear panics
+
+-- the digits from a place to another, the sign ending at `at`: none and more than four are refused; then white space behind the sign panics
+unfoldable pub yearDigits : List ℕ → ℕ → ℕ → Sign → ℕ → ℕ → ReadYear
+yearDigits s idx at sign start end =
+    pick (eqb (length (part s start end)) 0) (NoYear (refused InvalidFormat idx end))
+    (pick (ltb 4 (length (part s start end))) (NoYear (refused WrongNumberOfDigits idx end))
+    (pick (eqb start at) (onNumber (parse 9999 (part s start end)) (behindDigits s idx end sign)) (NoYear panics)))
+
+-- the digits at a place
+unfoldable pub yearFrom : List ℕ → ℕ → ℕ → Sign → ℕ → ReadYear
+yearFrom s idx at sign start = yearDigits s idx at sign start (eatWhile AsciiDigit s start)
+
+-- behind the sign: white space, then digits
+unfoldable pub behindSign : List ℕ → ℕ → ℕ → Sign → ReadYear
+behindSign s idx at sign = yearFrom s idx at sign (eatWhile Whitespace s at)
+
+-- a sign or none at a place, and what follows it
+unfoldable pub yearAt : List ℕ → ℕ → ReadYear
+yearAt s idx =
+    onPast (eatIf (Is 0x2D) s idx) (λ c. behindSign s idx c Minus)
+    (onPast (eatIf (Is 0x2B) s idx) (λ c. behindSign s idx c Plus) (behindSign s idx idx NoSign))
+
+-- the year of a year field
+unfoldable pub getYear : List ℕ → ReadYear
+getYear s = yearAt s (eatWhile Whitespace s 0)

@@ -1,0 +1,6 @@
+pub mod Ranges
+pub mod Back
+pub mod Times
+pub mod Accepted
+pub mod Ascii
+pub mod Examples

@@ -1,0 +1,81 @@
+use Rattle.chars.specs.Pick.{pick}
+use Rattle.points.specs.Step.{orEnd, onSeparator, onPart}
+use Rattle.points.specs.Time.{behindHour}
+use borrow.Author.Needs.{needs}
+use Rattle.points.proofs.behind_hour.Statement.{statement}
+use Rattle.points.proofs.behind_hour.Tie as tie
+
+eat-whitespace-requires : tie.Need-eat-whitespace-requires
+eat-whitespace-requires c κs = search needs
+
+done-requires : tie.Need-done-requires
+done-requires c κs = search needs
+
+local-requires : tie.Need-local-requires
+local-requires c κs = search needs
+
+returns : tie.Need-returns
+unfolding behindHour orEnd onSeparator onPart pick
+returns c =
+    let b1 = c .before in
+    let b2 = b1 .before in
+    let b3 = b2 .before in
+    simp (← b3 .eat-whitespace .ensures, ← b2 .done .ensures, b1 .if1 .taken, c .local .ensures)
+
+parse-colon-requires : tie.Need-parse-colon-requires
+parse-colon-requires c κs = search needs
+
+enum-known-b : tie.Need-enum-known-b
+enum-known-b c = search needs
+
+parse-minutes-or-seconds-requires : tie.Need-parse-minutes-or-seconds-requires
+parse-minutes-or-seconds-requires c κs = search needs
+
+enum-known-minute : tie.Need-enum-known-minute
+enum-known-minute c = search needs
+
+behind-minute-requires : tie.Need-behind-minute-requires
+behind-minute-requires c κs = search needs
+
+enum-known-e : tie.Need-enum-known-e
+enum-known-e c = search needs
+
+enum-known-e-2 : tie.Need-enum-known-e-2
+enum-known-e-2 c = search needs
+
+returns-2 : tie.Need-returns-2
+unfolding behindHour orEnd onSeparator onPart pick
+returns-2 c =
+    let b2 = c .before .before in
+    let b4 = b2 .before .before in
+    let b6 = b4 .before .before in
+    let b8 = b6 .before .before in
+    let b9 = b8 .before in
+    let b10 = b9 .before in
+    let b11 = b10 .before in
+    simp (← b11 .eat-whitespace .ensures, ← b10 .done .ensures, b9 .if1 .left, ← b8 .parse-colon .ensures, b6 .b .given .1, ← b4 .parse-minutes-or-seconds .ensures, b2 .minute .given .1, ← c .behind-minute .ensures)
+
+returns-3 : tie.Need-returns-3
+unfolding behindHour orEnd onSeparator onPart pick
+returns-3 c =
+    let b1 = c .before in
+    let b3 = b1 .before .before in
+    let b5 = b3 .before .before in
+    let b7 = b5 .before .before in
+    let b8 = b7 .before in
+    let b9 = b8 .before in
+    let b10 = b9 .before in
+    simp (← b10 .eat-whitespace .ensures, ← b9 .done .ensures, b8 .if1 .left, ← b7 .parse-colon .ensures, b5 .b .given .1, ← b3 .parse-minutes-or-seconds .ensures, b1 .e .given .1)
+
+returns-4 : tie.Need-returns-4
+unfolding behindHour orEnd onSeparator onPart pick
+returns-4 c =
+    let b1 = c .before in
+    let b3 = b1 .before .before in
+    let b4 = b3 .before in
+    let b5 = b4 .before in
+    let b6 = b5 .before in
+    simp (← b6 .eat-whitespace .ensures, ← b5 .done .ensures, b4 .if1 .left, ← b3 .parse-colon .ensures, b1 .e2 .given .1)
+
+pub behind-hour-spec : {M : Type 1} → statement M
+behind-hour-spec = tie.close (tie.spec eat-whitespace-requires done-requires local-requires returns parse-colon-requires enum-known-b parse-minutes-or-seconds-requires enum-known-minute behind-minute-requires enum-known-e enum-known-e-2 returns-2 returns-3 returns-4)

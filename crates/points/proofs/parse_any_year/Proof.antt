@@ -1,0 +1,48 @@
+use mir.ValLaws.{toZ-ofZ}
+use mir.Syntax.{w32}
+use Rattle.points.specs.Point.{yearAt, shortOr}
+use borrow.Author.Needs.{needs}
+use Rattle.points.proofs.parse_any_year.Statement.{statement}
+use Rattle.points.proofs.parse_any_year.Tie as tie
+
+parse-short-year-requires : tie.Need-parse-short-year-requires
+parse-short-year-requires c κs = search needs
+
+enum-known-value : tie.Need-enum-known-value
+enum-known-value c = search needs
+
+enum-told : tie.Need-enum-told
+enum-told c = search needs
+
+parse-year-requires : tie.Need-parse-year-requires
+parse-year-requires c κs = search needs
+
+enum-told-2 : tie.Need-enum-told-2
+enum-told-2 c = search needs
+
+panics-requires : tie.Need-panics-requires
+panics-requires c κs = search needs
+
+returns : tie.Need-returns
+unfolding yearAt shortOr
+returns c =
+    let b1 = c .before in
+    let b3 = b1 .before .before in
+    simp (← b3 .parse-short-year .ensures, b1 .value .given .1, toZ-ofZ w32 (b1 .value .given .0 .0) (record { sfits = c .known-told .given .0 .1 }))
+
+returns-2 : tie.Need-returns-2
+unfolding yearAt shortOr
+returns-2 c =
+    let b1 = c .before in
+    let b3 = b1 .before .before in
+    simp (← b3 .parse-short-year .ensures, b1 .enum-told .given .1, ← c .parse-year .ensures)
+
+returns-3 : tie.Need-returns-3
+unfolding yearAt shortOr
+returns-3 c =
+    let b1 = c .before in
+    let b3 = b1 .before .before in
+    simp (← b3 .parse-short-year .ensures, b1 .enum-told2 .given .1, c .panics .ensures)
+
+pub parse-any-year-spec : {M : Type 1} → statement M
+parse-any-year-spec = tie.close (tie.spec parse-short-year-requires enum-known-value enum-told parse-year-requires enum-told-2 panics-requires returns returns-2 returns-3)

@@ -1,0 +1,38 @@
+use Rattle.points.specs.Step.{colonAt, colonFrom, colonOr}
+use borrow.Author.Needs.{needs}
+use Rattle.points.proofs.parse_colon.Statement.{statement}
+use Rattle.points.proofs.parse_colon.Tie as tie
+
+eat-whitespace-requires : tie.Need-eat-whitespace-requires
+eat-whitespace-requires c κs = search needs
+
+eat-if-requires : tie.Need-eat-if-requires
+eat-if-requires c κs = search needs
+
+enum-known-next : tie.Need-enum-known-next
+enum-known-next c = search needs
+
+enum-told : tie.Need-enum-told
+enum-told c = search needs
+
+refusal-requires : tie.Need-refusal-requires
+refusal-requires c κs = search needs
+
+returns : tie.Need-returns
+unfolding colonAt colonFrom colonOr
+returns c =
+    let b1 = c .before in
+    let b3 = b1 .before .before in
+    let b4 = b3 .before in
+    simp (← b4 .eat-whitespace .ensures, ← b3 .eat-if .ensures, b1 .next .given .1)
+
+returns-2 : tie.Need-returns-2
+unfolding colonAt colonFrom colonOr
+returns-2 c =
+    let b1 = c .before in
+    let b3 = b1 .before .before in
+    let b4 = b3 .before in
+    simp (← b4 .eat-whitespace .ensures, ← b3 .eat-if .ensures, b1 .enum-told .given .1, c .refusal .ensures)
+
+pub parse-colon-spec : {M : Type 1} → statement M
+parse-colon-spec = tie.close (tie.spec eat-whitespace-requires eat-if-requires enum-known-next enum-told refusal-requires returns returns-2)

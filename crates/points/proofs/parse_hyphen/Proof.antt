@@ -1,0 +1,41 @@
+use Rattle.points.specs.Step.{hyphenAt, hyphenFrom, hyphenOr}
+use borrow.Author.Needs.{needs}
+use Rattle.points.proofs.parse_hyphen.Statement.{statement}
+use Rattle.points.proofs.parse_hyphen.Tie as tie
+
+eat-whitespace-requires : tie.Need-eat-whitespace-requires
+eat-whitespace-requires c κs = search needs
+
+eat-if-requires : tie.Need-eat-if-requires
+eat-if-requires c κs = search needs
+
+enum-known-next : tie.Need-enum-known-next
+enum-known-next c = search needs
+
+eat-while-requires : tie.Need-eat-while-requires
+eat-while-requires c κs = search needs
+
+enum-told : tie.Need-enum-told
+enum-told c = search needs
+
+refusal-requires : tie.Need-refusal-requires
+refusal-requires c κs = search needs
+
+returns : tie.Need-returns
+unfolding hyphenAt hyphenFrom hyphenOr
+returns c =
+    let b2 = c .before .before in
+    let b4 = b2 .before .before in
+    let b5 = b4 .before in
+    simp (← b5 .eat-whitespace .ensures, ← b4 .eat-if .ensures, b2 .next .given .1, ← c .eat-while .ensures)
+
+returns-2 : tie.Need-returns-2
+unfolding hyphenAt hyphenFrom hyphenOr
+returns-2 c =
+    let b1 = c .before in
+    let b3 = b1 .before .before in
+    let b4 = b3 .before in
+    simp (← b4 .eat-whitespace .ensures, ← b3 .eat-if .ensures, b1 .enum-told .given .1, c .refusal .ensures)
+
+pub parse-hyphen-spec : {M : Type 1} → statement M
+parse-hyphen-spec = tie.close (tie.spec eat-whitespace-requires eat-if-requires enum-known-next eat-while-requires enum-told refusal-requires returns returns-2)

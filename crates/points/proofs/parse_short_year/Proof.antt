@@ -1,0 +1,52 @@
+use Rattle.numbers.specs.declared.Digits.the-variants.{Two}
+use Rattle.numbers.proofs.Laws.{mag-abs, int-below}
+use native.Mathlib.Omega.{arith}
+use mathlib.Core.Path.{_∙_, sym}
+use mir.ValLaws.{toZ-ofZ}
+use mir.Syntax.{w32}
+use Rattle.points.specs.Point.{shortYear, windowedInt}
+use borrow.Author.Needs.{needs}
+use Rattle.points.proofs.parse_short_year.Statement.{statement}
+use Rattle.points.proofs.parse_short_year.Tie as tie
+
+parse-int-requires : tie.Need-parse-int-requires
+parse-int-requires c κs = search needs
+
+enum-known-value : tie.Need-enum-known-value
+enum-known-value c = search needs
+
+window-requires : tie.Need-window-requires
+window-requires c κs =
+    let z = c .before .value .given .0 .0 in
+    let y = toZ-ofZ w32 z (record { sfits = c .known-told .given .0 .1 }) in
+    rw y (omega (arith, mag-abs z, int-below _ _ Two (sym (c .before .before .before .parse-int .ensures) ∙ c .before .value .given .1)))
+
+enum-known-next : tie.Need-enum-known-next
+enum-known-next c = search needs
+
+enum-told : tie.Need-enum-told
+enum-told c = search needs
+
+returns : tie.Need-returns
+unfolding shortYear windowedInt
+returns c =
+    let b2 = c .before .before in
+    let b4 = b2 .before .before in
+    let e = rw (toZ-ofZ w32 (b2 .value .given .0 .0) (record { sfits = c .before .known-told .given .0 .1 })) at (c .window .ensures) in
+    simp (← b4 .parse-int .ensures, b2 .value .given .1, toZ-ofZ w32 (c .window .result) (record { sfits = c .window .ok }) ∙ e)
+
+returns-2 : tie.Need-returns-2
+unfolding shortYear windowedInt
+returns-2 c =
+    let b1 = c .before in
+    let b3 = b1 .before .before in
+    simp (← b3 .parse-int .ensures, b1 .next .given .1)
+
+returns-3 : tie.Need-returns-3
+unfolding shortYear windowedInt
+returns-3 c =
+    let b2 = c .before .before in
+    simp (← b2 .parse-int .ensures, c .enum-told .given .1)
+
+pub parse-short-year-spec : {M : Type 1} → statement M
+parse-short-year-spec = tie.close (tie.spec parse-int-requires enum-known-value window-requires enum-known-next enum-told returns returns-2 returns-3)

@@ -1,0 +1,48 @@
+use mir.ValLaws.{toZ-ofZ}
+use mir.Syntax.{w32}
+use Rattle.points.specs.Point.{longYear, longOf}
+use borrow.Author.Needs.{needs}
+use Rattle.points.proofs.parse_year.Statement.{statement}
+use Rattle.points.proofs.parse_year.Tie as tie
+
+parse-int-requires : tie.Need-parse-int-requires
+parse-int-requires c κs = search needs
+
+enum-known-value : tie.Need-enum-known-value
+enum-known-value c = search needs
+
+enum-known-next : tie.Need-enum-known-next
+enum-known-next c = search needs
+
+refusal-requires : tie.Need-refusal-requires
+refusal-requires c κs = search needs
+
+enum-told : tie.Need-enum-told
+enum-told c = search needs
+
+panics-requires : tie.Need-panics-requires
+panics-requires c κs = search needs
+
+returns : tie.Need-returns
+unfolding longYear longOf
+returns c =
+    let b1 = c .before in
+    let b3 = b1 .before .before in
+    simp (← b3 .parse-int .ensures, b1 .value .given .1, toZ-ofZ w32 (b1 .value .given .0 .0) (record { sfits = c .known-told .given .0 .1 }))
+
+returns-2 : tie.Need-returns-2
+unfolding longYear longOf
+returns-2 c =
+    let b2 = c .before .before in
+    let b4 = b2 .before .before in
+    simp (← b4 .parse-int .ensures, b2 .next .given .1, c .refusal .ensures)
+
+returns-3 : tie.Need-returns-3
+unfolding longYear longOf
+returns-3 c =
+    let b1 = c .before in
+    let b3 = b1 .before .before in
+    simp (← b3 .parse-int .ensures, b1 .enum-told .given .1, c .panics .ensures)
+
+pub parse-year-spec : {M : Type 1} → statement M
+parse-year-spec = tie.close (tie.spec parse-int-requires enum-known-value enum-known-next refusal-requires enum-told panics-requires returns returns-2 returns-3)

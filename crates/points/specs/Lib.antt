@@ -1,0 +1,3 @@
+pub mod Step
+pub mod Time
+pub mod Point

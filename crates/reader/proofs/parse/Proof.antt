@@ -1,0 +1,36 @@
+use Rattle.reader.proofs.Entries.{large-room, small-room}
+use borrow.Author.Needs.{needs}
+use Rattle.reader.proofs.parse.Statement.{statement}
+use Rattle.reader.proofs.parse.Tie as tie
+use Rattle.reader.proofs.parse.Reads as reads
+use Rattle.reader.proofs.parse.Lts as lts
+use Rattle.reader.proofs.parse_in.Reads as parse-in-reads
+
+slice-aggregate-parse-in : tie.Need-slice-aggregate-parse-in
+slice-aggregate-parse-in c = search needs
+
+parse-in-requires : tie.Need-parse-in-requires
+parse-in-requires c κs = let a = c .before .before .before .before .before .args in small-room (a .bytes .now) (a .table .now) (c .before .before .if1 .taken) (c .before .if2 .taken)
+
+returns : tie.Need-returns
+returns c = search needs
+
+slice-aggregate-parse-in-2 : tie.Need-slice-aggregate-parse-in-2
+slice-aggregate-parse-in-2 c = search needs
+
+parse-in-requires-2 : tie.Need-parse-in-requires-2
+parse-in-requires-2 c κs = large-room (c .before .before .before .before .args .bytes .now) (c .before .before .before .before .args .table .now)
+
+returns-2 : tie.Need-returns-2
+returns-2 c = search needs
+
+pub parse-spec : {M : Type 1} → statement M
+parse-spec =
+    tie.close
+    (tie.spec
+    slice-aggregate-parse-in
+    parse-in-requires
+    returns
+    slice-aggregate-parse-in-2
+    parse-in-requires-2
+    returns-2)

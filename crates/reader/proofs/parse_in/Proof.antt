@@ -1,0 +1,76 @@
+use Rattle.reader.proofs.Entries.{parsed-faulty, parsed-clean, is-text, is-fault}
+use mathlib.Core.Bool.{true}
+use lib.Seq.{length-take-le}
+use mathlib.Core.Path.{sym, _∙_}
+use borrow.Author.Needs.{needs}
+use Rattle.reader.proofs.parse_in.Statement.{statement}
+use Rattle.reader.proofs.parse_in.Tie as tie
+use Rattle.reader.proofs.parse_in.Reads as reads
+use Rattle.reader.proofs.parse_in.Lts as lts
+use Rattle.chunks.proofs.format_uppercase.Reads as format-uppercase-reads
+use Rattle.chunks.proofs.span.Reads as span-reads
+use Rattle.datefield.proofs.parse_text.Reads as parse-text-reads
+
+format-uppercase-requires : tie.Need-format-uppercase-requires
+format-uppercase-requires c κs = search needs
+
+enum-known-n : tie.Need-enum-known-n
+enum-known-n c = search needs
+
+slice-reshare-prefix-parse-text : tie.Need-slice-reshare-prefix-parse-text
+slice-reshare-prefix-parse-text c =
+    let a = c .before .before .before .before .before .before .before .before .before .before .args in
+    let e = c .before .before .before .before .before .format-uppercase .ensures in
+    let t = is-text true (a .bytes .now) (a .table .now) (a .buf .now) (e .0) (e .1) (c .before .n .given .1) in
+    t .within
+
+slice-aggregate-parse-text : tie.Need-slice-aggregate-parse-text
+slice-aggregate-parse-text c =
+    let a = c .before .before .before .before .before .before .before .before .before .before .before .args in
+    let e = c .before .before .before .before .before .before .format-uppercase .ensures in
+    let t = is-text true (a .bytes .now) (a .table .now) (a .buf .now) (e .0) (e .1) (c .before .before .n .given .1) in
+    sym (length-take-le _ _ (t .within))
+
+span-requires : tie.Need-span-requires
+span-requires c κs = search needs
+
+parse-text-requires : tie.Need-parse-text-requires
+parse-text-requires c κs = search needs
+
+enum-known-e : tie.Need-enum-known-e
+enum-known-e c = search needs
+
+same-length : tie.Need-same-length
+same-length c = search needs
+
+returns : tie.Need-returns
+returns c =
+    let a = c .before .before .before .before .before .before .before .before .before .before .before .before .before .args in
+    let e = c .before .before .before .before .before .before .before .before .format-uppercase .ensures in
+    let t = is-text true (a .bytes .now) (a .table .now) (a .buf .now) (e .0) (e .1) (c .before .before .before .before .n .given .1) in
+    c .parse-text .ensures ∙ rw (c .before .span .ensures) (parsed-clean (a .bytes .now) (a .table .now) (t .clean) (t .front))
+
+same-length-2 : tie.Need-same-length-2
+same-length-2 c = search needs
+
+returns-2 : tie.Need-returns-2
+returns-2 c =
+    let a = c .before .before .before .before .before .before .before .before .before .before .args in
+    let e = c .before .before .before .before .before .format-uppercase .ensures in
+    parsed-faulty (a .bytes .now) (a .table .now) (is-fault true (a .bytes .now) (a .table .now) (a .buf .now) (e .0) (e .1) (c .before .e .given .1) (c .before .before .before .before .before .before .before .before .before .before .pre))
+
+pub parse-in-spec : {M : Type 1} → statement M
+parse-in-spec =
+    tie.close
+    (tie.spec
+    format-uppercase-requires
+    enum-known-n
+    slice-reshare-prefix-parse-text
+    slice-aggregate-parse-text
+    span-requires
+    parse-text-requires
+    enum-known-e
+    same-length
+    returns
+    same-length-2
+    returns-2)

@@ -1,0 +1,35 @@
+-- A chunk list as a date field: what the ported reader and the strict reader say of it.
+use Prim.Native.Nat.{ℕ}
+use mathlib.Core.List.{List}
+use Rattle.refusals.specs.declared.Kind.the-variants.{NotStrict}
+use Rattle.refusals.specs.Refusal.{fileSpan, refusal}
+use Rattle.chunks.specs.declared.Checked.{Checked}
+use Rattle.chunks.specs.declared.Checked.the-variants.{Clean, Faulty}
+use Rattle.chunks.specs.Chunks.{chunksOf, spanOf}
+use Rattle.chunks.specs.Check.{checked}
+use Rattle.chunks.specs.Format.{formatted}
+use Rattle.chunks.specs.Upper.{uppercase}
+use Rattle.datefield.specs.declared.ReadDate.{ReadDate}
+use Rattle.datefield.specs.declared.ReadDate.the-variants.{Accepted, Refused}
+use Rattle.datefield.specs.Value.{dateText}
+use Rattle.strict.specs.declared.Matched.{Matched}
+use Rattle.strict.specs.declared.Matched.the-variants.{Strict, NotStrict as NoMatch}
+use Rattle.strict.specs.Matcher.{strict}
+
+-- a list without a fault is read; else the fault is the answer
+unfoldable pub onClean : Checked → ReadDate → ReadDate
+onClean Clean read = read
+onClean (Faulty e) read = Refused e
+
+-- the ported reader: the formatted text in upper case
+unfoldable pub parsed : List ℕ → List ℕ → ReadDate
+parsed b table = onClean (checked b table) (dateText (spanOf (chunksOf table)) (uppercase (formatted b table)))
+
+-- what the strict matcher says: a text that is not of the grammar is refused, with no place
+unfoldable pub strictly : Matched → ReadDate
+strictly (Strict d) = Accepted d
+strictly NoMatch = Refused (refusal NotStrict (fileSpan 0 0))
+
+-- the strict reader: the formatted text as it is
+unfoldable pub parsedStrict : List ℕ → List ℕ → ReadDate
+parsedStrict b table = onClean (checked b table) (strictly (strict (formatted b table)))

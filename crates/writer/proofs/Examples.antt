@@ -1,0 +1,61 @@
+-- Texts and fields of some dates, as the ported code writes them: one theorem over one list each. Assumes nothing.
+use mathlib.Core.Path.{_≡_, refl}
+use mathlib.Core.Bool.{true, false}
+use mathlib.Core.List.{List, [], _∷_, map}
+use Prim.Native.Nat.{ℕ}
+use Prim.Native.String.{String}
+use lib.Dec.{eqb}
+use lib.IntN.{ℤ, pos, negsuc}
+use Rattle.chars.specs.Pick.{pick}
+use Rattle.dates.specs.declared.OptionMonth.the-variants.{NoMonth}
+use Rattle.dates.specs.declared.OptionDay.the-variants.{NoDay}
+use Rattle.dates.specs.declared.OptionTime.the-variants.{NoTime, SomeTime}
+use Rattle.dates.specs.declared.OptionOffset.the-variants.{NoOffset}
+use Rattle.dates.specs.declared.Datetime.{Datetime}
+use Rattle.dates.specs.declared.DateValue.the-variants.{At, After, Before, Between}
+use Rattle.dates.specs.declared.Date.{Date}
+use Rattle.dates.specs.Value.{month, day, datetime, date}
+use Rattle.dates.specs.Time.{time}
+use Rattle.writer.specs.Ascii.{ascii}
+use Rattle.writer.specs.Numbers.{count, digitCount, width, decimal}
+use Rattle.writer.specs.Texts.{minus, yearText, writtenMonth, writtenDay, dayParts, monthParts, partsOf, partText, hyphenPart, partsText, datetimeText, valueText, markText, dateText}
+use Rattle.writer.specs.Fields.{prefix, line, partLines, endLines, valueLines, fieldsText}
+
+-- a date, and what is written
+pub record Example : Type 0 where
+  pub of : Date
+  pub text : String
+
+abbrev pub year : ℤ → Datetime
+year y = datetime y NoMonth NoDay NoTime
+
+abbrev pub texts : List Example
+texts =
+    record { of = date (At (year (pos 2049))) true false; text = "2049?" }
+    ∷ record { of = date (At (year (pos 0))) false false; text = "0000" }
+    ∷ record { of = date (At (year (negsuc 998))) false true; text = "-0999~" }
+    ∷ record { of = date (At (year (negsuc 12344))) true true; text = "-12345%" }
+    ∷ record { of = date (At (datetime (pos 49) NoMonth (day 3) NoTime)) false false; text = "0049" }
+    ∷ record { of = date (At (datetime (pos 2000) (month 0) (day 0) (SomeTime (time 1 2 3 NoOffset)))) false false; text = "2000-01-01" }
+    ∷ record { of = date (After (datetime (pos 1999) (month 11) NoDay NoTime)) false false; text = "1999-12/.." }
+    ∷ record { of = date (Before (datetime (pos 2000) (month 1) (day 28) NoTime)) false false; text = "../2000-02-29" }
+    ∷ record { of = date (Between (year (pos 1900)) (datetime (pos 12345) (month 98) (day 254) NoTime)) false false; text = "1900/12345-99-255" }
+    ∷ []
+
+pub text-examples : map (λ (e : Example). dateText (e .of)) texts ≡ map (λ (e : Example). ascii (e .text)) texts
+unfolding dateText valueText datetimeText yearText minus decimal width digitCount count partsOf monthParts dayParts writtenMonth writtenDay partsText hyphenPart partText markText pick
+text-examples = refl
+
+-- the line feeds are written as semicolons here
+abbrev pub lines : List ℕ → List ℕ
+lines = map (λ (c : ℕ). pick (eqb c 59) 10 c)
+
+abbrev pub fields : List Example
+fields =
+    record { of = date (After (datetime (negsuc 4) NoMonth (day 3) NoTime)) true true; text = "year=-0005;" }
+    ∷ record { of = date (Between (datetime (pos 2000) (month 0) NoDay NoTime) (datetime (pos 2001) (month 11) (day 30) NoTime)) false false; text = "year=2000;month=01;endyear=2001;endmonth=12;endday=31;" }
+    ∷ []
+
+pub field-examples : map (λ (e : Example). fieldsText (e .of)) fields ≡ map (λ (e : Example). lines (ascii (e .text))) fields
+unfolding fieldsText valueLines endLines line prefix partLines yearText minus decimal width digitCount count partsOf monthParts dayParts writtenMonth writtenDay partText pick
+field-examples = refl

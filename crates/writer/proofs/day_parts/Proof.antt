@@ -1,0 +1,54 @@
+use Rattle.chars.specs.Pick.{pick}
+use Rattle.writer.specs.Texts.{dayParts}
+use borrow.Author.Tests.{eq-eqb, ne-eqb}
+use borrow.Author.Needs.{needs}
+use Rattle.writer.proofs.day_parts.Statement.{statement}
+use Rattle.writer.proofs.day_parts.Tie as tie
+
+enum-told : tie.Need-enum-told
+enum-told c = search needs
+
+written-month-requires : tie.Need-written-month-requires
+written-month-requires c κs = search needs
+
+enum-known-day : tie.Need-enum-known-day
+enum-known-day c = search needs
+
+returns : tie.Need-returns
+unfolding dayParts pick
+returns c =
+    let b3 = c .before .before .before in
+    simp (b3 .day .given .1, eq-eqb _ _ (c .if1 .taken))
+
+written-month-requires-2 : tie.Need-written-month-requires-2
+written-month-requires-2 c κs = search needs
+
+written-day-requires : tie.Need-written-day-requires
+written-day-requires c κs = search needs
+
+returns-2 : tie.Need-returns-2
+unfolding dayParts pick
+returns-2 c =
+    let b1 = c .before in
+    simp (b1 .enum-told .given .1, ← c .written-month .ensures)
+
+returns-3 : tie.Need-returns-3
+unfolding dayParts pick
+returns-3 c =
+    let b1 = c .before in
+    let b2 = b1 .before in
+    let b5 = b2 .before .before .before in
+    simp (b5 .day .given .1, ne-eqb _ _ (b2 .if1 .left), ← b1 .written-month2 .ensures, ← c .written-day .ensures)
+
+pub day-parts-spec : {M : Type 1} → statement M
+day-parts-spec =
+    tie.close
+    (tie.spec
+    enum-told
+    written-month-requires
+    enum-known-day
+    returns
+    written-month-requires-2
+    written-day-requires
+    returns-2
+    returns-3)

@@ -1,0 +1,42 @@
+use Rattle.writer.specs.Fields.{prefix}
+use mathlib.Core.Bool.{Bool}
+use lib.ListN.{length}
+use native.Mathlib.Omega.{arith}
+use mathlib.Core.Path.{ap, _≡_}
+use borrow.Author.Needs.{needs}
+use Rattle.writer.proofs.line_length.Statement.{statement}
+use Rattle.writer.proofs.line_length.Tie as tie
+
+add-result : tie.Need-add-result
+add-result c = search needs
+
+add-result-2 : tie.Need-add-result-2
+add-result-2 c = search needs
+
+add-result-3 : tie.Need-add-result-3
+add-result-3 c = search needs
+
+returns : tie.Need-returns
+unfolding prefix
+returns c =
+    let s = c .before in
+    let e : length (prefix (s .args .end)) ≡ 3 = ap (λ (b : Bool). length (prefix b)) (c .if1 .taken) in
+    (omega (arith, e), omega arith)
+
+add-result-4 : tie.Need-add-result-4
+add-result-4 c = search needs
+
+add-result-5 : tie.Need-add-result-5
+add-result-5 c = search needs
+
+returns-2 : tie.Need-returns-2
+unfolding prefix
+returns-2 c =
+    let s = c .before in
+    let e : length (prefix (s .args .end)) ≡ 0 = ap (λ (b : Bool). length (prefix b)) (c .if1 .left) in
+    (omega (arith, e), omega arith)
+
+pub line-length-spec : {M : Type 1} → statement M
+line-length-spec =
+    tie.close
+    (tie.spec add-result add-result-2 add-result-3 returns add-result-4 add-result-5 returns-2)

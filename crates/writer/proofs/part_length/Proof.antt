@@ -1,0 +1,18 @@
+use Rattle.writer.specs.Texts.{partText}
+use Rattle.writer.proofs.Counts.{length-decimal}
+use mathlib.Core.Path.{sym, _∙_}
+use borrow.Author.Needs.{needs}
+use Rattle.writer.proofs.part_length.Statement.{statement}
+use Rattle.writer.proofs.part_length.Tie as tie
+
+width-requires : tie.Need-width-requires
+width-requires c κs = search needs
+
+returns : tie.Need-returns
+unfolding partText
+returns c =
+    let s = c .before in
+    (c .width .ensures .0 ∙ sym (length-decimal 2 (s .args .n)), c .width .ensures .1)
+
+pub part-length-spec : {M : Type 1} → statement M
+part-length-spec = tie.close (tie.spec width-requires returns)

@@ -1,0 +1,97 @@
+use Rattle.writer.specs.Texts.{valueText, datetimeText}
+use Rattle.writer.specs.Ascii.{ascii}
+use Rattle.writer.proofs.Pieces.{added}
+use mathlib.Core.List.{_++_}
+use lib.ListN.{length}
+use native.Mathlib.Omega.{arith}
+use mathlib.Core.Path.{sym, ap, _∙_, refl}
+use Rattle.dates.specs.declared.DateValue.{DateValue}
+use borrow.Author.Needs.{needs}
+use Rattle.writer.proofs.value_length.Statement.{statement}
+use Rattle.writer.proofs.value_length.Tie as tie
+
+enum-known-v : tie.Need-enum-known-v
+enum-known-v c = search needs
+
+datetime-length-requires : tie.Need-datetime-length-requires
+datetime-length-requires c κs = search needs
+
+enum-known-v-2 : tie.Need-enum-known-v-2
+enum-known-v-2 c = search needs
+
+datetime-length-requires-2 : tie.Need-datetime-length-requires-2
+datetime-length-requires-2 c κs = search needs
+
+add-result : tie.Need-add-result
+add-result c = search needs
+
+enum-known-v-3 : tie.Need-enum-known-v-3
+enum-known-v-3 c = search needs
+
+datetime-length-requires-3 : tie.Need-datetime-length-requires-3
+datetime-length-requires-3 c κs = search needs
+
+add-result-2 : tie.Need-add-result-2
+add-result-2 c = search needs
+
+enum-known-v-4 : tie.Need-enum-known-v-4
+enum-known-v-4 c = search needs
+
+datetime-length-requires-4 : tie.Need-datetime-length-requires-4
+datetime-length-requires-4 c κs = search needs
+
+add-result-3 : tie.Need-add-result-3
+add-result-3 c = search needs
+
+datetime-length-requires-5 : tie.Need-datetime-length-requires-5
+datetime-length-requires-5 c κs = search needs
+
+add-result-4 : tie.Need-add-result-4
+add-result-4 c = search needs
+
+returns : tie.Need-returns
+unfolding valueText
+returns c =
+    let b2 = c .before .before in
+    (c .datetime-length .ensures .0 ∙ sym (ap (λ (x : DateValue). length (valueText x)) (b2 .v .given .1)), omega arith)
+
+returns-2 : tie.Need-returns-2
+unfolding valueText
+returns-2 c =
+    let b2 = c .before .before in
+    (added (datetimeText (b2 .v2 .given .0 .0)) (ascii "/..") (c .datetime-length2 .ensures .0) refl ∙ sym (ap (λ (x : DateValue). length (valueText x)) (b2 .v2 .given .1)), omega arith)
+
+returns-3 : tie.Need-returns-3
+unfolding valueText
+returns-3 c =
+    let b2 = c .before .before in
+    (added (ascii "../") (datetimeText (b2 .v3 .given .0 .0)) refl (c .datetime-length3 .ensures .0) ∙ sym (ap (λ (x : DateValue). length (valueText x)) (b2 .v3 .given .1)), omega arith)
+
+returns-4 : tie.Need-returns-4
+unfolding valueText
+returns-4 c =
+    let b1 = c .before in
+    let b3 = b1 .before .before in
+    (added ((datetimeText (b3 .v4 .given .0 .0)) ++ ascii "/") (datetimeText (b3 .v4 .given .0 .1 .0)) (added (datetimeText (b3 .v4 .given .0 .0)) (ascii "/") (b1 .datetime-length4 .ensures .0) refl) (c .datetime-length5 .ensures .0) ∙ sym (ap (λ (x : DateValue). length (valueText x)) (b3 .v4 .given .1)), omega arith)
+
+pub value-length-spec : {M : Type 1} → statement M
+value-length-spec =
+    tie.close
+    (tie.spec
+    enum-known-v
+    datetime-length-requires
+    enum-known-v-2
+    datetime-length-requires-2
+    add-result
+    enum-known-v-3
+    datetime-length-requires-3
+    add-result-2
+    enum-known-v-4
+    datetime-length-requires-4
+    add-result-3
+    datetime-length-requires-5
+    add-result-4
+    returns
+    returns-2
+    returns-3
+    returns-4)

@@ -1,0 +1,84 @@
+use Rattle.writer.specs.Fields.{endLines, valueLines}
+use Rattle.writer.proofs.Pieces.{added}
+use mathlib.Core.Bool.{true, false}
+use lib.ListN.{length}
+use native.Mathlib.Omega.{arith}
+use mathlib.Core.Path.{sym, ap, _∙_}
+use Rattle.dates.specs.declared.DateValue.{DateValue}
+use borrow.Author.Needs.{needs}
+use Rattle.writer.proofs.value_lines_length.Statement.{statement}
+use Rattle.writer.proofs.value_lines_length.Tie as tie
+
+enum-known-v : tie.Need-enum-known-v
+enum-known-v c = search needs
+
+end-lines-length-requires : tie.Need-end-lines-length-requires
+end-lines-length-requires c κs = search needs
+
+enum-known-v-2 : tie.Need-enum-known-v-2
+enum-known-v-2 c = search needs
+
+end-lines-length-requires-2 : tie.Need-end-lines-length-requires-2
+end-lines-length-requires-2 c κs = search needs
+
+enum-known-v-3 : tie.Need-enum-known-v-3
+enum-known-v-3 c = search needs
+
+end-lines-length-requires-3 : tie.Need-end-lines-length-requires-3
+end-lines-length-requires-3 c κs = search needs
+
+enum-known-v-4 : tie.Need-enum-known-v-4
+enum-known-v-4 c = search needs
+
+end-lines-length-requires-4 : tie.Need-end-lines-length-requires-4
+end-lines-length-requires-4 c κs = search needs
+
+end-lines-length-requires-5 : tie.Need-end-lines-length-requires-5
+end-lines-length-requires-5 c κs = search needs
+
+add-result : tie.Need-add-result
+add-result c = search needs
+
+returns : tie.Need-returns
+unfolding valueLines
+returns c =
+    let b2 = c .before .before in
+    (c .end-lines-length .ensures .0 ∙ sym (ap (λ (x : DateValue). length (valueLines x)) (b2 .v .given .1)), omega arith)
+
+returns-2 : tie.Need-returns-2
+unfolding valueLines
+returns-2 c =
+    let b2 = c .before .before in
+    (c .end-lines-length2 .ensures .0 ∙ sym (ap (λ (x : DateValue). length (valueLines x)) (b2 .v2 .given .1)), omega arith)
+
+returns-3 : tie.Need-returns-3
+unfolding valueLines
+returns-3 c =
+    let b2 = c .before .before in
+    (c .end-lines-length3 .ensures .0 ∙ sym (ap (λ (x : DateValue). length (valueLines x)) (b2 .v3 .given .1)), omega arith)
+
+returns-4 : tie.Need-returns-4
+unfolding valueLines
+returns-4 c =
+    let b1 = c .before in
+    let b3 = b1 .before .before in
+    (added (endLines false (b3 .v4 .given .0 .0)) (endLines true (b3 .v4 .given .0 .1 .0)) (b1 .end-lines-length4 .ensures .0) (c .end-lines-length5 .ensures .0) ∙ sym (ap (λ (x : DateValue). length (valueLines x)) (b3 .v4 .given .1)), omega arith)
+
+pub value-lines-length-spec : {M : Type 1} → statement M
+value-lines-length-spec =
+    tie.close
+    (tie.spec
+    enum-known-v
+    end-lines-length-requires
+    enum-known-v-2
+    end-lines-length-requires-2
+    enum-known-v-3
+    end-lines-length-requires-3
+    enum-known-v-4
+    end-lines-length-requires-4
+    end-lines-length-requires-5
+    add-result
+    returns
+    returns-2
+    returns-3
+    returns-4)

@@ -1,0 +1,61 @@
+use Rattle.writer.specs.Fields.{fieldsText}
+use Rattle.writer.specs.Texts.{panics}
+use Rattle.writer.proofs.Answered.{fits, refuses, done}
+use borrow.Author.Needs.{needs}
+use Rattle.writer.proofs.write_fields.Statement.{statement}
+use Rattle.writer.proofs.write_fields.Tie as tie
+
+fields-length-requires : tie.Need-fields-length-requires
+fields-length-requires c κs = search needs
+
+decide-requires : tie.Need-decide-requires
+decide-requires c κs = search needs
+
+enum-told : tie.Need-enum-told
+enum-told c = search needs
+
+put-value-lines-requires : tie.Need-put-value-lines-requires
+unfolding fieldsText
+put-value-lines-requires c κs =
+    let b1 = c .before in
+    let b3 = b1 .before .before in
+    let b4 = b3 .before in
+    let s = b4 .before .before in
+    fits (panics (s .args .d)) (fieldsText (s .args .d)) (s .args .out .now) (b4 .fields-length .ensures) (b3 .decide .ensures) (b1 .enum-told .given .1)
+
+enum-known-e : tie.Need-enum-known-e
+enum-known-e c = search needs
+
+same-length : tie.Need-same-length
+same-length c = search needs
+
+returns : tie.Need-returns
+unfolding fieldsText
+returns c =
+    let b2 = c .before .before in
+    let b4 = b2 .before .before in
+    let b6 = b4 .before .before in
+    let b7 = b6 .before in
+    let s = b7 .before .before in
+    done (panics (s .args .d)) (fieldsText (s .args .d)) (s .args .out .now) (b7 .fields-length .ensures) (b6 .decide .ensures) (b4 .enum-told .given .1) (b2 .put-value-lines .ensures)
+
+returns-2 : tie.Need-returns-2
+returns-2 c =
+    let b1 = c .before in
+    let b3 = b1 .before .before in
+    let b4 = b3 .before in
+    let s = b4 .before .before in
+    refuses (panics (s .args .d)) (fieldsText (s .args .d)) (s .args .out .now) (b4 .fields-length .ensures) (b3 .decide .ensures) (b1 .e .given .1)
+
+pub write-fields-spec : {M : Type 1} → statement M
+write-fields-spec =
+    tie.close
+    (tie.spec
+    fields-length-requires
+    decide-requires
+    enum-told
+    put-value-lines-requires
+    enum-known-e
+    same-length
+    returns
+    returns-2)

@@ -1,0 +1,15 @@
+use Rattle.writer.specs.Texts.{writtenMonth}
+use mathlib.Core.Path.{refl}
+use borrow.Author.Needs.{needs}
+use Rattle.writer.proofs.written_month.Statement.{statement}
+use Rattle.writer.proofs.written_month.Tie as tie
+
+add-t2 : tie.Need-add-t2
+add-t2 c = search needs
+
+returns : tie.Need-returns
+unfolding writtenMonth
+returns c = refl
+
+pub written-month-spec : {M : Type 1} → statement M
+written-month-spec = tie.close (tie.spec add-t2 returns)

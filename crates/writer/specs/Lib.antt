@@ -1,0 +1,5 @@
+pub mod Ascii
+pub mod Numbers
+pub mod Texts
+pub mod Fields
+pub mod Answers
