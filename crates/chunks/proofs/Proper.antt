@@ -175,7 +175,7 @@ proper-chunk w kind t r =
     (λ _. proper-append (proper-ascii 0x24 (lit< tt)) (proper-append (proper-read t r) (proper-ascii 0x24 (lit< tt)))))
 
 -- no fault in either part
-else-clean : (f : Checked) {g : Checked} → orElse f g ≡ Clean → (f ≡ Clean) × (g ≡ Clean)
+pub else-clean : (f : Checked) {g : Checked} → orElse f g ≡ Clean → (f ≡ Clean) × (g ≡ Clean)
 unfolding orElse
 else-clean Clean h = (refl, h)
 else-clean (Faulty e) h = absurd (faulty-not h)

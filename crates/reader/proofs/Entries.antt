@@ -5,19 +5,16 @@ use mathlib.Core.Bool.{Bool, true, false}
 use mathlib.Core.List.{List}
 use Prim.Native.Nat.{ℕ, _≤_}
 use native.Mathlib.Omega.{arith}
-use lib.ListN.{length, take}
+use lib.ListN.{length}
 use Rattle.refusals.specs.declared.Refusal.{Refusal}
 use Rattle.chunks.specs.declared.Checked.the-variants.{Clean, Faulty}
 use Rattle.chunks.specs.declared.Formatted.{Formatted}
 use Rattle.chunks.specs.declared.Formatted.the-variants.{Text, Refused as NotFormatted}
 use Rattle.chunks.specs.Chunks.{chunksOf, spanOf, isShort}
 use Rattle.chunks.specs.Check.{checked}
-use Rattle.chunks.specs.Format.{formatted}
-use Rattle.chunks.specs.Upper.{uppercase}
 use Rattle.chunks.specs.Answer.{textOf, roomOf, answer, stored}
 use Rattle.chunks.proofs.Answers.{Given, given, not-given, room-is, raised-text, plain-as-is}
 use Rattle.chunks.proofs.Room.{room-bound}
-use Rattle.datefield.specs.declared.ReadDate.{ReadDate}
 use Rattle.datefield.specs.declared.ReadDate.the-variants.{Refused}
 use Rattle.datefield.specs.Value.{dateText}
 use Rattle.strict.specs.Matcher.{strict}

@@ -6,12 +6,43 @@ ghost use Prim.Native.Nat.{_≤_};
 ghost use lib.ListN.{length};
 ghost use Rattle.chunks.specs.Chunks.{isShort};
 ghost use Rattle.chunks.specs.Answer.{roomOf};
+ghost use Rattle.chunks.specs.Chunks.{chunksOf, spanOf};
+ghost use Rattle.chunks.specs.Check.{checked};
+ghost use Rattle.chunks.specs.Format.{formatted};
+ghost use Rattle.fields.specs.Month.{monthField};
+ghost use Rattle.fields.specs.Day.{dayField};
 ghost use Rattle.reader.specs.Field as field;
+ghost use Rattle.reader.specs.Fields as fieldset;
+ghost use Rattle.reader.specs.Readable.{Readable};
+use chunks::Checked;
 use chunks::Formatted;
 use datefield::ReadDate;
+use dates::Date;
+use dates::Datetime;
+use dates::OptionDay;
+use dates::OptionMonth;
+use dates::OptionTime;
+use fields::ReadDay;
+use fields::ReadDayField;
+use fields::ReadMonth;
+use fields::ReadYear;
 use refusals::FileSpan;
 use refusals::Kind;
+use refusals::Refusal;
+use scanner::Cursor;
 use strict::Matched;
+
+// The year of a year list, or why there is none.
+enum FieldYear {
+    YearIs(i32),
+    NoFieldYear(Refusal),
+}
+
+// A month and a day, each absent or stored, or why there are none.
+enum Parts {
+    PartsAre(OptionMonth, OptionDay),
+    NoParts(Refusal),
+}
 
 // A date field, formatted into a buffer with room for it.
 fn parse_in(bytes: &[u8], table: &[u64], buf: &mut [u8]) -> ReadDate
@@ -71,4 +102,246 @@ pub fn parse_strict(bytes: &[u8], table: &[u64]) -> ReadDate
     }
     let mut buf = [0u8; 4224];
     parse_strict_in(bytes, table, &mut buf)
+}
+
+// The checks of three lists: each that is present in full, year, month, day, before any is read.
+fn check_fields(
+    year: &[u8],
+    year_table: &[u64],
+    has_month: bool,
+    month: &[u8],
+    month_table: &[u64],
+    has_day: bool,
+    day: &[u8],
+    day_table: &[u64],
+) -> Checked
+    ensures { λ r. ⌜ r ≡ fieldset.fieldsChecked (checked (now (year .entry)) (now («year_table» .entry))) «has_month» (checked (now (month .entry)) (now («month_table» .entry))) «has_day» (checked (now (day .entry)) (now («day_table» .entry))) ⌝ }
+{
+    match chunks::check(year, year_table) {
+        Checked::Clean => {
+            if has_month {
+                return check_parts(month, month_table, has_day, day, day_table);
+            }
+            Checked::Clean
+        }
+        Checked::Faulty(e) => Checked::Faulty(e),
+    }
+}
+
+// The same of the month list and the day list.
+fn check_parts(
+    month: &[u8],
+    month_table: &[u64],
+    has_day: bool,
+    day: &[u8],
+    day_table: &[u64],
+) -> Checked
+    ensures { λ r. ⌜ r ≡ fieldset.partsChecked (checked (now (month .entry)) (now («month_table» .entry))) «has_day» (checked (now (day .entry)) (now («day_table» .entry))) ⌝ }
+{
+    match chunks::check(month, month_table) {
+        Checked::Clean => {
+            if has_day {
+                return chunks::check(day, day_table);
+            }
+            Checked::Clean
+        }
+        Checked::Faulty(e) => Checked::Faulty(e),
+    }
+}
+
+// A year list that is clean, formatted into a buffer with room for it.
+fn year_of(bytes: &[u8], table: &[u64], buf: &mut [u8]) -> FieldYear
+    requires { ⌜ Readable (now bytes) (now table) (length (now buf)) ⌝ }
+    ensures { λ r. ⌜ r ≡ fieldset.yearOf (now (bytes .entry)) (now (table .entry)) ⌝ }
+{
+    match chunks::format_verbatim(bytes, table, buf) {
+        Formatted::Text(n) => moved_year(fields::get_year(&buf[..n]), chunks::span(table)),
+        Formatted::Refused(e) => FieldYear::NoFieldYear(e),
+    }
+}
+
+// A year; a refusal of it is moved by the span.
+fn moved_year(r: ReadYear, span: FileSpan) -> FieldYear
+    ensures { λ q. ⌜ q ≡ fieldset.movedYear span r ⌝ }
+{
+    match r {
+        ReadYear::Year(y) => FieldYear::YearIs(y),
+        ReadYear::NoYear(e) => FieldYear::NoFieldYear(refusals::offset(e, span.0)),
+    }
+}
+
+// The month of a text, and the day that it holds.
+fn month_text(s: &[u8]) -> Parts
+    ensures { λ r. ⌜ r ≡ fieldset.monthText (now (s .entry)) ⌝ }
+{
+    match fields::month_field(s) {
+        ReadMonth::MonthRead { month, next } => {
+            match fields::day_in_month_field(s, next) {
+                ReadDay::DayRead(d) => Parts::PartsAre(month, d),
+                ReadDay::NoDayRead(e) => Parts::NoParts(refusals::unshifted(e)),
+            }
+        }
+        ReadMonth::NoMonthRead(e) => Parts::NoParts(refusals::unshifted(e)),
+    }
+}
+
+// A month list that is clean, without a day list.
+fn month_alone(bytes: &[u8], table: &[u64], buf: &mut [u8]) -> Parts
+    requires { ⌜ Readable (now bytes) (now table) (length (now buf)) ⌝ }
+    ensures { λ r. ⌜ r ≡ fieldset.monthAlone (now (bytes .entry)) (now (table .entry)) ⌝ }
+{
+    match chunks::format_verbatim(bytes, table, buf) {
+        Formatted::Text(n) => month_text(&buf[..n]),
+        Formatted::Refused(e) => Parts::NoParts(e),
+    }
+}
+
+// The month of a clean list.
+fn month_of(bytes: &[u8], table: &[u64], buf: &mut [u8]) -> ReadMonth
+    requires { ⌜ Readable (now bytes) (now table) (length (now buf)) ⌝ }
+    ensures { λ r. ⌜ r ≡ monthField (formatted (now (bytes .entry)) (now (table .entry))) ⌝ }
+{
+    match chunks::format_verbatim(bytes, table, buf) {
+        Formatted::Text(n) => fields::month_field(&buf[..n]),
+        Formatted::Refused(_) => ReadMonth::MonthRead {
+            month: OptionMonth::NoMonth,
+            next: Cursor(0),
+        },
+    }
+}
+
+// The day of a clean list.
+fn day_of(bytes: &[u8], table: &[u64], buf: &mut [u8]) -> ReadDayField
+    requires { ⌜ Readable (now bytes) (now table) (length (now buf)) ⌝ }
+    ensures { λ r. ⌜ r ≡ dayField (formatted (now (bytes .entry)) (now (table .entry))) (spanOf (chunksOf (now (table .entry)))) ⌝ }
+{
+    match chunks::format_verbatim(bytes, table, buf) {
+        Formatted::Text(n) => fields::day_field(&buf[..n], chunks::span(table)),
+        Formatted::Refused(e) => ReadDayField::NotGiven(e),
+    }
+}
+
+// A month list and a day list that are clean, read one after the other in the same buffer.
+fn month_and_day(
+    month: &[u8],
+    month_table: &[u64],
+    day: &[u8],
+    day_table: &[u64],
+    buf: &mut [u8],
+) -> Parts
+    requires { ⌜ Readable (now month) (now «month_table») (length (now buf)) ⌝ }
+    requires { ⌜ Readable (now day) (now «day_table») (length (now buf)) ⌝ }
+    ensures { λ r. ⌜ r ≡ fieldset.monthAndDay (now (month .entry)) (now («month_table» .entry)) (now (day .entry)) (now («day_table» .entry)) ⌝ }
+{
+    match month_of(month, month_table, buf) {
+        ReadMonth::MonthRead { month: m, next: _ } => match day_of(day, day_table, buf) {
+            ReadDayField::Given(d) => Parts::PartsAre(m, OptionDay::SomeDay(d)),
+            ReadDayField::NotGiven(e) => Parts::NoParts(e),
+        },
+        ReadMonth::NoMonthRead(e) => Parts::NoParts(refusals::unshifted(e)),
+    }
+}
+
+// The month and the day of lists that are clean, as far as they are present.
+fn parts_of(
+    has_month: bool,
+    month: &[u8],
+    month_table: &[u64],
+    has_day: bool,
+    day: &[u8],
+    day_table: &[u64],
+    buf: &mut [u8],
+) -> Parts
+    requires { ⌜ («has_month» ≡ true → Readable (now month) (now «month_table») (length (now buf))) ⌝ }
+    requires { ⌜ («has_month» ≡ true → «has_day» ≡ true → Readable (now day) (now «day_table») (length (now buf))) ⌝ }
+    ensures { λ r. ⌜ r ≡ fieldset.partsOf «has_month» (now (month .entry)) (now («month_table» .entry)) «has_day» (now (day .entry)) (now («day_table» .entry)) ⌝ }
+{
+    if has_month {
+        if has_day {
+            return month_and_day(month, month_table, day, day_table, buf);
+        }
+        return month_alone(month, month_table, buf);
+    }
+    Parts::PartsAre(OptionMonth::NoMonth, OptionDay::NoDay)
+}
+
+// The date of a year and its parts.
+fn dated(year: i32, parts: Parts) -> ReadDate
+    ensures { λ r. ⌜ r ≡ fieldset.dated year parts ⌝ }
+{
+    match parts {
+        Parts::PartsAre(m, d) => {
+            let atom = Datetime::new(year, m, d, OptionTime::NoTime);
+            ReadDate::Accepted(Date::from_datetime(atom))
+        }
+        Parts::NoParts(e) => ReadDate::Refused(e),
+    }
+}
+
+// Three lists that are clean, read one after the other in the same buffer.
+fn read_fields(
+    year: &[u8],
+    year_table: &[u64],
+    has_month: bool,
+    month: &[u8],
+    month_table: &[u64],
+    has_day: bool,
+    day: &[u8],
+    day_table: &[u64],
+    buf: &mut [u8],
+) -> ReadDate
+    requires { ⌜ Readable (now year) (now «year_table») (length (now buf)) ⌝ }
+    requires { ⌜ («has_month» ≡ true → Readable (now month) (now «month_table») (length (now buf))) ⌝ }
+    requires { ⌜ («has_month» ≡ true → «has_day» ≡ true → Readable (now day) (now «day_table») (length (now buf))) ⌝ }
+    ensures { λ r. ⌜ r ≡ fieldset.readFields (now (year .entry)) (now («year_table» .entry)) «has_month» (now (month .entry)) (now («month_table» .entry)) «has_day» (now (day .entry)) (now («day_table» .entry)) ⌝ }
+{
+    match year_of(year, year_table, buf) {
+        FieldYear::YearIs(y) => {
+            let parts = parts_of(has_month, month, month_table, has_day, day, day_table, buf);
+            dated(y, parts)
+        }
+        FieldYear::NoFieldYear(e) => ReadDate::Refused(e),
+    }
+}
+
+// The fields year, month and day. A list that is not present is not looked at, whatever is passed for it; nor is a day list without a
+// month list.
+pub fn parse_three_fields(
+    year: &[u8],
+    year_table: &[u64],
+    has_month: bool,
+    month: &[u8],
+    month_table: &[u64],
+    has_day: bool,
+    day: &[u8],
+    day_table: &[u64],
+) -> ReadDate
+    ensures { λ r. ⌜ r ≡ fieldset.threeFields (now (year .entry)) (now («year_table» .entry)) «has_month» (now (month .entry)) (now («month_table» .entry)) «has_day» (now (day .entry)) (now («day_table» .entry)) ⌝ }
+{
+    match check_fields(
+        year,
+        year_table,
+        has_month,
+        month,
+        month_table,
+        has_day,
+        day,
+        day_table,
+    ) {
+        Checked::Clean => {
+            let mut buf = [0u8; 4224];
+            read_fields(
+                year,
+                year_table,
+                has_month,
+                month,
+                month_table,
+                has_day,
+                day,
+                day_table,
+                &mut buf,
+            )
+        }
+        Checked::Faulty(e) => ReadDate::Refused(e),
+    }
 }

@@ -1,38 +1,26 @@
 use Rattle.datefield.specs.Value.{bothHalves, onHalf}
-use borrow.Author.Tests.{lt-ltb, le-ltb, le-leb, lt-leb, eq-eqb, ne-eqb}
 use borrow.Author.Needs.{needs}
 use Rattle.datefield.proofs.both_halves.Statement.{statement}
 use Rattle.datefield.proofs.both_halves.Tie as tie
-use Rattle.datefield.proofs.both_halves.Reads as reads
-use Rattle.datefield.proofs.both_halves.Lts as lts
-use Rattle.datefield.proofs.first_half.Reads as first-half-reads
-use Rattle.datefield.proofs.second_half.Reads as second-half-reads
 
--- src/lib.rt:112:11
 first-half-requires : tie.Need-first-half-requires
 first-half-requires c κs = search needs
 
--- src/lib.rt:113:24
 enum-known-a : tie.Need-enum-known-a
 enum-known-a c = search needs
 
--- src/lib.rt:113:36
 second-half-requires : tie.Need-second-half-requires
 second-half-requires c κs = search needs
 
--- src/lib.rt:114:28
 enum-known-b : tie.Need-enum-known-b
 enum-known-b c = search needs
 
--- src/lib.rt:115:30
 enum-known-e : tie.Need-enum-known-e
 enum-known-e c = search needs
 
--- src/lib.rt:117:26
 enum-known-e-2 : tie.Need-enum-known-e-2
 enum-known-e-2 c = search needs
 
--- src/lib.rt:108:1
 returns : tie.Need-returns
 unfolding bothHalves onHalf
 returns c =
@@ -42,7 +30,6 @@ returns c =
     let b7 = b5 .before .before in
     simp (← b7 .first-half .ensures, b5 .a .given .1, ← b3 .second-half .ensures, b1 .b .given .1)
 
--- src/lib.rt:108:1
 returns-2 : tie.Need-returns-2
 unfolding bothHalves onHalf
 returns-2 c =
@@ -52,7 +39,6 @@ returns-2 c =
     let b7 = b5 .before .before in
     simp (← b7 .first-half .ensures, b5 .a .given .1, ← b3 .second-half .ensures, b1 .e .given .1)
 
--- src/lib.rt:108:1
 returns-3 : tie.Need-returns-3
 unfolding bothHalves onHalf
 returns-3 c =

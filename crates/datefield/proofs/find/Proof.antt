@@ -6,8 +6,6 @@ use native.Mathlib.Omega.{arith}
 use mathlib.Core.Path.{_≡_}
 use Rattle.datefield.proofs.find.Statement.{statement}
 use Rattle.datefield.proofs.find.Tie as tie
-use Rattle.datefield.proofs.find.Reads as reads
-use Rattle.datefield.proofs.find.Lts as lts
 
 abbrev Inv-loop : tie.InvT-loop
 Inv-loop s b i₀ i = (i + firstOf b (drop i s) ≡ firstOf b s) × (i ≤ length s)

@@ -2,14 +2,9 @@ use lib.Seq.{length-take-le}
 use native.Mathlib.Omega.{arith}
 use mathlib.Core.Path.{sym}
 use Rattle.datefield.specs.Value.{firstHalf}
-use borrow.Author.Tests.{lt-ltb, le-ltb, le-leb, lt-leb, eq-eqb, ne-eqb}
 use borrow.Author.Needs.{needs}
 use Rattle.datefield.proofs.first_half.Statement.{statement}
 use Rattle.datefield.proofs.first_half.Tie as tie
-use Rattle.datefield.proofs.first_half.Reads as reads
-use Rattle.datefield.proofs.first_half.Lts as lts
-use Rattle.datefield.proofs.moved.Reads as moved-reads
-use Rattle.points.proofs.parse.Reads as parse-reads
 
 slice-aggregate-parse : tie.Need-slice-aggregate-parse
 slice-aggregate-parse c = sym (length-take-le _ _ (omega arith))

@@ -5,17 +5,9 @@ use Rattle.scanner.proofs.Parts.{rest}
 use Prim.Native.Nat.{_+_}
 use Rattle.chars.specs.Pick.{pick}
 use Rattle.datefield.specs.Value.{halves, onHalf}
-use borrow.Author.Tests.{lt-ltb, le-ltb, le-leb, lt-leb, eq-eqb, ne-eqb}
 use borrow.Author.Needs.{needs}
 use Rattle.datefield.proofs.halves.Statement.{statement}
 use Rattle.datefield.proofs.halves.Tie as tie
-use Rattle.datefield.proofs.halves.Reads as reads
-use Rattle.datefield.proofs.halves.Lts as lts
-use Rattle.datefield.proofs.both_halves.Reads as both-halves-reads
-use Rattle.datefield.proofs.first_half.Reads as first-half-reads
-use Rattle.datefield.proofs.is_open_range.Reads as is-open-range-reads
-use Rattle.datefield.proofs.second_half.Reads as second-half-reads
-use Rattle.refusals.proofs.refuse.Reads as refuse-reads
 
 slice-aggregate-is-open-range : tie.Need-slice-aggregate-is-open-range
 slice-aggregate-is-open-range c = sym (length-take-le _ _ (omega arith))

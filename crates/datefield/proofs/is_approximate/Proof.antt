@@ -1,16 +1,12 @@
 use Rattle.datefield.specs.Text.{isApproximate}
-use borrow.Author.Tests.{lt-ltb, le-ltb, le-leb, lt-leb, eq-eqb, ne-eqb}
+use borrow.Author.Tests.{eq-eqb, ne-eqb}
 use Rattle.datefield.proofs.is_approximate.Statement.{statement}
 use Rattle.datefield.proofs.is_approximate.Tie as tie
-use Rattle.datefield.proofs.is_approximate.Reads as reads
-use Rattle.datefield.proofs.is_approximate.Lts as lts
 
--- src/lib.rt:181:9
 returns : tie.Need-returns
 unfolding isApproximate
 returns c = simp (eq-eqb _ _ (c .if1 .taken))
 
--- src/lib.rt:177:1
 returns-2 : tie.Need-returns-2
 unfolding isApproximate
 returns-2 c = simp (ne-eqb _ _ (c .if1 .left))

@@ -1,20 +1,15 @@
 use Rattle.datefield.specs.Text.{isDots}
-use borrow.Author.Tests.{lt-ltb, le-ltb, le-leb, lt-leb, eq-eqb, ne-eqb}
+use borrow.Author.Tests.{eq-eqb, ne-eqb}
 use borrow.Author.Needs.{needs}
 use Rattle.datefield.proofs.is_dots.Statement.{statement}
 use Rattle.datefield.proofs.is_dots.Tie as tie
-use Rattle.datefield.proofs.is_dots.Reads as reads
-use Rattle.datefield.proofs.is_dots.Lts as lts
 
--- src/lib.rt:61:12
 shared-slice-read-if2 : tie.Need-shared-slice-read-if2
 shared-slice-read-if2 c = search needs
 
--- src/lib.rt:62:20
 shared-slice-read-result : tie.Need-shared-slice-read-result
 shared-slice-read-result c = search needs
 
--- src/lib.rt:62:13
 returns : tie.Need-returns
 unfolding isDots
 returns c =
@@ -22,14 +17,12 @@ returns c =
     let b3 = b1 .before .before in
     simp (eq-eqb _ _ (b3 .if1 .taken), eq-eqb _ _ (b1 .if2 .taken))
 
--- src/lib.rt:57:1
 returns-2 : tie.Need-returns-2
 unfolding isDots
 returns-2 c =
     let b2 = c .before .before in
     simp (eq-eqb _ _ (b2 .if1 .taken), ne-eqb _ _ (c .if2 .left))
 
--- src/lib.rt:57:1
 returns-3 : tie.Need-returns-3
 unfolding isDots
 returns-3 c = simp (ne-eqb _ _ (c .if1 .left))

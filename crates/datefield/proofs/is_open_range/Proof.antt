@@ -1,29 +1,20 @@
 use Rattle.datefield.specs.Text.{isOpen}
-use borrow.Author.Tests.{lt-ltb, le-ltb, le-leb, lt-leb, eq-eqb, ne-eqb}
 use borrow.Author.Needs.{needs}
 use Rattle.datefield.proofs.is_open_range.Statement.{statement}
 use Rattle.datefield.proofs.is_open_range.Tie as tie
-use Rattle.datefield.proofs.is_open_range.Reads as reads
-use Rattle.datefield.proofs.is_open_range.Lts as lts
-use Rattle.datefield.proofs.is_blank.Reads as is-blank-reads
-use Rattle.datefield.proofs.is_dots.Reads as is-dots-reads
 
--- src/lib.rt:72:8
 is-blank-requires : tie.Need-is-blank-requires
 is-blank-requires c κs = search needs
 
--- src/lib.rt:73:9
 returns : tie.Need-returns
 unfolding isOpen
 returns c =
     let b1 = c .before in
     simp (← b1 .is-blank .ensures, c .if1 .taken)
 
--- src/lib.rt:75:5
 is-dots-requires : tie.Need-is-dots-requires
 is-dots-requires c κs = search needs
 
--- src/lib.rt:69:1
 returns-2 : tie.Need-returns-2
 unfolding isOpen
 returns-2 c =

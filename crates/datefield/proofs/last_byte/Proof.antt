@@ -4,8 +4,6 @@ use mathlib.Core.Path.{refl}
 use borrow.Author.Needs.{needs}
 use Rattle.datefield.proofs.last_byte.Statement.{statement}
 use Rattle.datefield.proofs.last_byte.Tie as tie
-use Rattle.datefield.proofs.last_byte.Reads as reads
-use Rattle.datefield.proofs.last_byte.Lts as lts
 
 returns : tie.Need-returns
 returns c = last-none _ (c .if1 .taken)

@@ -1,27 +1,20 @@
 use Rattle.datefield.specs.Value.{marked}
-use borrow.Author.Tests.{lt-ltb, le-ltb, le-leb, lt-leb, eq-eqb, ne-eqb}
 use borrow.Author.Needs.{needs}
 use Rattle.datefield.proofs.marked.Statement.{statement}
 use Rattle.datefield.proofs.marked.Tie as tie
-use Rattle.datefield.proofs.marked.Reads as reads
-use Rattle.datefield.proofs.marked.Lts as lts
 
--- src/lib.rt:202:25
 enum-known-value : tie.Need-enum-known-value
 enum-known-value c = search needs
 
--- src/lib.rt:207:28
 enum-known-value-2 : tie.Need-enum-known-value-2
 enum-known-value-2 c = search needs
 
--- src/lib.rt:198:1
 returns : tie.Need-returns
 unfolding marked
 returns c =
     let b1 = c .before in
     simp (b1 .value .given .1)
 
--- src/lib.rt:198:1
 returns-2 : tie.Need-returns-2
 unfolding marked
 returns-2 c =

@@ -1,32 +1,23 @@
 use Rattle.datefield.specs.Value.{moved}
-use borrow.Author.Tests.{lt-ltb, le-ltb, le-leb, lt-leb, eq-eqb, ne-eqb}
 use borrow.Author.Needs.{needs}
 use Rattle.datefield.proofs.moved.Statement.{statement}
 use Rattle.datefield.proofs.moved.Tie as tie
-use Rattle.datefield.proofs.moved.Reads as reads
-use Rattle.datefield.proofs.moved.Lts as lts
-use Rattle.refusals.proofs.offset.Reads as offset-reads
 
--- src/lib.rt:83:26
 enum-known-p : tie.Need-enum-known-p
 enum-known-p c = search needs
 
--- src/lib.rt:84:28
 enum-known-p-2 : tie.Need-enum-known-p-2
 enum-known-p-2 c = search needs
 
--- src/lib.rt:84:51
 offset-requires : tie.Need-offset-requires
 offset-requires c κs = search needs
 
--- src/lib.rt:79:1
 returns : tie.Need-returns
 unfolding moved
 returns c =
     let b1 = c .before in
     simp (b1 .p .given .1)
 
--- src/lib.rt:79:1
 returns-2 : tie.Need-returns-2
 unfolding moved
 returns-2 c =

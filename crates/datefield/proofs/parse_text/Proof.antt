@@ -4,14 +4,9 @@ use native.Mathlib.Omega.{arith}
 use mathlib.Core.Path.{sym}
 use Rattle.datefield.specs.Text.{trimmed}
 use Rattle.datefield.specs.Value.{dateText}
-use borrow.Author.Tests.{lt-ltb, le-ltb, le-leb, lt-leb, eq-eqb, ne-eqb}
 use borrow.Author.Needs.{needs}
 use Rattle.datefield.proofs.parse_text.Statement.{statement}
 use Rattle.datefield.proofs.parse_text.Tie as tie
-use Rattle.datefield.proofs.parse_text.Reads as reads
-use Rattle.datefield.proofs.parse_text.Lts as lts
-use Rattle.datefield.proofs.read_trimmed.Reads as read-trimmed-reads
-use Rattle.strs.proofs.trim_end.Reads as trim-end-reads
 
 trim-end-requires : tie.Need-trim-end-requires
 trim-end-requires c κs = search needs

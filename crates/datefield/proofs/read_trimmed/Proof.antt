@@ -3,20 +3,9 @@ use Rattle.datefield.proofs.Finding.{uncertain-some, approximate-some}
 use lib.Seq.{length-take-le}
 use native.Mathlib.Omega.{arith}
 use mathlib.Core.Path.{sym, _∙_}
-use Rattle.chars.specs.Pick.{pick}
-use Rattle.datefield.specs.Text.{unmarked}
-use Rattle.datefield.specs.Value.{trimmedDate}
-use borrow.Author.Tests.{lt-ltb, le-ltb, le-leb, lt-leb, eq-eqb, ne-eqb}
 use borrow.Author.Needs.{needs}
 use Rattle.datefield.proofs.read_trimmed.Statement.{statement}
 use Rattle.datefield.proofs.read_trimmed.Tie as tie
-use Rattle.datefield.proofs.read_trimmed.Reads as reads
-use Rattle.datefield.proofs.read_trimmed.Lts as lts
-use Rattle.datefield.proofs.is_approximate.Reads as is-approximate-reads
-use Rattle.datefield.proofs.is_uncertain.Reads as is-uncertain-reads
-use Rattle.datefield.proofs.last_byte.Reads as last-byte-reads
-use Rattle.datefield.proofs.marked.Reads as marked-reads
-use Rattle.datefield.proofs.read_value.Reads as read-value-reads
 
 last-byte-requires : tie.Need-last-byte-requires
 last-byte-requires c κs = search needs

@@ -1,39 +1,25 @@
 use Rattle.chars.specs.Pick.{pick}
 use Rattle.datefield.specs.Value.{value, xRange, onHalf}
-use borrow.Author.Tests.{lt-ltb, le-ltb, le-leb, lt-leb, eq-eqb, ne-eqb}
+use borrow.Author.Tests.{lt-ltb, le-ltb}
 use borrow.Author.Needs.{needs}
 use Rattle.datefield.proofs.read_value.Statement.{statement}
 use Rattle.datefield.proofs.read_value.Tie as tie
-use Rattle.datefield.proofs.read_value.Reads as reads
-use Rattle.datefield.proofs.read_value.Lts as lts
-use Rattle.datefield.proofs.find.Reads as find-reads
-use Rattle.datefield.proofs.halves.Reads as halves-reads
-use Rattle.datefield.proofs.moved.Reads as moved-reads
-use Rattle.points.proofs.parse.Reads as parse-reads
-use Rattle.refusals.proofs.offset.Reads as offset-reads
-use Rattle.xranges.proofs.range_dates.Reads as range-dates-reads
 
--- src/lib.rt:151:9
 find-requires : tie.Need-find-requires
 find-requires c κs = search needs
 
--- src/lib.rt:153:22
 range-dates-requires : tie.Need-range-dates-requires
 range-dates-requires c κs = search needs
 
--- src/lib.rt:154:30
 enum-known-a : tie.Need-enum-known-a
 enum-known-a c = search needs
 
--- src/lib.rt:155:32
 enum-known-e : tie.Need-enum-known-e
 enum-known-e c = search needs
 
--- src/lib.rt:155:57
 offset-requires : tie.Need-offset-requires
 offset-requires c κs = search needs
 
--- src/lib.rt:153:9
 returns : tie.Need-returns
 unfolding value xRange onHalf pick
 returns c =
@@ -43,7 +29,6 @@ returns c =
     let b5 = b4 .before in
     simp (← b5 .find .ensures, lt-ltb _ _ (b4 .if1 .taken), ← b3 .range-dates .ensures, b1 .a .given .1)
 
--- src/lib.rt:153:9
 returns-2 : tie.Need-returns-2
 unfolding value xRange onHalf pick
 returns-2 c =
@@ -53,15 +38,12 @@ returns-2 c =
     let b6 = b5 .before in
     simp (← b6 .find .ensures, lt-ltb _ _ (b5 .if1 .taken), ← b4 .range-dates .ensures, b2 .e .given .1, ← c .offset .ensures)
 
--- src/lib.rt:158:9
 find-requires-2 : tie.Need-find-requires-2
 find-requires-2 c κs = search needs
 
--- src/lib.rt:160:9
 halves-requires : tie.Need-halves-requires
 halves-requires c κs = search needs
 
--- src/lib.rt:160:9
 returns-3 : tie.Need-returns-3
 unfolding value xRange onHalf pick
 returns-3 c =
@@ -71,23 +53,18 @@ returns-3 c =
     let b4 = b3 .before in
     simp (← b4 .find .ensures, le-ltb _ _ (b3 .if1 .left), ← b2 .find2 .ensures, lt-ltb _ _ (b1 .if2 .taken), ← c .halves .ensures)
 
--- src/lib.rt:162:17
 parse-requires : tie.Need-parse-requires
 parse-requires c κs = search needs
 
--- src/lib.rt:162:11
 moved-requires : tie.Need-moved-requires
 moved-requires c κs = search needs
 
--- src/lib.rt:163:24
 enum-known-d : tie.Need-enum-known-d
 enum-known-d c = search needs
 
--- src/lib.rt:164:26
 enum-known-e-2 : tie.Need-enum-known-e-2
 enum-known-e-2 c = search needs
 
--- src/lib.rt:147:1
 returns-4 : tie.Need-returns-4
 unfolding value xRange onHalf pick
 returns-4 c =
@@ -100,7 +77,6 @@ returns-4 c =
     let b8 = b7 .before in
     simp (← b8 .find .ensures, le-ltb _ _ (b7 .if1 .left), ← b6 .find2 .ensures, le-ltb _ _ (b5 .if2 .left), ← b4 .parse .ensures, ← b3 .moved .ensures, b1 .d .given .1)
 
--- src/lib.rt:147:1
 returns-5 : tie.Need-returns-5
 unfolding value xRange onHalf pick
 returns-5 c =

@@ -1,48 +1,34 @@
 use Rattle.scanner.proofs.Parts.{rest}
 use Prim.Native.Nat.{_+_}
 use Rattle.datefield.specs.Value.{secondHalf, moved}
-use borrow.Author.Tests.{lt-ltb, le-ltb, le-leb, lt-leb, eq-eqb, ne-eqb}
 use borrow.Author.Needs.{needs}
 use Rattle.datefield.proofs.second_half.Statement.{statement}
 use Rattle.datefield.proofs.second_half.Tie as tie
-use Rattle.datefield.proofs.second_half.Reads as reads
-use Rattle.datefield.proofs.second_half.Lts as lts
-use Rattle.points.proofs.parse.Reads as parse-reads
-use Rattle.refusals.proofs.offset_second.Reads as offset-second-reads
 
--- src/lib.rt:101:28
 add-parse : tie.Need-add-parse
 add-parse c = search needs
 
--- src/lib.rt:101:25
 sub-parse : tie.Need-sub-parse
 sub-parse c = search needs
 
--- src/lib.rt:101:25
 part-parse-start : tie.Need-part-parse-start
 part-parse-start c = search needs
 
--- src/lib.rt:101:25
 part-parse-end : tie.Need-part-parse-end
 part-parse-end c = search needs
 
--- src/lib.rt:101:11
 parse-requires : tie.Need-parse-requires
 parse-requires c κs = search needs
 
--- src/lib.rt:102:26
 enum-known-d : tie.Need-enum-known-d
 enum-known-d c = search needs
 
--- src/lib.rt:103:28
 enum-known-e : tie.Need-enum-known-e
 enum-known-e c = search needs
 
--- src/lib.rt:103:51
 offset-second-requires : tie.Need-offset-second-requires
 offset-second-requires c κs = search needs
 
--- src/lib.rt:97:1
 returns : tie.Need-returns
 unfolding secondHalf moved
 returns c =
@@ -52,7 +38,6 @@ returns c =
     let e = rw (rest (a .s .now) (a .slash + 1)) at (b3 .parse .ensures) in
     simp (← e, b1 .d .given .1)
 
--- src/lib.rt:97:1
 returns-2 : tie.Need-returns-2
 unfolding secondHalf moved
 returns-2 c =

@@ -2,9 +2,6 @@ use Rattle.reader.proofs.Entries.{large-room, small-room}
 use borrow.Author.Needs.{needs}
 use Rattle.reader.proofs.parse.Statement.{statement}
 use Rattle.reader.proofs.parse.Tie as tie
-use Rattle.reader.proofs.parse.Reads as reads
-use Rattle.reader.proofs.parse.Lts as lts
-use Rattle.reader.proofs.parse_in.Reads as parse-in-reads
 
 slice-aggregate-parse-in : tie.Need-slice-aggregate-parse-in
 slice-aggregate-parse-in c = search needs

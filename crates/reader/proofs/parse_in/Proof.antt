@@ -5,11 +5,6 @@ use mathlib.Core.Path.{sym, _∙_}
 use borrow.Author.Needs.{needs}
 use Rattle.reader.proofs.parse_in.Statement.{statement}
 use Rattle.reader.proofs.parse_in.Tie as tie
-use Rattle.reader.proofs.parse_in.Reads as reads
-use Rattle.reader.proofs.parse_in.Lts as lts
-use Rattle.chunks.proofs.format_uppercase.Reads as format-uppercase-reads
-use Rattle.chunks.proofs.span.Reads as span-reads
-use Rattle.datefield.proofs.parse_text.Reads as parse-text-reads
 
 format-uppercase-requires : tie.Need-format-uppercase-requires
 format-uppercase-requires c κs = search needs

@@ -2,9 +2,6 @@ use Rattle.reader.proofs.Entries.{large-room, small-room}
 use borrow.Author.Needs.{needs}
 use Rattle.reader.proofs.parse_strict.Statement.{statement}
 use Rattle.reader.proofs.parse_strict.Tie as tie
-use Rattle.reader.proofs.parse_strict.Reads as reads
-use Rattle.reader.proofs.parse_strict.Lts as lts
-use Rattle.reader.proofs.parse_strict_in.Reads as parse-strict-in-reads
 
 slice-aggregate-parse-strict-in : tie.Need-slice-aggregate-parse-strict-in
 slice-aggregate-parse-strict-in c = search needs

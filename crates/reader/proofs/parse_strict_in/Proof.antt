@@ -5,11 +5,6 @@ use mathlib.Core.Path.{sym, _∙_}
 use borrow.Author.Needs.{needs}
 use Rattle.reader.proofs.parse_strict_in.Statement.{statement}
 use Rattle.reader.proofs.parse_strict_in.Tie as tie
-use Rattle.reader.proofs.parse_strict_in.Reads as reads
-use Rattle.reader.proofs.parse_strict_in.Lts as lts
-use Rattle.chunks.proofs.format_verbatim.Reads as format-verbatim-reads
-use Rattle.reader.proofs.strictly.Reads as strictly-reads
-use Rattle.strict.proofs.match_text.Reads as match-text-reads
 
 format-verbatim-requires : tie.Need-format-verbatim-requires
 format-verbatim-requires c κs = search needs

@@ -1,0 +1,54 @@
+-- Three lists: what each call that formats one of them comes to, and what a check of all of them says.
+-- Assumes nothing.
+use mathlib.Core.Path.{_≡_, refl, _∙_}
+use mathlib.Core.Bool.{Bool, true, false}
+use mathlib.Core.List.{List}
+use Prim.Native.Nat.{ℕ}
+use Rattle.chars.specs.Pick.{pick}
+use Rattle.chunks.specs.declared.Checked.{Checked}
+use Rattle.chunks.specs.declared.Checked.the-variants.{Clean}
+use Rattle.chunks.specs.Chunks.{chunksOf, spanOf}
+use Rattle.chunks.specs.Check.{checked}
+use Rattle.chunks.specs.Format.{formatted}
+use Rattle.chunks.specs.Answer.{textOf}
+use Rattle.chunks.proofs.Answers.{plain-as-is}
+use Rattle.chunks.proofs.Proper.{else-clean}
+use Rattle.fields.specs.Year.{getYear}
+use Rattle.reader.specs.Fields.{partsChecked, fieldsChecked, movedYear, yearOf, monthText, monthAlone}
+use Rattle.reader.specs.Readable.{Readable}
+use Rattle.reader.proofs.Entries.{large-room}
+
+-- a text that was formatted as it is
+pub as-is : (b table : List ℕ) {t : List ℕ} → t ≡ textOf false b table → t ≡ formatted b table
+as-is b table e = e ∙ plain-as-is b table {u = false} refl
+
+module _ (b table : List ℕ) {t : List ℕ} (e : t ≡ textOf false b table) where
+  pub year-clean : movedYear (spanOf (chunksOf table)) (getYear t) ≡ yearOf b table
+  unfolding yearOf
+  year-clean = rw (as-is b table e)
+
+  pub month-clean : monthText t ≡ monthAlone b table
+  unfolding monthAlone
+  month-clean = rw (as-is b table e)
+
+-- a clean list, read with the large array
+pub readable : (b table : List ℕ) → checked b table ≡ Clean → Readable b table 4224
+readable b table e = record { clean = e; roomy = large-room b table }
+
+-- what a check of three lists that finds nothing says of each
+module _ (y : Checked) (hm : Bool) (m : Checked) (hd : Bool) (d : Checked) (e : fieldsChecked y hm m hd d ≡ Clean) where
+  pub year-checked : y ≡ Clean
+  unfolding fieldsChecked
+  year-checked = else-clean y e .0
+
+  parts-checked : hm ≡ true → partsChecked m hd d ≡ Clean
+  unfolding fieldsChecked pick
+  parts-checked h = rw h at (else-clean y e .1)
+
+  pub month-checked : hm ≡ true → m ≡ Clean
+  unfolding partsChecked
+  month-checked h = else-clean m (parts-checked h) .0
+
+  pub day-checked : hm ≡ true → hd ≡ true → d ≡ Clean
+  unfolding partsChecked pick
+  day-checked h k = rw k at (else-clean m (parts-checked h) .1)
