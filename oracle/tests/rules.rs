@@ -1,0 +1,436 @@
+//! The sample, the examples and the places that the rules name.
+//!
+//! Unless said otherwise a list is one Normal chunk with span start 100.
+
+use oracle::make::{hex, normal, one, piece, spread, three, Piece};
+use oracle::{describe_answer, Options, Oracle};
+
+fn raw_with(options: Options, line: &str) -> String {
+    let mut out = Vec::new();
+    Oracle::new(options).answer(line.as_bytes(), &mut out);
+    String::from_utf8(out).unwrap()
+}
+
+fn raw(line: &str) -> String {
+    raw_with(Options::default(), line)
+}
+
+fn words(frame: &[u8]) -> String {
+    describe_answer(raw(&hex(frame)).as_bytes())
+}
+
+/// The ported reader's answer to a date field.
+fn date(text: &str) -> String {
+    words(&one(1, &[normal(100, text)]))
+}
+
+/// The answer to fields as lists of one chunk each.
+fn fields(year: &str, month: Option<&str>, day: Option<&str>) -> String {
+    let list = |text: &str| vec![normal(100, text)];
+    let (month, day) = (month.map(list), day.map(list));
+    words(&three(&list(year), month.as_deref(), day.as_deref()))
+}
+
+fn year(text: &str) -> String {
+    fields(text, None, None)
+}
+
+fn month(text: &str) -> String {
+    fields("2000", Some(text), None)
+}
+
+fn refused(number: u8, start: u64, end: u64) -> String {
+    let answer = format!("{number:02x}{start:016x}{end:016x}");
+    describe_answer(answer.as_bytes())
+}
+
+#[track_caller]
+fn same(table: &[(String, String)]) {
+    for (i, (got, wanted)) in table.iter().enumerate() {
+        assert_eq!(got, wanted, "entry {i}");
+    }
+}
+
+fn accepted(text: &str) -> String {
+    text.to_string()
+}
+
+#[test]
+fn sample() {
+    assert_eq!(raw("01010003000000000000000334393f"), "00000100000801ffff00000000000000323034393f");
+    assert_eq!(raw("01010003000000000000000334393F"), "00000100000801ffff00000000000000323034393f");
+    assert_eq!(raw("zz"), "0e00000000000000000000000000000000");
+}
+
+#[test]
+fn examples_to_prove() {
+    same(&[
+        (date("49"), accepted("At marks 0, year 2049, \"2049\"")),
+        (date("50"), accepted("At marks 0, year 1950, \"1950\"")),
+        (date("0049"), accepted("At marks 0, year 49, \"0049\"")),
+        (date("-12"), accepted("At marks 0, year 1988, \"1988\"")),
+        (date("2000-02-29"), accepted("At marks 0, year 2000 month 1 day 28, \"2000-02-29\"")),
+        (date("1900-02-29"), refused(2, 100, 110)),
+        (date("../.."), refused(1, 100, 105)),
+        (date("19XX/2005"), accepted("Between marks 0, year 1900, year 1999, \"1900/1999\"")),
+        (
+            date("2000-02-XX"),
+            accepted(
+                "Between marks 0, year 2000 month 1 day 0, year 2000 month 1 day 30, \
+                 \"2000-02-01/2000-02-31\"",
+            ),
+        ),
+        (year("49"), accepted("At marks 0, year 49, \"0049\"")),
+        (year("1000 BC"), accepted("At marks 0, year -999, \"-0999\"")),
+        (year("0 AD"), refused(8, 100, 104)),
+        (year("- 5"), refused(9, 0, 0)),
+        (month("13"), accepted("At marks 0, year 2000 month 12, \"2000-13\"")),
+    ]);
+}
+
+#[test]
+fn rules_of_the_date_field() {
+    same(&[
+        // 1 and 2
+        (date("2000?"), accepted("At marks 1, year 2000, \"2000?\"")),
+        (date("2000~"), accepted("At marks 2, year 2000, \"2000~\"")),
+        (date("2000%"), accepted("At marks 3, year 2000, \"2000%\"")),
+        (date("2000? "), accepted("At marks 1, year 2000, \"2000?\"")),
+        (date("2000??"), refused(7, 104, 104)),
+        (date("2000/.."), accepted("After marks 0, year 2000, \"2000/..\"")),
+        (date("../2000"), accepted("Before marks 0, year 2000, \"../2000\"")),
+        (date("2001/2000"), accepted("Between marks 0, year 2001, year 2000, \"2001/2000\"")),
+        // 3
+        (date("-99"), accepted("At marks 0, year 1901, \"1901\"")),
+        (date("- 2000"), accepted("At marks 0, year -2000, \"-2000\"")),
+        (date("123"), refused(7, 100, 103)),
+        (
+            date("2000-1-1T1:2:3z"),
+            accepted("At marks 0, year 2000 month 0 day 0 time 1:2:3 UTC, \"2000-01-01\""),
+        ),
+        (date("2000-01-01T10+02"), refused(7, 113, 113)),
+        // 4
+        (date("½"), refused(9, 0, 0)),
+        (date("1½"), refused(7, 100, 103)),
+        (date("1½2"), refused(9, 0, 0)),
+        (date("2000-½"), refused(9, 0, 0)),
+        // X ranges
+        (date("199X"), accepted("Between marks 0, year 1990, year 1999, \"1990/1999\"")),
+        (
+            date("2000-XX-XX"),
+            accepted("Between marks 0, year 2000 month 0, year 2000 month 11, \"2000-01/2000-12\""),
+        ),
+        (
+            date("2000-XX-XX q"),
+            accepted("Between marks 0, year 2000 month 0, year 2000 month 11, \"2000-01/2000-12\""),
+        ),
+        (date("12345X"), refused(9, 0, 0)),
+        (date("2000-00-XX"), refused(9, 0, 0)),
+    ]);
+}
+
+#[test]
+fn places_as_the_rust() {
+    same(&[
+        (date(" 123"), refused(7, 100, 104)),
+        (date("2000.1"), refused(7, 104, 104)),
+        (date("2000-  13"), refused(3, 105, 109)),
+        (date("2000- -01"), refused(7, 105, 106)),
+        (date("2000-02- 30"), refused(2, 100, 111)),
+        (date("2000-01-01q"), refused(7, 100, 110)),
+        (date("2000-01-01T10:20:30é"), refused(7, 119, 121)),
+        (date("1XXX"), refused(6, 100, 101)),
+        (date("2000X"), refused(6, 100, 105)),
+        (date("2000-XX q"), refused(7, 108, 108)),
+        (year("5 ADx"), refused(7, 102, 104)),
+        (year("-5 BCx"), refused(7, 103, 105)),
+        (year("5 AD,"), refused(7, 100, 104)),
+        // The day field: the list's span.
+        (fields("5", Some("1"), Some("0")), refused(2, 100, 101)),
+        (fields("5", Some("1"), Some(" 32 ")), refused(2, 100, 104)),
+        (fields("5", Some("1"), Some("q")), refused(4, 100, 101)),
+    ]);
+}
+
+#[test]
+fn point_1_day_fields_that_are_no_number() {
+    let day = |text: &str, start, end| {
+        let day = [Piece { kind: 0, start, end, text: text.into() }];
+        words(&three(&[normal(100, "5")], Some(&[normal(100, "1")]), Some(&day)))
+    };
+    same(&[
+        (day("x", 5, 5), refused(5, 5, 5)),
+        (day("", 5, 9), refused(4, 5, 9)),
+        (day("x", 9, 5), refused(5, 9, 5)),
+    ]);
+}
+
+#[test]
+fn point_2_days_in_the_month_field() {
+    let july = "At marks 0, year 2000 month 6, \"2000-07\"";
+    let july4 = "At marks 0, year 2000 month 6 day 3, \"2000-07-04\"";
+    same(&[
+        (month("jul-"), refused(5, 4, 4)),
+        (month("jul\u{a0}"), refused(5, 5, 5)),
+        (month("jul "), accepted(july)),
+        (month("jul,4"), accepted(july)),
+        (month("jul-32"), refused(2, 4, 6)),
+        (month("jul-4"), accepted(july4)),
+        (month("jul 4"), accepted(july4)),
+        (month("jul -\u{a0}-4,"), accepted(july4)),
+        (month("jul-256"), refused(9, 0, 0)),
+        (month("-4"), accepted("At marks 0, year 2000 day 3, \"2000\"")),
+    ]);
+    // Not shifted, whatever the span.
+    for start in [0, 7, u32::MAX] {
+        let list = [normal(start, "jul-32")];
+        assert_eq!(words(&three(&[normal(100, "5")], Some(&list), None)), refused(2, 4, 6));
+    }
+}
+
+#[test]
+fn point_3_abbreviations() {
+    let names = [
+        "january",
+        "february",
+        "march",
+        "april",
+        "may",
+        "june",
+        "july",
+        "august",
+        "september",
+        "october",
+        "november",
+        "december",
+    ];
+    for (i, name) in names.iter().enumerate() {
+        let wanted = format!("At marks 0, year 2000 month {i}, \"2000-{:02}\"", i + 1);
+        for len in 1..=name.len() {
+            let known = len == 3 || len == name.len() || &name[..len] == "sept";
+            let absent = "At marks 0, year 2000, \"2000\"".to_string();
+            let wanted = if known { &wanted } else { &absent };
+            let lower = name[..len].to_string();
+            let mixed: String = lower
+                .char_indices()
+                .map(|(i, c)| if i % 2 == 0 { c.to_ascii_uppercase() } else { c })
+                .collect();
+            for text in [&lower, &lower.to_uppercase(), &mixed] {
+                assert_eq!(&month(text), wanted, "{text}");
+            }
+        }
+    }
+    assert_eq!(month("febr"), "At marks 0, year 2000, \"2000\"");
+}
+
+#[test]
+fn point_4_behind_an_era() {
+    same(&[
+        (year("5 AD "), refused(7, 100, 104)),
+        (year("5 BC "), accepted("At marks 0, year -4, \"-0004\"")),
+        (year("5 "), accepted("At marks 0, year 5, \"0005\"")),
+        (year("5 BC,x"), accepted("At marks 0, year -4, \"-0004\"")),
+        (year("-5 AD"), refused(7, 100, 105)),
+        (year("-0 AD"), refused(7, 100, 105)),
+        (year("- x"), refused(7, 100, 102)),
+        (year("- 12345"), refused(6, 100, 107)),
+        (year("- 5 ADx"), refused(9, 0, 0)),
+    ]);
+}
+
+#[test]
+fn point_5_nothing_is_trimmed_again() {
+    same(&[
+        (date("2000/ ?"), accepted("After marks 1, year 2000, \"2000/..?\"")),
+        (date("2000/.. ?"), refused(7, 105, 105)),
+        (date("2000/ .."), refused(7, 105, 106)),
+    ]);
+}
+
+#[test]
+fn point_6_not_read_yields() {
+    let noon = "year 2000 month 0 day 0 time 10:20:30 UTC";
+    same(&[
+        (date("2000-01-01T10:20:30Zy"), accepted(&format!("At marks 0, {noon}, \"2000-01-01\""))),
+        (date("2000-01-01T10:20:30Zx"), refused(7, 108, 108)),
+        (date("2000-01-01T10:20:30Zy?"), accepted(&format!("At marks 1, {noon}, \"2000-01-01?\""))),
+        (
+            date("2000-01-01T10:20:30Zy/.."),
+            accepted(&format!("After marks 0, {noon}, \"2000-01-01/..\"")),
+        ),
+    ]);
+}
+
+#[test]
+fn point_7_runs_are_taken_whole() {
+    same(&[
+        (date("19XXX"), refused(6, 100, 105)),
+        (date("2000-XX-XXX"), refused(7, 111, 111)),
+        (date("2000-02-XXX"), refused(7, 111, 111)),
+        (date("2000-01-01T10:20:30+02:003"), refused(7, 123, 126)),
+    ]);
+}
+
+#[test]
+fn point_8_panics_keep_the_order() {
+    same(&[
+        (date("½/q"), refused(9, 0, 0)),
+        (date("q/½"), refused(7, 100, 100)),
+        (fields("x", Some("0"), None), refused(7, 100, 100)),
+        (fields("5", Some("0"), Some("x")), refused(9, 0, 0)),
+    ]);
+    // The largest span that a frame can carry.
+    let top = u64::from(u32::MAX);
+    let at = |text: &str| words(&one(1, &[normal(u32::MAX, text)]));
+    same(&[(at("q/2000"), refused(7, top, top)), (at("2000/q"), refused(7, top + 5, top + 5))]);
+}
+
+#[test]
+fn checks_before_reading() {
+    let one = |pieces: &[Piece]| words(&one(1, pieces));
+    let empty = |n: usize| vec![normal(0, ""); n];
+    let mut kind3 = empty(65);
+    kind3[64].kind = 3;
+    let mut ill = empty(65);
+    ill[0] = normal(0, [0xff]);
+    let spaces = |n: usize| spread(0, &format!("{}2000", " ".repeat(n - 4)));
+
+    same(&[
+        (one(&[]), refused(7, 0, 0)),
+        (one(&kind3), refused(15, 0, 0)),
+        (one(&ill), refused(16, 0, 0)),
+        (one(&empty(64)), refused(7, 0, 0)),
+        (one(&empty(65)), refused(16, 0, 0)),
+        (one(&spaces(4096)), accepted("At marks 0, year 2000, \"2000\"")),
+        (one(&spaces(4097)), refused(16, 0, 0)),
+        // The first in the pass, counted in the list's bytes.
+        (one(&[normal(50, "20"), normal(60, "a€\u{ff}")]), refused(11, 3, 6)),
+        (one(&[normal(50, "20"), normal(60, [b'a', 0xc3])]), refused(10, 3, 4)),
+        (one(&[normal(0, [0xc3]), normal(1, [0xa9])]), refused(10, 0, 1)),
+        (one(&[normal(0, [0xc4, 0x80, 0xff])]), refused(11, 0, 2)),
+        (one(&[normal(0, [0xff, 0xc4, 0x80])]), refused(10, 0, 1)),
+        (one(&[normal(0, [0xed, 0xa0, 0x80])]), refused(10, 0, 1)),
+        (one(&[normal(0, "\u{10ffff}")]), refused(11, 0, 4)),
+    ]);
+
+    // Every list is checked before any is read; a day without a month is not.
+    let (x, kind3) = ([normal(0, "x")], [piece(3, 0, "1")]);
+    same(&[
+        (words(&three(&x, Some(&x), Some(&kind3))), refused(15, 0, 0)),
+        (words(&three(&x, None, Some(&kind3))), refused(7, 0, 0)),
+        (words(&three(&x, Some(&[normal(9, "€")]), Some(&kind3))), refused(11, 0, 3)),
+    ]);
+}
+
+const NOON: &str = "2000-01-01T12:00:00Z";
+
+#[test]
+fn formatting() {
+    let one = |pieces: &[Piece]| words(&one(1, pieces));
+    let y2000 = accepted("At marks 0, year 2000, \"2000\"");
+    same(&[
+        // A break becomes a space, or goes behind white space.
+        (one(&[normal(0, "20\n00")]), refused(7, 3, 3)),
+        (one(&[normal(0, "\n2000")]), y2000.clone()),
+        (one(&[normal(0, "123 \r\nq")]), refused(7, 0, 3)),
+        (one(&[normal(0, "2000 \n\r\nq")]), refused(7, 5, 5)),
+        (one(&[normal(0, "2000\r\nq")]), refused(7, 5, 5)),
+        // Verbatim keeps its breaks, an empty one clears the flag, Math does not.
+        (one(&[piece(1, 0, "2000\n\n"), normal(0, "\nq")]), refused(7, 6, 6)),
+        (one(&[normal(0, "2000 "), piece(1, 0, ""), normal(0, "\nq")]), refused(7, 6, 6)),
+        (one(&[piece(2, 0, "2000")]), refused(7, 0, 0)),
+        // The slash, behind text that is not read, tells whether a break went.
+        (one(&[normal(0, NOON), normal(0, " \n/q")]), refused(7, 22, 22)),
+        (
+            one(&[normal(0, NOON), normal(0, " "), piece(2, 0, ""), normal(0, "\n/q")]),
+            refused(7, 24, 24),
+        ),
+        (one(&[normal(0, NOON), piece(2, 0, " "), normal(0, "\n/q")]), refused(7, 25, 25)),
+    ]);
+}
+
+#[test]
+fn bad_frames() {
+    let bad = "0e00000000000000000000000000000000";
+    let good = hex(&one(1, &[normal(0, "2000")]));
+    let lines = [
+        String::new(),
+        "0".into(),
+        "01".into(),
+        "0101".into(),
+        "00".into(),
+        "0000".into(),
+        "0400".into(),
+        "ff00".into(),
+        format!("{good}\r"),
+        format!("{good}0"),
+        format!("{good}00"),
+        format!(" {good}"),
+        good[..good.len() - 2].into(),
+        good[1..].into(),
+        "0300".into(),
+        "030000".into(),
+        "03000200".into(),
+        "03000002".into(),
+        "0300000000".into(),
+    ];
+    for line in &lines {
+        assert_eq!(raw(line), bad, "{line:?}");
+    }
+    assert_eq!(raw("03000000"), raw(&hex(&three(&[], None, None))));
+    assert_eq!(raw(&hex(&one(2, &[normal(0, "2000")]))), "--");
+
+    // 8,192 bytes are a frame, 8,193 are none.
+    let frame = |n: usize| {
+        let year = spread(0, &format!("5{}", " ".repeat(3999)));
+        let rest = n - three(&year, Some(&[]), None).len();
+        let bytes = rest - 10 * rest.div_ceil(265);
+        let month = spread(0, &format!("{}7", " ".repeat(bytes - 1)));
+        let frame = three(&year, Some(&month), None);
+        assert_eq!(frame.len(), n);
+        hex(&frame)
+    };
+    assert_eq!(
+        describe_answer(raw(&frame(8192)).as_bytes()),
+        "At marks 0, year 5 month 6, \"0005-07\""
+    );
+    assert_eq!(raw(&frame(8193)), bad);
+}
+
+#[test]
+fn options() {
+    let base = Options::default();
+    let k1 = base.with("k1").unwrap();
+    let k10 = base.with("k10").unwrap();
+    let both = k10.with("k12").unwrap();
+    let frame = |operation| hex(&one(operation, &[normal(0, "2000")]));
+    let bad = "0e00000000000000000000000000000000".to_string();
+    let good = raw(&frame(1));
+    same(&[
+        (raw_with(k10, &frame(1)), "--".into()),
+        (raw_with(k10, &frame(2)), "--".into()),
+        (raw_with(k10, &frame(4)), good.clone()),
+        (raw_with(k10, &frame(5)), bad.clone()),
+        (raw_with(both, &frame(5)), "--".into()),
+        (raw_with(base, &frame(4)), bad.clone()),
+    ]);
+
+    let july =
+        |c: &str| hex(&three(&[normal(0, "5")], Some(&[normal(0, format!("jul{c}"))]), None));
+    let say = |options, line: &str| describe_answer(raw_with(options, line).as_bytes());
+    same(&[
+        (say(k1, &july("\u{202f}")), "At marks 0, year 5 month 6, \"0005-07\"".into()),
+        (say(base, &july("\u{202f}")), refused(11, 3, 6)),
+        (say(k1, &july("\u{2070}")), refused(11, 3, 6)),
+    ]);
+
+    let checks = Options { strict_checks: true, ..base };
+    let kind3 = hex(&one(2, &[piece(3, 0, "")]));
+    assert_eq!(raw_with(base, &kind3), "--");
+    assert_eq!(say(checks, &kind3), refused(15, 0, 0));
+
+    let fields = Options { fields: true, ..base };
+    let range = hex(&one(1, &[normal(0, "2000-02-03/-0005")]));
+    let wanted = hex(b"\0year=2000\nmonth=02\nday=03\nendyear=-0005\n");
+    assert_eq!(raw_with(fields, &range), wanted);
+}
