@@ -1,3 +1,4 @@
 pub mod Texts
 pub mod Whole
+pub mod Derived
 pub mod Marks

@@ -14,7 +14,8 @@ use Rattle.scanner.proofs.Laws.{not-white}
 use Rattle.refusals.specs.declared.FileSpan.{FileSpan}
 use Rattle.chunks.specs.Plain.{allAscii, plainByte, plainText}
 use Rattle.chunks.specs.Chunks.{chunksOf, spanOf}
-use Rattle.chunks.proofs.Plains.{plain-high, IsPlain, plainly}
+use Rattle.chunks.specs.Answer.{textOf}
+use Rattle.chunks.proofs.Plains.{plain-high, IsPlain, Plainly, plainly}
 use Rattle.dates.specs.declared.Date.{Date}
 use Rattle.dates.specs.declared.DateValue.{DateValue}
 use Rattle.strs.proofs.Trims.{Plain, plain-trim}
@@ -22,13 +23,14 @@ use Rattle.datefield.specs.declared.ReadDate.the-variants.{Accepted}
 use Rattle.datefield.specs.declared.ReadValue.the-variants.{Read}
 use Rattle.datefield.specs.Text.{trimmed, lastByte, isUncertain, isApproximate, unmarked}
 use Rattle.datefield.specs.Value.{value, marked, trimmedDate, dateText as readText}
-use Rattle.reader.specs.Field.{parsed}
-use Rattle.reader.proofs.Entries.{parsed-clean}
+use Rattle.reader.specs.Field.{parsed, strictly, parsedStrict}
+use Rattle.reader.proofs.Entries.{parsed-clean, strict-clean}
 use Rattle.writer.specs.Texts.{valueText, markText, dateText}
 use Rattle.roundtrip.specs.Domain.{InDomain, oneChunk}
 use Rattle.roundtrip.proofs.Texts.{Body}
 use Rattle.roundtrip.proofs.Texts.Body.{body-end, body-more}
 use Rattle.roundtrip.proofs.Whole.{Known, value-back, known}
+use Rattle.roundtrip.proofs.Derived.{matched}
 
 -- printing ASCII characters that have no upper case
 data Clear : List ℕ → Type 0 where
@@ -67,13 +69,18 @@ clear-trimmed : {l : List ℕ} → Clear l → trimmed l ≡ l
 unfolding trimmed
 clear-trimmed {l} c = rw (plain-trim l (clear-plain c)) (take-length l)
 
--- formatting and upper case leave it as it is
-clear-text : (w : Bool) {l : List ℕ} → Clear l → plainText true w l ≡ l
+-- formatting leaves it as it is, with upper case and without
+either-same : (u : Bool) (x : ℕ) → plainByte true x ≡ x → plainByte u x ≡ x
+unfolding plainByte pick
+either-same true x e = e
+either-same false x e = refl
+
+clear-text : (u w : Bool) {l : List ℕ} → Clear l → plainText u w l ≡ l
 unfolding plainText
-clear-text w clear-end = refl
-clear-text w (clear-more {x} {l} a b e c) =
-    let h = plain-high true w x a b in
-    rw (h .0, h .1, e, clear-text false c)
+clear-text u w clear-end = refl
+clear-text u w (clear-more {x} {l} a b e c) =
+    let h = plain-high u w x a b in
+    rw (h .0, h .1, either-same u x e, clear-text u false c)
 
 clear-ascii : {l : List ℕ} → Clear l → allAscii l ≡ true
 unfolding allAscii
@@ -150,10 +157,25 @@ module _ (d : Date) (w : InDomain (d .value)) where
       ∙ marks-back span (valueText (d .value)) (known (d .value) w .body) (known (d .value) w .some) (d .uncertain) (d .approximate)
       ∙ rw (value-back span (d .value) w)
 
+  plain-list : (start end : ℕ) → Plainly (dateText d) (oneChunk (dateText d) start end)
+  plain-list start end =
+      let b = dateText d in
+      plainly b (oneChunk b start end) (record { four = refl; normal-kind = refl; whole = refl; small = text-short; ascii = clear-ascii text-clear })
+
+  same-text : (u : Bool) (start end : ℕ) → dateText d ≡ textOf u (dateText d) (oneChunk (dateText d) start end)
+  same-text u start end = sym (plain-list start end .text u ∙ clear-text u false text-clear)
+
   -- the written text of such a Date, read by the ported reader, gives the same Date, its kind and its marks included
   pub date-back : (start end : ℕ) → parsed (dateText d) (oneChunk (dateText d) start end) ≡ Accepted d
   date-back start end =
       let b = dateText d in
       let t = oneChunk b start end in
-      let p = plainly b t (record { four = refl; normal-kind = refl; whole = refl; small = text-short; ascii = clear-ascii text-clear }) in
-      sym (parsed-clean b t (p .clean) (sym (p .text true ∙ clear-text false text-clear))) ∙ read-back (spanOf (chunksOf t))
+      sym (parsed-clean b t (plain-list start end .clean) (same-text true start end)) ∙ read-back (spanOf (chunksOf t))
+
+  -- and so does the strict reader
+  pub strict-back : (start end : ℕ) → parsedStrict (dateText d) (oneChunk (dateText d) start end) ≡ Accepted d
+  unfolding strictly
+  strict-back start end =
+      let b = dateText d in
+      let t = oneChunk b start end in
+      sym (strict-clean b t (plain-list start end .clean) (same-text false start end)) ∙ ap strictly (matched d w)

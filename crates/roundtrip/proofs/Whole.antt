@@ -125,7 +125,7 @@ parts-of y NoMonth (SomeDay d) h = absurd h
 parts-of y (SomeMonth m) NoDay h = h
 parts-of y (SomeMonth m) (SomeDay d) h = h
 
-end-of : {d : Datetime} → EndIn d → Written d
+pub end-of : {d : Datetime} → EndIn d → Written d
 end-of {d} w = record { year-in = w .year-in; parts-in = parts-of (d .year) (d .month) (d .day) (w .parts-in); untimed = w .untimed }
 
 pub value-back : (span : FileSpan) (v : DateValue) → InDomain v → value span (valueText v) ≡ Read v
