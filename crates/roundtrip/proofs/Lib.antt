@@ -2,3 +2,5 @@ pub mod Texts
 pub mod Whole
 pub mod Derived
 pub mod Marks
+pub mod Fields
+pub mod Three

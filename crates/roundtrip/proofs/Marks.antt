@@ -33,7 +33,7 @@ use Rattle.roundtrip.proofs.Whole.{Known, value-back, known}
 use Rattle.roundtrip.proofs.Derived.{matched}
 
 -- printing ASCII characters that have no upper case
-data Clear : List ℕ → Type 0 where
+pub data Clear : List ℕ → Type 0 where
   clear-end : Clear []
   clear-more : {x : ℕ} {l : List ℕ} → 0x20 < x → x < 0x80 → plainByte true x ≡ x → Clear l → Clear (x ∷ l)
 
@@ -45,7 +45,7 @@ low-same : (x : ℕ) → x < 0x61 → plainByte true x ≡ x
 unfolding plainByte pick
 low-same x h = rw (lt-leb 0x61 x h)
 
-body-clear : {l : List ℕ} → Body l → Clear l
+pub body-clear : {l : List ℕ} → Body l → Clear l
 body-clear body-end = clear-end
 body-clear (body-more {x} a b l) = clear-more {x = x} (omega arith) (omega arith) (low-same x (omega arith)) (body-clear l)
 
@@ -75,14 +75,14 @@ unfolding plainByte pick
 either-same true x e = e
 either-same false x e = refl
 
-clear-text : (u w : Bool) {l : List ℕ} → Clear l → plainText u w l ≡ l
+pub clear-text : (u w : Bool) {l : List ℕ} → Clear l → plainText u w l ≡ l
 unfolding plainText
 clear-text u w clear-end = refl
 clear-text u w (clear-more {x} {l} a b e c) =
     let h = plain-high u w x a b in
     rw (h .0, h .1, either-same u x e, clear-text u false c)
 
-clear-ascii : {l : List ℕ} → Clear l → allAscii l ≡ true
+pub clear-ascii : {l : List ℕ} → Clear l → allAscii l ≡ true
 unfolding allAscii
 clear-ascii clear-end = refl
 clear-ascii (clear-more {x} a b e c) = rw (lt-ltb x 0x80 b, clear-ascii c)

@@ -33,11 +33,11 @@ width-is least n h =
       | no l ↦ let f = few least n h in unpadded least n (omega (arith, l)) ∙ omega (arith, l)
     ]
 
-decimal-is : (least n : ℕ) → n < 10 ^ least → decimal least n ≡ digits least n
+pub decimal-is : (least n : ℕ) → n < 10 ^ least → decimal least n ≡ digits least n
 unfolding decimal
 decimal-is least n h = ap (λ (w : ℕ). digits w n) (width-is least n h)
 
-year-is : (y : ℤ) → natAbs y < 10000 → yearText y ≡ yearBytes y
+pub year-is : (y : ℤ) → natAbs y < 10000 → yearText y ≡ yearBytes y
 unfolding yearText minus
 year-is (pos n) h = decimal-is 4 n h
 year-is (negsuc n) h = ap (λ (l : List ℕ). 45 ∷ l) (decimal-is 4 (suc n) h)
@@ -70,11 +70,11 @@ pub body-append : {s t : List ℕ} → Body s → Body t → Body (s ++ t)
 body-append body-end t = t
 body-append (body-more a b s) t = body-more a b (body-append s t)
 
-body-bytes : (ds : List ℕ) → AreDigits ds → Body (bytes ds)
+pub body-bytes : (ds : List ℕ) → AreDigits ds → Body (bytes ds)
 body-bytes [] h = body-end
 body-bytes (d ∷ ds) h = body-more {x = 48 + d} (omega arith) (omega (arith, h .0)) (body-bytes ds (h .1))
 
-body-year : (y : ℤ) → Body (yearBytes y)
+pub body-year : (y : ℤ) → Body (yearBytes y)
 body-year (pos n) = body-bytes (four n) (four-digits n)
 body-year (negsuc n) = body-more {x = 45} (omega arith) (omega arith) (body-bytes (four (suc n)) (four-digits (suc n)))
 
@@ -137,7 +137,7 @@ first-some {b} v without-end = rw (eq-eqb b b refl)
 first-some {b} v (without-more {x} h u) = rw (ne-eqb x b h, first-some v u)
 
 -- how long it is
-year-long : (y : ℤ) → (4 ≤ length (yearBytes y)) × (length (yearBytes y) ≤ 5)
+pub year-long : (y : ℤ) → (4 ≤ length (yearBytes y)) × (length (yearBytes y) ≤ 5)
 year-long (pos n) = (omega arith, omega arith)
 year-long (negsuc n) = (omega arith, omega arith)
 
