@@ -4,3 +4,4 @@ pub mod Derived
 pub mod Marks
 pub mod Fields
 pub mod Three
+pub mod Accepted

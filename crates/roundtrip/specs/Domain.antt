@@ -4,7 +4,11 @@ use Prim.Native.Nat.{ℕ, _<_}
 use mathlib.Core.Path.{_≡_}
 use mathlib.Core.List.{List, [], _∷_}
 use lib.IntN.{ℤ, natAbs}
+use mathlib.Core.Bool.{Bool}
+use lib.Dec.{ltb}
 use lib.ListN.{length}
+use Rattle.chunks.specs.Format.{formatted}
+use Rattle.chunks.specs.Upper.{uppercase}
 use Rattle.dates.specs.declared.OptionMonth.{OptionMonth}
 use Rattle.dates.specs.declared.OptionMonth.the-variants.{NoMonth, SomeMonth}
 use Rattle.dates.specs.declared.OptionDay.{OptionDay}
@@ -14,6 +18,7 @@ use Rattle.dates.specs.declared.Datetime.{Datetime}
 use Rattle.dates.specs.declared.DateValue.{DateValue}
 use Rattle.dates.specs.declared.DateValue.the-variants.{At, After, Before, Between}
 use Rattle.dates.specs.Calendar.{monthLength}
+use Rattle.datefield.specs.Text.{trimmed, unmarked, firstOf}
 
 -- month and day, both counted from 0: a day stands beside a month, and within its length in that year
 abbrev pub PartsIn : ℤ → OptionMonth → OptionDay → Type 0
@@ -38,3 +43,15 @@ InDomain (Between a b) = EndIn a × EndIn b
 -- the table of one Normal chunk with all of the bytes, from any place to any place of a file
 abbrev pub oneChunk : List ℕ → ℕ → ℕ → List ℕ
 oneChunk b start end = 0 ∷ length b ∷ start ∷ end ∷ []
+
+-- no end of a Date has a time
+abbrev pub Untimed : DateValue → Type 0
+Untimed (At a) = a .time ≡ NoTime
+Untimed (After a) = a .time ≡ NoTime
+Untimed (Before a) = a .time ≡ NoTime
+Untimed (Between a b) = (a .time ≡ NoTime) × (b .time ≡ NoTime)
+
+-- whether an X stands in the text of a chunk list behind formatting, without its mark
+abbrev pub hasX : List ℕ → List ℕ → Bool
+hasX b table =
+    ltb (firstOf 0x58 (unmarked (trimmed (uppercase (formatted b table))))) (length (unmarked (trimmed (uppercase (formatted b table)))))
