@@ -1,0 +1,53 @@
+-- Hexadecimal lines: the bytes that a line of digits stands for, and the digits of a number.
+use Prim.Native.Nat.{ℕ, zero, suc, _+_, _-_, _*_, _/_, _%_}
+use mathlib.Core.Bool.{Bool, true, false, _&&_}
+use mathlib.Core.List.{List, [], _∷_, _++_}
+use lib.Dec.{eqb, leb, ltb}
+use lib.ListN.{length, drop}
+use Rattle.chars.specs.Pick.{pick}
+use Rattle.hexes.specs.declared.Hex.{Hex}
+use Rattle.hexes.specs.declared.Hex.the-variants.{Bytes, Bad}
+
+-- from a byte to another
+abbrev pub within : ℕ → ℕ → ℕ → Bool
+within low high b = leb low b && leb b high
+
+-- the value of a digit, 0 to 9 and a to f in either case; of any other byte 255
+unfoldable pub digitOf : ℕ → ℕ
+digitOf b = pick (within 0x30 0x39 b) (b - 0x30) (pick (within 0x61 0x66 b) (b - 0x61 + 10) (pick (within 0x41 0x46 b) (b - 0x41 + 10) 255))
+
+-- the values of so many bytes from one on
+unfoldable pub valuesFrom : ℕ → ℕ → List ℕ
+valuesFrom zero b = []
+valuesFrom (suc n) b = digitOf b ∷ valuesFrom n (suc b)
+
+-- those of the bytes from 0 to f
+unfoldable pub table : List ℕ
+table = valuesFrom 55 0x30
+
+-- whether every byte is a digit
+unfoldable pub allDigits : List ℕ → Bool
+allDigits [] = true
+allDigits (b ∷ l) = ltb (digitOf b) 16 && allDigits l
+
+-- the bytes, two digits each, the high one first
+abbrev pub bytesOf : List ℕ → List ℕ
+bytesOf [] = []
+bytesOf (a ∷ []) = []
+bytesOf (a ∷ b ∷ l) = (digitOf a * 16 + digitOf b) ∷ bytesOf l
+
+-- how many bytes a line stands for
+abbrev pub half : List ℕ → ℕ
+half line = length line / 2
+
+-- whether a line is digits, two for each byte, of at most so many bytes
+unfoldable pub isHex : List ℕ → ℕ → Bool
+isHex line room = eqb (length line % 2) 0 && (leb (half line) room && allDigits line)
+
+-- what is said of a line
+unfoldable pub decoded : List ℕ → ℕ → Hex
+decoded line room = pick (isHex line room) (Bytes (half line)) Bad
+
+-- the buffer afterwards: the bytes at its front, or, if the line is none, all as it was
+unfoldable pub decodedInto : List ℕ → List ℕ → List ℕ
+decodedInto line out = pick (isHex line (length out)) (bytesOf line ++ drop (half line) out) out
