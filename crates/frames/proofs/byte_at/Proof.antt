@@ -1,0 +1,24 @@
+use mathlib.Core.Path.{_≡_, refl, sym, ap, _∙_}
+use lib.ListN.{length, getD, List·getD-eq-default}
+use borrow.Author.Needs.{needs}
+use Rattle.frames.proofs.byte_at.Statement.{statement}
+use Rattle.frames.proofs.byte_at.Tie as tie
+use Rattle.frames.proofs.byte_at.Reads as reads
+use Rattle.frames.proofs.byte_at.Lts as lts
+
+-- src/lib.rt:30:16
+shared-slice-read-result : tie.Need-shared-slice-read-result
+shared-slice-read-result c = search needs
+
+-- src/lib.rt:30:9
+returns : tie.Need-returns
+returns c = refl
+
+-- src/lib.rt:26:1
+returns-2 : tie.Need-returns-2
+returns-2 c =
+    let s = c .before in
+    sym (List·getD-eq-default (s .args .f .now) 0 (c .if1 .left))
+
+pub byte-at-spec : {M : Type 1} → statement M
+byte-at-spec = tie.close (tie.spec shared-slice-read-result returns returns-2)

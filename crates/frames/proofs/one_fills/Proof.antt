@@ -1,0 +1,23 @@
+use mathlib.Core.Path.{_≡_, refl, sym, ap, _∙_}
+use Prim.Native.Nat.{ℕ}
+use lib.Dec.{eqb}
+use lib.ListN.{length}
+use borrow.Author.Needs.{needs}
+use Rattle.frames.proofs.one_fills.Statement.{statement}
+use Rattle.frames.proofs.one_fills.Tie as tie
+use Rattle.frames.proofs.one_fills.Reads as reads
+use Rattle.frames.proofs.one_fills.Lts as lts
+use Rattle.frames.proofs.list_end.Reads as list-end-reads
+
+-- src/lib.rt:93:5
+list-end-requires : tie.Need-list-end-requires
+list-end-requires c κs = search needs
+
+-- src/lib.rt:90:1
+returns : tie.Need-returns
+returns c =
+    let s = c .before .before in
+    ap (λ (n : ℕ). eqb n (length (s .args .f .now))) (c .list-end .ensures .0)
+
+pub one-fills-spec : {M : Type 1} → statement M
+one-fills-spec = tie.close (tie.spec list-end-requires returns)

@@ -1,0 +1,48 @@
+use native.Mathlib.Omega.{arith}
+use mathlib.Core.Path.{_≡_, refl, sym, ap, _∙_}
+use Rattle.chars.specs.Pick.{pick}
+use Rattle.frames.specs.Lists.{optionalEnd}
+use borrow.Author.Needs.{needs}
+use Rattle.frames.proofs.optional_end.Statement.{statement}
+use Rattle.frames.proofs.optional_end.Tie as tie
+use Rattle.frames.proofs.optional_end.Reads as reads
+use Rattle.frames.proofs.optional_end.Lts as lts
+use Rattle.frames.proofs.has_list.Reads as has-list-reads
+use Rattle.frames.proofs.list_end.Reads as list-end-reads
+
+-- src/lib.rt:71:8
+has-list-requires : tie.Need-has-list-requires
+has-list-requires c κs = search needs
+
+-- src/lib.rt:72:28
+add-list-end : tie.Need-add-list-end
+add-list-end c = search needs
+
+-- src/lib.rt:72:9
+list-end-requires : tie.Need-list-end-requires
+list-end-requires c κs = search needs
+
+-- src/lib.rt:72:9
+returns : tie.Need-returns
+unfolding optionalEnd pick
+returns c =
+    let b1 = c .before in
+    let b2 = b1 .before in
+    let q = c .list-end .ensures in
+    (simp (← b2 .has-list .ensures, b1 .if1 .taken, ← q .0), omega (arith, q .1))
+
+-- src/lib.rt:74:5
+add-result : tie.Need-add-result
+add-result c = search needs
+
+-- src/lib.rt:67:1
+returns-2 : tie.Need-returns-2
+unfolding optionalEnd pick
+returns-2 c =
+    let b1 = c .before in
+    (simp (← b1 .has-list .ensures, c .if1 .left), omega arith)
+
+pub optional-end-spec : {M : Type 1} → statement M
+optional-end-spec =
+    tie.close
+    (tie.spec has-list-requires add-list-end list-end-requires returns add-result returns-2)

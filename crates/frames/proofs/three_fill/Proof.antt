@@ -1,0 +1,85 @@
+use native.Mathlib.Omega.{arith}
+use mathlib.Core.Path.{_≡_, refl, sym, ap, _∙_}
+use borrow.Author.Tests.{le-leb, lt-leb}
+use Rattle.frames.specs.Frame.{threeFill}
+use Rattle.frames.specs.Lists.{isFlag}
+use borrow.Author.Needs.{needs}
+use Rattle.frames.proofs.three_fill.Statement.{statement}
+use Rattle.frames.proofs.three_fill.Tie as tie
+use Rattle.frames.proofs.three_fill.Reads as reads
+use Rattle.frames.proofs.three_fill.Lts as lts
+use Rattle.frames.proofs.byte_at.Reads as byte-at-reads
+use Rattle.frames.proofs.list_end.Reads as list-end-reads
+use Rattle.frames.proofs.optional_end.Reads as optional-end-reads
+
+-- src/lib.rt:100:9
+list-end-requires : tie.Need-list-end-requires
+list-end-requires c κs = search needs
+
+-- src/lib.rt:101:9
+optional-end-requires : tie.Need-optional-end-requires
+optional-end-requires c κs = omega (arith, c .list-end .ensures .1)
+
+-- src/lib.rt:102:8
+byte-at-requires : tie.Need-byte-at-requires
+byte-at-requires c κs = search needs
+
+-- src/lib.rt:103:12
+byte-at-requires-2 : tie.Need-byte-at-requires-2
+byte-at-requires-2 c κs = search needs
+
+-- src/lib.rt:104:20
+optional-end-requires-2 : tie.Need-optional-end-requires-2
+optional-end-requires-2 c κs =
+    let b4 = c .before .before .before .before in
+    let b5 = b4 .before in
+    omega (arith, b5 .list-end .ensures .1, b4 .optional-end .ensures .1)
+
+-- src/lib.rt:104:13
+returns : tie.Need-returns
+unfolding threeFill isFlag
+returns c =
+    let b1 = c .before in
+    let b2 = b1 .before in
+    let b3 = b2 .before in
+    let b4 = b3 .before in
+    let b5 = b4 .before in
+    let b6 = b5 .before in
+    let m = b6 .list-end .ensures .0 in
+    let d = b5 .optional-end .ensures .0 in
+    simp (← m, ← d, ← b4 .byte-at .ensures, ← b2 .byte-at2 .ensures, le-leb _ _ (b3 .if1 .taken), le-leb _ _ (b1 .if2 .taken), ← c .optional-end2 .ensures .0)
+
+-- src/lib.rt:97:1
+returns-2 : tie.Need-returns-2
+unfolding threeFill isFlag
+returns-2 c =
+    let b1 = c .before in
+    let b2 = b1 .before in
+    let b3 = b2 .before in
+    let b4 = b3 .before in
+    let b5 = b4 .before in
+    let m = b5 .list-end .ensures .0 in
+    let d = b4 .optional-end .ensures .0 in
+    simp (← m, ← d, ← b3 .byte-at .ensures, ← b1 .byte-at2 .ensures, le-leb _ _ (b2 .if1 .taken), lt-leb _ _ (c .if2 .left))
+
+-- src/lib.rt:97:1
+returns-3 : tie.Need-returns-3
+unfolding threeFill isFlag
+returns-3 c =
+    let b1 = c .before in
+    let b3 = b1 .before .before in
+    let m = b3 .list-end .ensures .0 in
+    simp (← m, ← b1 .byte-at .ensures, lt-leb _ _ (c .if1 .left))
+
+pub three-fill-spec : {M : Type 1} → statement M
+three-fill-spec =
+    tie.close
+    (tie.spec
+    list-end-requires
+    optional-end-requires
+    byte-at-requires
+    byte-at-requires-2
+    optional-end-requires-2
+    returns
+    returns-2
+    returns-3)

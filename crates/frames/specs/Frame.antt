@@ -1,0 +1,65 @@
+-- Frames: which reader a frame asks for, whether it is one, and what is read of it.
+use Prim.Native.Nat.{ℕ}
+use mathlib.Core.Bool.{Bool, false, _&&_}
+use mathlib.Core.List.{List}
+use lib.Dec.{eqb}
+use lib.ListN.{length}
+use Rattle.chars.specs.Pick.{pick}
+use Rattle.refusals.specs.declared.Kind.the-variants.{BadFrame}
+use Rattle.refusals.specs.Refusal.{fileSpan, refusal}
+use Rattle.datefield.specs.declared.ReadDate.{ReadDate}
+use Rattle.datefield.specs.declared.ReadDate.the-variants.{Refused}
+use Rattle.hexes.specs.Hex.{isHex, bytesOf}
+use Rattle.reader.specs.Field.{parsed, parsedStrict}
+use Rattle.reader.specs.Fields.{threeFields}
+use Rattle.frames.specs.declared.Operation.{Operation}
+use Rattle.frames.specs.declared.Operation.the-variants.{Ported, Strict, ThreeFields, Unknown}
+use Rattle.frames.specs.Lists.{byteAt, listEnd, listTable, listText, isFlag, hasList, optionalEnd, optionalTable, optionalText}
+
+-- the operations by their numbers: 01 the ported reader, 02 the strict one, 03 three fields
+unfoldable pub asked : ℕ → Operation
+asked n = pick (eqb n 1) Ported (pick (eqb n 2) Strict (pick (eqb n 3) ThreeFields Unknown))
+
+-- the places of the month and day lists: each a flag and perhaps a list
+abbrev pub monthAt : List ℕ → ℕ
+monthAt f = listEnd f 1
+
+abbrev pub dayAt : List ℕ → ℕ
+dayAt f = optionalEnd f (monthAt f)
+
+-- whether one list fills a frame exactly
+abbrev pub oneFills : List ℕ → Bool
+oneFills f = eqb (listEnd f 1) (length f)
+
+-- whether three do, with their flags
+unfoldable pub threeFill : List ℕ → Bool
+threeFill f = isFlag f (monthAt f) && (isFlag f (dayAt f) && eqb (optionalEnd f (dayAt f)) (length f))
+
+-- whether a frame is one of its operation
+unfoldable pub formed : Operation → List ℕ → Bool
+formed Ported f = oneFills f
+formed Strict f = oneFills f
+formed ThreeFields f = threeFill f
+formed Unknown f = false
+
+-- no frame
+abbrev pub badFrame : ReadDate
+badFrame = Refused (refusal BadFrame (fileSpan 0 0))
+
+-- what the reader says of the lists
+unfoldable pub readOf : Operation → List ℕ → ReadDate
+readOf Ported f = parsed (listText f 1) (listTable f 1)
+readOf Strict f = parsedStrict (listText f 1) (listTable f 1)
+readOf ThreeFields f =
+    threeFields (listText f 1) (listTable f 1)
+    (hasList f (monthAt f)) (optionalText f (monthAt f)) (optionalTable f (monthAt f))
+    (hasList f (dayAt f)) (optionalText f (dayAt f)) (optionalTable f (dayAt f))
+readOf Unknown f = badFrame
+
+-- the operation of a frame is its first byte; what is no frame is refused before all else
+unfoldable pub frameRead : List ℕ → ReadDate
+frameRead f = pick (formed (asked (byteAt f 0)) f) (readOf (asked (byteAt f 0)) f) badFrame
+
+-- a line: two digits a byte, at most 8,192 bytes. An empty line has no operation
+unfoldable pub lineRead : List ℕ → ReadDate
+lineRead line = pick (isHex line 8192) (frameRead (bytesOf line)) badFrame

@@ -1,0 +1,255 @@
+// Frames: one line of hexadecimal digits is one question to a reader.
+ghost use mathlib.Core.Path.{_≡_};
+ghost use mathlib.Core.Bool.{true};
+ghost use Prim.Native.Nat.{_+_, _*_, _≤_, _<_};
+ghost use lib.ListN.{length};
+ghost use Rattle.hexes.specs.Hex.{isHex};
+ghost use Rattle.writer.specs.Answers.{Put};
+ghost use Rattle.frames.specs.Lists as list;
+ghost use Rattle.frames.specs.Room.{Room};
+ghost use Rattle.frames.specs.declared.Operation.the-variants.{Ported, Strict, ThreeFields};
+ghost use Rattle.frames.specs.Frame as spec;
+use datefield::ReadDate;
+use hexes::Hex;
+use refusals::FileSpan;
+use refusals::Kind;
+
+// What a frame asks for.
+pub enum Operation {
+    Ported,
+    Strict,
+    ThreeFields,
+    Unknown,
+}
+
+// ---- the form of a frame
+
+// The byte at a place; behind the end 0.
+fn byte_at(f: &[u8], at: usize) -> u8
+    ensures { λ r. ⌜ r ≡ list.byteAt (now (f .entry)) at ⌝ }
+{
+    if at < f.len() {
+        return f[at];
+    }
+    0
+}
+
+// The place behind so many chunks. A chunk has at most 265 bytes.
+fn chunks_end(f: &[u8], at: usize, n: usize) -> usize
+    requires { ⌜ (at < 1000000) × (n < 256) ⌝ }
+    ensures { λ r. ⌜ (r ≡ list.endOf (now (f .entry)) at n) × (r ≤ at + 265 * n) ⌝ }
+{
+    let mut p = at;
+    let mut k = n;
+    while 0 < k {
+        let len = byte_at(f, p + 1);
+        p += 10 + len as usize;
+        k -= 1;
+    }
+    p
+}
+
+// The place behind a list.
+fn list_end(f: &[u8], at: usize) -> usize
+    requires { ⌜ at < 900000 ⌝ }
+    ensures { λ r. ⌜ (r ≡ list.listEnd (now (f .entry)) at) × (r ≤ at + 70000) ⌝ }
+{
+    let n = byte_at(f, at);
+    chunks_end(f, at + 1, n as usize)
+}
+
+// Whether a list that may be absent is present.
+fn has_list(f: &[u8], at: usize) -> bool
+    ensures { λ r. ⌜ r ≡ list.hasList (now (f .entry)) at ⌝ }
+{
+    byte_at(f, at) == 1
+}
+
+// The place behind a list that may be absent.
+fn optional_end(f: &[u8], at: usize) -> usize
+    requires { ⌜ at < 800000 ⌝ }
+    ensures { λ r. ⌜ (r ≡ list.optionalEnd (now (f .entry)) at) × (r ≤ at + 80000) ⌝ }
+{
+    if has_list(f, at) {
+        return list_end(f, at + 1);
+    }
+    at + 1
+}
+
+// The operation of a number: the one table of them.
+fn asked(n: u8) -> Operation
+    ensures { λ r. ⌜ r ≡ spec.asked n ⌝ }
+{
+    match n {
+        1 => Operation::Ported,
+        2 => Operation::Strict,
+        3 => Operation::ThreeFields,
+        _ => Operation::Unknown,
+    }
+}
+
+// Whether one list fills a frame exactly.
+fn one_fills(f: &[u8]) -> bool
+    ensures { λ r. ⌜ r ≡ spec.oneFills (now (f .entry)) ⌝ }
+{
+    list_end(f, 1) == f.len()
+}
+
+// Whether three do, with their flags.
+fn three_fill(f: &[u8]) -> bool
+    ensures { λ r. ⌜ r ≡ spec.threeFill (now (f .entry)) ⌝ }
+{
+    let month_at = list_end(f, 1);
+    let day_at = optional_end(f, month_at);
+    if byte_at(f, month_at) <= 1 {
+        if byte_at(f, day_at) <= 1 {
+            return optional_end(f, day_at) == f.len();
+        }
+    }
+    false
+}
+
+// Whether a frame is one of its operation.
+fn is_formed(op: Operation, f: &[u8]) -> bool
+    ensures { λ r. ⌜ r ≡ spec.formed op (now (f .entry)) ⌝ }
+{
+    match op {
+        Operation::Ported => one_fills(f),
+        Operation::Strict => one_fills(f),
+        Operation::ThreeFields => three_fill(f),
+        Operation::Unknown => false,
+    }
+}
+
+// ---- the lists of a frame
+
+// A number of four bytes.
+fn word_at(f: &[u8], at: usize) -> u64
+    requires { ⌜ at < 1000000 ⌝ }
+    ensures { λ r. ⌜ r ≡ list.wordAt (now (f .entry)) at ⌝ }
+{
+    let a = byte_at(f, at) as u64;
+    let b = byte_at(f, at + 1) as u64;
+    let c = byte_at(f, at + 2) as u64;
+    let d = byte_at(f, at + 3) as u64;
+    ((a * 256 + b) * 256 + c) * 256 + d
+}
+
+// A chunk's row of the table.
+fn put_row(f: &[u8], at: usize, table: &mut [u64], k: usize) -> usize
+    requires { ⌜ (at < 900000) × (k + 4 ≤ length (now table)) ⌝ }
+    ensures { λ r. ⌜ Put (list.rowAt (now (f .entry)) at) (now (table .entry)) k (now (table .exit)) r ⌝ }
+{
+    table[k] = byte_at(f, at) as u64;
+    table[k + 1] = byte_at(f, at + 1) as u64;
+    table[k + 2] = word_at(f, at + 2);
+    table[k + 3] = word_at(f, at + 6);
+    k + 4
+}
+
+// The table of so many chunks.
+fn put_rows(f: &[u8], at: usize, n: usize, table: &mut [u64], k: usize) -> usize
+    requires { ⌜ (list.endOf (now f) at n < 900000) × (k + 4 * n ≤ length (now table)) ⌝ }
+    ensures { λ r. ⌜ Put (list.tableOf (now (f .entry)) at n) (now (table .entry)) k (now (table .exit)) r ⌝ }
+{
+    let mut p = at;
+    let mut left = n;
+    let mut j = k;
+    while 0 < left {
+        j = put_row(f, p, table, j);
+        p += 10 + byte_at(f, p + 1) as usize;
+        left -= 1;
+    }
+    j
+}
+
+// A part of a frame, as it is.
+fn put_part(f: &[u8], from: usize, n: usize, text: &mut [u8], m: usize) -> usize
+    requires { ⌜ (from + n ≤ length (now f)) × (m + n ≤ length (now text)) ⌝ }
+    ensures { λ r. ⌜ Put (list.partAt (now (f .entry)) from n) (now (text .entry)) m (now (text .exit)) r ⌝ }
+{
+    let mut i = 0;
+    while i < n {
+        text[m + i] = f[from + i];
+        i += 1;
+    }
+    m + n
+}
+
+// The texts of so many chunks.
+fn put_texts(f: &[u8], at: usize, n: usize, text: &mut [u8], m: usize) -> usize
+    requires { ⌜ (list.endOf (now f) at n ≤ length (now f)) × (length (now f) ≤ length (now text)) × (m ≤ at) ⌝ }
+    ensures { λ r. ⌜ Put (list.textOf (now (f .entry)) at n) (now (text .entry)) m (now (text .exit)) r ⌝ }
+{
+    let mut p = at;
+    let mut left = n;
+    let mut j = m;
+    while 0 < left {
+        let len = byte_at(f, p + 1) as usize;
+        j = put_part(f, p + 10, len, text, j);
+        p += 10 + len;
+        left -= 1;
+    }
+    j
+}
+
+// The places behind the bytes and the table of a list.
+struct Unpacked {
+    text: usize,
+    table: usize,
+}
+
+// The bytes and the table of a list, behind those of the lists before it. A list takes more of the frame than of either buffer.
+fn unpack_list(f: &[u8], at: usize, text: &mut [u8], m: usize, table: &mut [u64], k: usize) -> Unpacked
+    requires { ⌜ Room (now f) (now text) (now table) × (list.listEnd (now f) at ≤ length (now f)) × (m ≤ at) × (2 * k ≤ at) ⌝ }
+    ensures { λ r. ⌜ Put (list.listText (now (f .entry)) at) (now (text .entry)) m (now (text .exit)) (r .text) ⌝ }
+    ensures { λ r. ⌜ Put (list.listTable (now (f .entry)) at) (now (table .entry)) k (now (table .exit)) (r .table) ⌝ }
+    ensures { λ r. ⌜ (r .text ≤ list.listEnd (now (f .entry)) at) × (2 * r .table ≤ list.listEnd (now (f .entry)) at) ⌝ }
+{
+    let n = byte_at(f, at) as usize;
+    let j = put_texts(f, at + 1, n, text, m);
+    Unpacked {
+        text: j,
+        table: put_rows(f, at + 1, n, table, k),
+    }
+}
+
+// The same of a list that may be absent.
+fn unpack_optional(f: &[u8], at: usize, text: &mut [u8], m: usize, table: &mut [u64], k: usize) -> Unpacked
+    requires { ⌜ Room (now f) (now text) (now table) × (list.optionalEnd (now f) at ≤ length (now f)) × (m ≤ at) × (2 * k ≤ at) ⌝ }
+    ensures { λ r. ⌜ Put (list.optionalText (now (f .entry)) at) (now (text .entry)) m (now (text .exit)) (r .text) ⌝ }
+    ensures { λ r. ⌜ Put (list.optionalTable (now (f .entry)) at) (now (table .entry)) k (now (table .exit)) (r .table) ⌝ }
+    ensures { λ r. ⌜ (r .text ≤ list.optionalEnd (now (f .entry)) at) × (2 * r .table ≤ list.optionalEnd (now (f .entry)) at) ⌝ }
+{
+    if has_list(f, at) {
+        return unpack_list(f, at + 1, text, m, table, k);
+    }
+    Unpacked { text: m, table: k }
+}
+
+// ---- what is read of a frame
+
+// No frame.
+fn bad_frame() -> ReadDate
+    ensures { λ r. ⌜ r ≡ spec.badFrame ⌝ }
+{
+    ReadDate::Refused(refusals::refuse(Kind::BadFrame, FileSpan(0, 0)))
+}
+
+// One list, by the ported reader.
+fn read_ported(f: &[u8], text: &mut [u8], table: &mut [u64]) -> ReadDate
+    requires { ⌜ Room (now f) (now text) (now table) × (spec.oneFills (now f) ≡ true) ⌝ }
+    ensures { λ r. ⌜ r ≡ spec.readOf Ported (now (f .entry)) ⌝ }
+{
+    let u = unpack_list(f, 1, text, 0, table, 0);
+    reader::parse(&text[..u.text], &table[..u.table])
+}
+
+// One list, by the strict reader.
+fn read_strict(f: &[u8], text: &mut [u8], table: &mut [u64]) -> ReadDate
+    requires { ⌜ Room (now f) (now text) (now table) × (spec.oneFills (now f) ≡ true) ⌝ }
+    ensures { λ r. ⌜ r ≡ spec.readOf Strict (now (f .entry)) ⌝ }
+{
+    let u = unpack_list(f, 1, text, 0, table, 0);
+    reader::parse_strict(&text[..u.text], &table[..u.table])
+}
