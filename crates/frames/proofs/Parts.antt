@@ -2,18 +2,20 @@
 use mathlib.Core.Path.{_≡_, refl, sym, ap, _∙_}
 use mathlib.Core.Bool.{Bool, true, false, _&&_, false≢true}
 use mathlib.Core.List.{List, [], _∷_, _++_, append-assoc}
-use Prim.Native.Nat.{ℕ, _+_, _-_, _*_, _≤_}
+use Prim.Native.Nat.{ℕ, _+_, _-_, _*_, _≤_, _<_}
 use native.Mathlib.Omega.{arith}
 use borrow.Author.Tests.{eqb-true}
 use lib.Dec.{eqb}
 use lib.ListN.{length, take, drop, length-append}
 use lib.Seq.{take-at, drop-at, length-take-le}
+use Rattle.chars.proofs.Cases.{by-test}
 use Rattle.writer.specs.Answers.{Put}
 use Rattle.writer.proofs.Puts.{kept, both, at-front}
-use Rattle.frames.specs.Lists.{listEnd, listTable, listText, optionalEnd, optionalTable, optionalText}
+use Rattle.frames.specs.declared.Operation.the-variants.{ThreeFields}
+use Rattle.frames.specs.Lists.{byteAt, listEnd, listTable, listText, isFlag, hasList, optionalEnd, optionalTable, optionalText}
 use Rattle.frames.specs.Room.{Room}
-use Rattle.frames.specs.Frame.{oneFills}
-use Rattle.frames.proofs.Places.{text-behind, table-behind}
+use Rattle.frames.specs.Frame.{oneFills, threeFill, monthAt, dayAt, readLists, readOf}
+use Rattle.frames.proofs.Places.{end-above, text-behind, table-behind}
 
 -- a text at a place of a buffer with room for it
 module _ {t l l' : List ℕ} {m j : ℕ} (p : Put t l m l' j) (room : m + length t ≤ length l) where
@@ -35,8 +37,8 @@ module _ {a b c l l₁ l₂ l₃ : List ℕ} {i j k : ℕ} (p : Put a l 0 l₁ i
   whole : l₃ ≡ (a ++ b) ++ (c ++ rest)
   whole = at-front (let e = length-is in omega arith) (both (both p q) r) ∙ append-assoc (a ++ b) c rest
 
-  pub same-room : length l₃ ≡ length l
-  same-room = kept r ∙ kept q ∙ kept p
+  pub still : length l₃ ≡ length l
+  still = kept r ∙ kept q ∙ kept p
 
   pub in-order : (i ≤ j) × (j ≤ k)
   in-order = (omega (arith, q .behind), omega (arith, r .behind))
@@ -82,3 +84,54 @@ module _ {f text table : List ℕ} (w : Room f text table) (fills : oneFills f �
 
   pub table-is : {table' : List ℕ} {j : ℕ} → Put (listTable f 1) table 0 table' j → take j table' ≡ listTable f 1
   table-is p = first-is p table-room
+
+-- three lists that fill a frame
+and-both : (a b : Bool) → a && b ≡ true → (a ≡ true) × (b ≡ true)
+and-both true b e = (refl, e)
+and-both false b e = absurd (false≢true e)
+
+pub optional-above : (f : List ℕ) (at : ℕ) → at < optionalEnd f at
+unfolding optionalEnd
+optional-above f at =
+    by-test (λ (n : ℕ). at < n) (hasList f at) (λ _. let a = end-above f (at + 1 + 1) (byteAt f (at + 1)) in omega arith) (λ _. omega arith)
+
+pub same-room : {f b t b' t' : List ℕ} → Room f b t → length b' ≡ length b → length t' ≡ length t → Room f b' t'
+same-room w e g = record { small = w .small; for-text = omega (arith, w .for-text, e); for-table = omega (arith, w .for-table, g) }
+
+-- `ma` and `da` are the places of the month list and the day list as they were found
+module _ {f text table : List ℕ} (w : Room f text table) (fills : threeFill f ≡ true) {ma da : ℕ} (em : ma ≡ monthAt f) (ed : da ≡ optionalEnd f ma) where
+  all-end : optionalEnd f da ≡ length f
+  unfolding threeFill
+  all-end =
+      rw (ed, em)
+      (eqb-true (optionalEnd f (dayAt f)) (length f) (and-both (isFlag f (dayAt f)) _ (and-both (isFlag f (monthAt f)) _ fills .1) .1))
+
+  pub year-asks : Room f text table × (listEnd f 1 ≤ length f) × (0 ≤ 1) × (2 * 0 ≤ 1)
+  year-asks = (w, (let a = optional-above f ma in let b = optional-above f da in omega (arith, all-end, em, ed)), omega arith, omega arith)
+
+  -- the year list is put
+  module _ {t₁ u₁ : List ℕ} {i i' : ℕ} (p : Put (listText f 1) text 0 t₁ i) (p' : Put (listTable f 1) table 0 u₁ i') (l : i ≤ ma) (l' : 2 * i' ≤ ma) where
+    pub month-asks : Room f t₁ u₁ × (optionalEnd f ma ≤ length f) × (i ≤ ma) × (2 * i' ≤ ma)
+    month-asks = (same-room w (kept p) (kept p'), (let b = optional-above f da in omega (arith, all-end, ed)), l, l')
+
+    -- and the month list, if there is one
+    module _ {t₂ u₂ : List ℕ} {j j' : ℕ} (q : Put (optionalText f ma) t₁ i t₂ j) (q' : Put (optionalTable f ma) u₁ i' u₂ j') (h : j ≤ da) (h' : 2 * j' ≤ da) where
+      pub day-asks : Room f t₂ u₂ × (optionalEnd f da ≤ length f) × (j ≤ da) × (2 * j' ≤ da)
+      day-asks = (same-room w (kept q ∙ kept p) (kept q' ∙ kept p'), omega (arith, all-end), h, h')
+
+      -- and the day list
+      module _ {t₃ u₃ : List ℕ} {k k' : ℕ} (r : Put (optionalText f da) t₂ j t₃ k) (r' : Put (optionalTable f da) u₂ j' u₃ k') (g : k ≤ optionalEnd f da) (g' : 2 * k' ≤ optionalEnd f da) where
+        in-text : k ≤ length text
+        in-text = omega (arith, g, all-end, w .for-text)
+
+        in-table : k' ≤ length table
+        in-table = omega (arith, g', all-end, w .for-table)
+
+        pub lists-ask : ((i ≤ j) × (j ≤ k) × (k ≤ length t₃)) × ((i' ≤ j') × (j' ≤ k') × (k' ≤ length u₃))
+        lists-ask =
+            ((in-order p q r in-text .0, in-order p q r in-text .1, (let e = still p q r in-text in omega (arith, in-text))), (in-order p' q' r' in-table .0, in-order p' q' r' in-table .1, (let e = still p' q' r' in-table in omega (arith, in-table))))
+
+        pub lists-are : {hm hd : Bool} → hm ≡ hasList f ma → hd ≡ hasList f da
+            → readLists t₃ u₃ hm hd (record { text = i; table = i' }) (record { text = j; table = j' }) (record { text = k; table = k' }) ≡ readOf ThreeFields f
+        unfolding readLists readOf
+        lists-are eh eg = rw (eh, eg, part-1 p q r in-text, part-1 p' q' r' in-table, part-2 p q r in-text, part-2 p' q' r' in-table, part-3 p q r in-text, part-3 p' q' r' in-table, ← em, ← ed)

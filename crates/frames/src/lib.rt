@@ -253,3 +253,42 @@ fn read_strict(f: &[u8], text: &mut [u8], table: &mut [u64]) -> ReadDate
     let u = unpack_list(f, 1, text, 0, table, 0);
     reader::parse_strict(&text[..u.text], &table[..u.table])
 }
+
+// Three lists that stand one behind the other in the two buffers: the places behind each are given.
+fn read_lists(text: &[u8], table: &[u64], has_month: bool, has_day: bool, y: Unpacked, m: Unpacked, d: Unpacked) -> ReadDate
+    requires { ⌜ (y .text ≤ m .text) × (m .text ≤ d .text) × (d .text ≤ length (now text)) ⌝ }
+    requires { ⌜ (y .table ≤ m .table) × (m .table ≤ d .table) × (d .table ≤ length (now table)) ⌝ }
+    ensures { λ r. ⌜ r ≡ spec.readLists (now (text .entry)) (now (table .entry)) «has_month» «has_day» y m d ⌝ }
+{
+    let a = y.text;
+    let b = m.text;
+    let c = d.text;
+    let i = y.table;
+    let j = m.table;
+    let k = d.table;
+    reader::parse_three_fields(
+        &text[..a],
+        &table[..i],
+        has_month,
+        &text[a..b],
+        &table[i..j],
+        has_day,
+        &text[b..c],
+        &table[j..k],
+    )
+}
+
+// Three fields.
+fn read_three(f: &[u8], text: &mut [u8], table: &mut [u64]) -> ReadDate
+    requires { ⌜ Room (now f) (now text) (now table) × (spec.threeFill (now f) ≡ true) ⌝ }
+    ensures { λ r. ⌜ r ≡ spec.readOf ThreeFields (now (f .entry)) ⌝ }
+{
+    let month_at = list_end(f, 1);
+    let day_at = optional_end(f, month_at);
+    let has_month = has_list(f, month_at);
+    let has_day = has_list(f, day_at);
+    let y = unpack_list(f, 1, text, 0, table, 0);
+    let m = unpack_optional(f, month_at, text, y.text, table, y.table);
+    let d = unpack_optional(f, day_at, text, m.text, table, m.table);
+    read_lists(text, table, has_month, has_day, y, m, d)
+}
