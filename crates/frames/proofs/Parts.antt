@@ -2,19 +2,25 @@
 use mathlib.Core.Path.{_≡_, refl, sym, ap, _∙_}
 use mathlib.Core.Bool.{Bool, true, false, _&&_, false≢true}
 use mathlib.Core.List.{List, [], _∷_, _++_, append-assoc}
-use Prim.Native.Nat.{ℕ, _+_, _-_, _*_, _≤_, _<_}
+use Prim.Native.Nat.{ℕ, _+_, _-_, _*_, _%_, _≤_, _<_}
 use native.Mathlib.Omega.{arith}
-use borrow.Author.Tests.{eqb-true}
-use lib.Dec.{eqb}
+use borrow.Author.Tests.{eqb-true, leb-true, le-leb}
+use lib.Dec.{eqb, leb}
 use lib.ListN.{length, take, drop, length-append}
 use lib.Seq.{take-at, drop-at, length-take-le}
-use Rattle.chars.proofs.Cases.{by-test}
+use Rattle.chars.specs.Pick.{pick}
+use Rattle.chars.proofs.Cases.{by-test, of-test}
+use Rattle.hexes.specs.declared.Hex.{Hex}
+use Rattle.hexes.specs.declared.Hex.the-variants.{Bytes, Bad}
+use Rattle.hexes.specs.Hex.{isHex, bytesOf, half, decoded, decodedInto}
+use Rattle.hexes.proofs.Laws.{length-bytes}
 use Rattle.writer.specs.Answers.{Put}
 use Rattle.writer.proofs.Puts.{kept, both, at-front}
-use Rattle.frames.specs.declared.Operation.the-variants.{ThreeFields}
+use Rattle.frames.specs.declared.Operation.{Operation}
+use Rattle.frames.specs.declared.Operation.the-variants.{Ported, Strict, ThreeFields, Unknown}
 use Rattle.frames.specs.Lists.{byteAt, listEnd, listTable, listText, isFlag, hasList, optionalEnd, optionalTable, optionalText}
 use Rattle.frames.specs.Room.{Room}
-use Rattle.frames.specs.Frame.{oneFills, threeFill, monthAt, dayAt, readLists, readOf}
+use Rattle.frames.specs.Frame.{oneFills, threeFill, monthAt, dayAt, readLists, asked, formed, readOf, badFrame, frameRead, lineRead}
 use Rattle.frames.proofs.Places.{end-above, text-behind, table-behind}
 
 -- a text at a place of a buffer with room for it
@@ -135,3 +141,89 @@ module _ {f text table : List ℕ} (w : Room f text table) (fills : threeFill f 
             → readLists t₃ u₃ hm hd (record { text = i; table = i' }) (record { text = j; table = j' }) (record { text = k; table = k' }) ≡ readOf ThreeFields f
         unfolding readLists readOf
         lists-are eh eg = rw (eh, eg, part-1 p q r in-text, part-1 p' q' r' in-table, part-2 p q r in-text, part-2 p' q' r' in-table, part-3 p q r in-text, part-3 p' q' r' in-table, ← em, ← ed)
+
+-- the operation of a frame decides
+module _ (f : List ℕ) {n : ℕ} {op : Operation} {b : Bool} (en : n ≡ byteAt f 0) (eo : op ≡ asked n) (eb : b ≡ formed op f) where
+  is-op : op ≡ asked (byteAt f 0)
+  is-op = eo ∙ ap asked en
+
+  pub is-formed : {o : Operation} → b ≡ true → op ≡ o → formed o f ≡ true
+  is-formed t e = ap (λ (x : Operation). formed x f) (sym e) ∙ sym eb ∙ t
+
+  pub formed-read : {o : Operation} → b ≡ true → op ≡ o → readOf o f ≡ frameRead f
+  unfolding frameRead pick
+  formed-read t e = ap (λ (x : Operation). readOf x f) (sym e) ∙ rw (← is-op, ← eb, t)
+
+  pub unformed-read : b ≡ false → badFrame ≡ frameRead f
+  unfolding frameRead pick
+  unformed-read t = rw (← is-op, ← eb, t)
+
+pub one-of-ported : (f : List ℕ) → formed Ported f ≡ true → oneFills f ≡ true
+unfolding formed
+one-of-ported f e = e
+
+pub one-of-strict : (f : List ℕ) → formed Strict f ≡ true → oneFills f ≡ true
+unfolding formed
+one-of-strict f e = e
+
+pub three-of : (f : List ℕ) → formed ThreeFields f ≡ true → threeFill f ≡ true
+unfolding formed
+three-of f e = e
+
+pub nothing-read : (f : List ℕ) → badFrame ≡ readOf Unknown f
+unfolding readOf
+nothing-read f = refl
+
+-- a line and the frame that it stands for
+abbrev countOf : Hex → ℕ
+countOf (Bytes n) = n
+countOf Bad = 0
+
+abbrev isBytes : Hex → Bool
+isBytes (Bytes n) = true
+isBytes Bad = false
+
+module _ (line frame : List ℕ) {frame' text table : List ℕ} {r : Hex} (same : isHex line (length frame) ≡ isHex line 8192) (w : Room frame text table)
+    (er : r ≡ decoded line (length frame)) (ef : frame' ≡ decodedInto line frame) where
+  bytes-if : isHex line (length frame) ≡ isBytes r
+  unfolding decoded pick
+  bytes-if = rw er (of-test (isHex line (length frame)) (λ q. rw q) (λ q. rw q))
+
+  module _ {n : ℕ} (e : r ≡ Bytes n) where
+    hex : isHex line (length frame) ≡ true
+    hex = bytes-if ∙ ap isBytes e
+
+    count : n ≡ half line
+    unfolding decoded pick
+    count = let g : decoded line (length frame) ≡ Bytes (half line) = rw hex in ap countOf (sym e ∙ er ∙ g)
+
+    fits : half line ≤ length frame
+    unfolding isHex
+    fits = leb-true (half line) (length frame) (and-both (leb (half line) (length frame)) _ (and-both (eqb (length line % 2) 0) _ hex .1) .0)
+
+    bytes-are : take n frame' ≡ bytesOf line
+    unfolding decodedInto pick
+    bytes-are = rw (ef, hex) (take-at (bytesOf line) (drop (half line) frame) n (length-bytes line ∙ sym count))
+
+    pub bytes-in : n ≤ length frame'
+    unfolding decodedInto pick
+    bytes-in = rw (ef, hex) (let a = length-append (bytesOf line) (drop (half line) frame) in let b = length-bytes line in omega (arith, count))
+
+    pub frame-room : Room (take n frame') text table
+    frame-room =
+        let b = ap length bytes-are in
+        let l = length-bytes line in
+        record { small = omega (arith, w .small, fits); for-text = omega (arith, w .for-text, fits); for-table = omega (arith, w .for-table, fits) }
+
+    pub line-is : frameRead (take n frame') ≡ lineRead line
+    unfolding lineRead pick
+    line-is = rw (bytes-are, ← same, hex)
+
+  pub line-bad : r ≡ Bad → badFrame ≡ lineRead line
+  unfolding lineRead pick
+  line-bad e = rw (← same, bytes-if, e)
+
+-- the two sizes of buffers
+pub short-same : (line : List ℕ) → length line ≤ 512 → isHex line 256 ≡ isHex line 8192
+unfolding isHex
+short-same line h = rw (le-leb (half line) 256 (omega arith), le-leb (half line) 8192 (omega arith))

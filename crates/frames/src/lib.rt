@@ -200,7 +200,14 @@ struct Unpacked {
 }
 
 // The bytes and the table of a list, behind those of the lists before it. A list takes more of the frame than of either buffer.
-fn unpack_list(f: &[u8], at: usize, text: &mut [u8], m: usize, table: &mut [u64], k: usize) -> Unpacked
+fn unpack_list(
+    f: &[u8],
+    at: usize,
+    text: &mut [u8],
+    m: usize,
+    table: &mut [u64],
+    k: usize,
+) -> Unpacked
     requires { ⌜ Room (now f) (now text) (now table) × (list.listEnd (now f) at ≤ length (now f)) × (m ≤ at) × (2 * k ≤ at) ⌝ }
     ensures { λ r. ⌜ Put (list.listText (now (f .entry)) at) (now (text .entry)) m (now (text .exit)) (r .text) ⌝ }
     ensures { λ r. ⌜ Put (list.listTable (now (f .entry)) at) (now (table .entry)) k (now (table .exit)) (r .table) ⌝ }
@@ -215,7 +222,14 @@ fn unpack_list(f: &[u8], at: usize, text: &mut [u8], m: usize, table: &mut [u64]
 }
 
 // The same of a list that may be absent.
-fn unpack_optional(f: &[u8], at: usize, text: &mut [u8], m: usize, table: &mut [u64], k: usize) -> Unpacked
+fn unpack_optional(
+    f: &[u8],
+    at: usize,
+    text: &mut [u8],
+    m: usize,
+    table: &mut [u64],
+    k: usize,
+) -> Unpacked
     requires { ⌜ Room (now f) (now text) (now table) × (list.optionalEnd (now f) at ≤ length (now f)) × (m ≤ at) × (2 * k ≤ at) ⌝ }
     ensures { λ r. ⌜ Put (list.optionalText (now (f .entry)) at) (now (text .entry)) m (now (text .exit)) (r .text) ⌝ }
     ensures { λ r. ⌜ Put (list.optionalTable (now (f .entry)) at) (now (table .entry)) k (now (table .exit)) (r .table) ⌝ }
@@ -255,7 +269,15 @@ fn read_strict(f: &[u8], text: &mut [u8], table: &mut [u64]) -> ReadDate
 }
 
 // Three lists that stand one behind the other in the two buffers: the places behind each are given.
-fn read_lists(text: &[u8], table: &[u64], has_month: bool, has_day: bool, y: Unpacked, m: Unpacked, d: Unpacked) -> ReadDate
+fn read_lists(
+    text: &[u8],
+    table: &[u64],
+    has_month: bool,
+    has_day: bool,
+    y: Unpacked,
+    m: Unpacked,
+    d: Unpacked,
+) -> ReadDate
     requires { ⌜ (y .text ≤ m .text) × (m .text ≤ d .text) × (d .text ≤ length (now text)) ⌝ }
     requires { ⌜ (y .table ≤ m .table) × (m .table ≤ d .table) × (d .table ≤ length (now table)) ⌝ }
     ensures { λ r. ⌜ r ≡ spec.readLists (now (text .entry)) (now (table .entry)) «has_month» «has_day» y m d ⌝ }
@@ -291,4 +313,49 @@ fn read_three(f: &[u8], text: &mut [u8], table: &mut [u64]) -> ReadDate
     let m = unpack_optional(f, month_at, text, y.text, table, y.table);
     let d = unpack_optional(f, day_at, text, m.text, table, m.table);
     read_lists(text, table, has_month, has_day, y, m, d)
+}
+
+// What is read of a frame; what is none is refused before anything is read.
+fn read_frame(f: &[u8], text: &mut [u8], table: &mut [u64]) -> ReadDate
+    requires { ⌜ Room (now f) (now text) (now table) ⌝ }
+    ensures { λ r. ⌜ r ≡ spec.frameRead (now (f .entry)) ⌝ }
+{
+    let op = asked(byte_at(f, 0));
+    if is_formed(op, f) {
+        return match op {
+            Operation::Ported => read_ported(f, text, table),
+            Operation::Strict => read_strict(f, text, table),
+            Operation::ThreeFields => read_three(f, text, table),
+            Operation::Unknown => bad_frame(),
+        };
+    }
+    bad_frame()
+}
+
+// What is read of a line, with a buffer for its bytes.
+fn read_line(line: &[u8], frame: &mut [u8], text: &mut [u8], table: &mut [u64]) -> ReadDate
+    requires { ⌜ isHex (now line) (length (now frame)) ≡ isHex (now line) 8192 ⌝ }
+    requires { ⌜ Room (now frame) (now text) (now table) ⌝ }
+    ensures { λ r. ⌜ r ≡ spec.lineRead (now (line .entry)) ⌝ }
+{
+    match hexes::decode(line, frame) {
+        Hex::Bytes(n) => read_frame(&frame[..n], text, table),
+        Hex::Bad => bad_frame(),
+    }
+}
+
+// What is read of a line. A short one is taken apart in small arrays, which cost less to clear.
+pub fn read(line: &[u8]) -> ReadDate
+    ensures { λ r. ⌜ r ≡ spec.lineRead (now (line .entry)) ⌝ }
+{
+    if line.len() <= 512 {
+        let mut frame = [0u8; 256];
+        let mut text = [0u8; 256];
+        let mut table = [0u64; 128];
+        return read_line(line, &mut frame, &mut text, &mut table);
+    }
+    let mut frame = [0u8; 8192];
+    let mut text = [0u8; 8192];
+    let mut table = [0u64; 4096];
+    read_line(line, &mut frame, &mut text, &mut table)
 }

@@ -78,11 +78,12 @@ loop-again c =
     let s = b6 .before .before .before in
     let q = b3 .put-row .ensures in
     let l = length-row (s .args .f .now) (b6 .loop .p) in
-    let e : b6 .loop .p + (10 + c .byte-at .result) ≡ b6 .loop .p + 10 + c .byte-at .result = omega arith in
-    (rw (q .bytes, q .behind, e, c .byte-at .ensures) (next-row (s .args .f .now) (b6 .loop .table) (b6 .loop .p) (b6 .loop .left) (b6 .loop .j) (b5 .loop-test .taken)) ∙ b6 .loop .inv .0,
-    rw (e, c .byte-at .ensures) (sym (end-next (s .args .f .now) (b6 .loop .p) (b6 .loop .left) (b5 .loop-test .taken))) ∙ b6 .loop .inv .1,
-    omega (arith, q .behind, l, b6 .loop .inv .2),
-    kept q ∙ b6 .loop .inv .3)
+    let e : b6 .loop .p + (10 + c .byte-at .result) ≡ b6 .loop .p + 10 + c .byte-at .result = omega arith in (
+      rw (q .bytes, q .behind, e, c .byte-at .ensures) (next-row (s .args .f .now) (b6 .loop .table) (b6 .loop .p) (b6 .loop .left) (b6 .loop .j) (b5 .loop-test .taken)) ∙ b6 .loop .inv .0,
+      rw (e, c .byte-at .ensures) (sym (end-next (s .args .f .now) (b6 .loop .p) (b6 .loop .left) (b5 .loop-test .taken))) ∙ b6 .loop .inv .1,
+      omega (arith, q .behind, l, b6 .loop .inv .2),
+      kept q ∙ b6 .loop .inv .3,
+    )
 
 -- src/lib.rt:149:1
 same-length : tie.Need-same-length Inv-loop μ-loop

@@ -96,12 +96,13 @@ loop-again c =
     let h = b5 .loop-test .taken in
     let a = chunk-inside f (l .p) (l .left) h in
     let w = length-part f (l .p + 10) (b4 .byte-at .result) (omega (arith, a, l .inv .1, b4 .byte-at .ensures)) in
-    let e : l .p + (10 + b4 .byte-at .result) ≡ l .p + 10 + b4 .byte-at .result = omega arith in
-    (rw (q .bytes, q .behind, e, b4 .byte-at .ensures) (next-text f (l .text) (l .p) (l .left) (l .j) h) ∙ l .inv .0,
-    rw (e, b4 .byte-at .ensures) (sym (end-next f (l .p) (l .left) h)) ∙ l .inv .1,
-    omega (arith, q .behind, w, l .inv .2),
-    rw (q .behind, e, b4 .byte-at .ensures) (let m = text-more f (l .p) (l .left) h in let i = l .inv .3 in omega arith),
-    kept q ∙ l .inv .4)
+    let e : l .p + (10 + b4 .byte-at .result) ≡ l .p + 10 + b4 .byte-at .result = omega arith in (
+      rw (q .bytes, q .behind, e, b4 .byte-at .ensures) (next-text f (l .text) (l .p) (l .left) (l .j) h) ∙ l .inv .0,
+      rw (e, b4 .byte-at .ensures) (sym (end-next f (l .p) (l .left) h)) ∙ l .inv .1,
+      omega (arith, q .behind, w, l .inv .2),
+      rw (q .behind, e, b4 .byte-at .ensures) (let m = text-more f (l .p) (l .left) h in let i = l .inv .3 in omega arith),
+      kept q ∙ l .inv .4,
+    )
 
 -- src/lib.rt:178:1
 same-length : tie.Need-same-length Inv-loop μ-loop
