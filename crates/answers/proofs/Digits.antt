@@ -1,0 +1,171 @@
+-- Bytes as digits, byte by byte, and a year in two's complement. Assumes nothing.
+use mathlib.Core.Path.{_≡_, refl, sym, ap, _∙_}
+use mathlib.Core.Bool.{Bool, true, false, false≢true}
+use mathlib.Core.List.{List, [], _∷_, _++_}
+use Prim.Native.Nat.{ℕ, suc, _+_, _-_, _*_, _/_, _%_, _≤_, _<_}
+use native.Mathlib.Omega.{arith}
+use lib.IntN.{ℤ, pos, negsuc, natAbs}
+use lib.Signed.{ltZ}
+use lib.ListN.{length, getD, drop, set, length-append, drop-of-length-le}
+use lib.Seq.{sets, drop-cons}
+use borrow.Author.Tests.{ltb-true}
+use lib.Bits.{bitAnd, bitOr}
+use Rattle.dates.specs.declared.TimeOffset.{TimeOffset}
+use Rattle.dates.specs.declared.TimeOffset.the-variants.{Utc, Offset}
+use Rattle.dates.specs.declared.OptionOffset.{OptionOffset}
+use Rattle.dates.specs.declared.OptionOffset.the-variants.{NoOffset, SomeOffset}
+use Rattle.dates.specs.declared.Time.{Time}
+use Rattle.dates.specs.declared.OptionTime.{OptionTime}
+use Rattle.dates.specs.declared.OptionTime.the-variants.{NoTime, SomeTime}
+use Rattle.dates.specs.declared.Datetime.{Datetime}
+use Rattle.dates.specs.declared.DateValue.{DateValue}
+use Rattle.dates.specs.declared.DateValue.the-variants.{At, After, Before, Between}
+use Rattle.dates.specs.declared.Date.{Date}
+use Rattle.refusals.specs.declared.Refusal.{Refusal}
+use Rattle.refusals.specs.Refusal.{number}
+use Rattle.writer.specs.Answers.{Put}
+use Rattle.writer.proofs.Puts.{as-text, both, kept}
+use Rattle.answers.specs.Answer.{glyph, hexText, wordBytes, twos, monthByte, dayByte, bit, marks, shiftBytes, offsetBytes, timeBytes, datetimeBytes, shape, endsBytes, longBytes, acceptedBytes, refusedBytes, lineOf}
+
+-- two digits a byte
+pub length-hex : (t : List ℕ) → length (hexText t) ≡ 2 * length t
+unfolding hexText
+length-hex [] = refl
+length-hex (b ∷ t) = let e = length-hex t in omega arith
+
+pub hex-append : (s t : List ℕ) → hexText (s ++ t) ≡ hexText s ++ hexText t
+unfolding hexText
+hex-append [] t = refl
+hex-append (b ∷ s) t = ap (λ (l : List ℕ). glyph (b / 16) ∷ glyph (b % 16) ∷ l) (hex-append s t)
+
+-- the two digits of a byte, and those behind them
+pub next-digits : (t out : List ℕ) (at i : ℕ) → i < length t
+    → sets (set (set out (at + 2 * i) (glyph (getD t i 0 / 16))) (at + 2 * i + 1) (glyph (getD t i 0 % 16))) (at + 2 * (i + 1)) (hexText (drop (i + 1) t))
+    ≡ sets out (at + 2 * i) (hexText (drop i t))
+unfolding hexText
+next-digits t out at i h =
+    let e : i + 1 ≡ suc i = omega arith in
+    let f : at + 2 * i + 1 ≡ suc (at + 2 * i) = omega arith in
+    let g : at + 2 * suc i ≡ suc (suc (at + 2 * i)) = omega arith in
+    rw (drop-cons t i 0 h, e, f, g)
+
+pub no-digits : (t : List ℕ) (i : ℕ) → length t ≤ i → hexText (drop i t) ≡ []
+unfolding hexText
+no-digits t i h = rw (drop-of-length-le t {i = i} h)
+
+-- a year below 0
+pub below : (y : ℤ) → ltZ y (pos 0) ≡ true → (0 < natAbs y) × (4294967295 - (natAbs y - 1) ≡ twos y)
+unfolding twos
+below (pos n) t = absurd (let h = ltb-true n 0 t in omega arith)
+below (negsuc n) t = (omega arith, omega arith)
+
+-- and another
+pub above : (y : ℤ) → ltZ y (pos 0) ≡ false → natAbs y ≡ twos y
+unfolding twos
+above (pos n) t = refl
+above (negsuc n) t = absurd (false≢true (sym t))
+
+-- the two bits
+pub packed : (u a : Bool) → bitOr (bitAnd (bit u) 1) (bitAnd (bit a) 1 * 2 % 256) ≡ marks u a
+unfolding bit marks
+packed true true = refl
+packed true false = refl
+packed false true = refl
+packed false false = refl
+
+-- bytes, then others
+pub hex-both : (a b : List ℕ) {l m p : List ℕ} {i j k : ℕ} → Put (hexText a) l i m j → Put (hexText b) m j p k → Put (hexText (a ++ b)) l i p k
+hex-both a b p q = as-text (hex-append a b) (both p q)
+
+-- the room behind them
+pub hex-room : (a : List ℕ) {l m : List ℕ} {i j : ℕ} → Put (hexText a) l i m j → (j ≡ i + 2 * length a) × (length m ≡ length l)
+hex-room a p = (let e = length-hex a in omega (arith, p .behind), kept p)
+
+-- bytes by another name
+pub hex-as : {a b l m : List ℕ} {i j : ℕ} → a ≡ b → Put (hexText b) l i m j → Put (hexText a) l i m j
+hex-as e p = as-text (ap hexText e) p
+
+pub length-shift : (o : TimeOffset) → length (shiftBytes o) ≡ 3
+unfolding shiftBytes
+length-shift Utc = refl
+length-shift (Offset true h m) = refl
+length-shift (Offset false h m) = refl
+
+pub length-offset : (o : OptionOffset) → length (offsetBytes o) ≡ 3
+unfolding offsetBytes
+length-offset NoOffset = refl
+length-offset (SomeOffset o) = length-shift o
+
+pub length-time : (t : OptionTime) → length (timeBytes t) ≡ 7
+unfolding timeBytes
+length-time NoTime = refl
+length-time (SomeTime t) = let e = length-offset (t .offset) in omega arith
+
+pub length-datetime : (d : Datetime) → length (datetimeBytes d) ≡ 13
+unfolding datetimeBytes
+length-datetime d = let e = length-time (d .time) in omega arith
+
+pub no-time : {t : OptionTime} → t ≡ NoTime → timeBytes t ≡ 0 ∷ 0 ∷ 0 ∷ 0 ∷ 0 ∷ 0 ∷ 0 ∷ []
+unfolding timeBytes
+no-time e = rw e
+
+pub some-time : {t : OptionTime} {u : Time} {o : List ℕ} → t ≡ SomeTime u → o ≡ offsetBytes (u .offset) → timeBytes t ≡ (1 ∷ u .hour ∷ u .minute ∷ u .second ∷ []) ++ o
+unfolding timeBytes
+some-time e g = rw (e, g)
+
+pub datetime-is : (d : Datetime) {n m k : ℕ} {w : List ℕ} → n ≡ twos (d .year) → w ≡ wordBytes n → m ≡ monthByte (d .month) → k ≡ dayByte (d .day)
+    → datetimeBytes d ≡ w ++ ((m ∷ k ∷ []) ++ timeBytes (d .time))
+unfolding datetimeBytes
+datetime-is d en ew em ek = rw (ew, en, em, ek)
+
+-- one Datetime, or two
+pub ends-at : {v : DateValue} {d : Datetime} → v ≡ At d → endsBytes v ≡ datetimeBytes d
+unfolding endsBytes
+ends-at e = rw e
+
+pub ends-after : {v : DateValue} {d : Datetime} → v ≡ After d → endsBytes v ≡ datetimeBytes d
+unfolding endsBytes
+ends-after e = rw e
+
+pub ends-before : {v : DateValue} {d : Datetime} → v ≡ Before d → endsBytes v ≡ datetimeBytes d
+unfolding endsBytes
+ends-before e = rw e
+
+pub ends-between : {v : DateValue} {a b : Datetime} → v ≡ Between a b → endsBytes v ≡ datetimeBytes a ++ datetimeBytes b
+unfolding endsBytes
+ends-between e = rw e
+
+pub one-end : (v : DateValue) (d : Datetime) → endsBytes v ≡ datetimeBytes d → 13 ≡ length (endsBytes v)
+one-end v d e = sym (ap length e ∙ length-datetime d)
+
+pub two-ends : (v : DateValue) (a b : Datetime) → endsBytes v ≡ datetimeBytes a ++ datetimeBytes b → 26 ≡ length (endsBytes v)
+two-ends v a b e =
+    let n = ap length e ∙ length-append (datetimeBytes a) (datetimeBytes b) in
+    let x = length-datetime a in
+    let y = length-datetime b in
+    omega arith
+
+-- the length of a line
+pub length-line : (b : List ℕ) → length (lineOf b) ≡ 2 * length b + 1
+length-line b = length-append (hexText b) (0x0A ∷ []) ∙ let e = length-hex b in omega arith
+
+pub length-accepted : (d : Date) (text : List ℕ) → length (acceptedBytes d text) ≡ 3 + length (endsBytes (d .value)) + length text
+unfolding acceptedBytes
+length-accepted d text = let e = length-append (endsBytes (d .value)) text in omega arith
+
+pub length-refused : (e : Refusal) → length (refusedBytes e) ≡ 17
+unfolding refusedBytes
+length-refused e = refl
+
+-- a line that was put
+pub line-put : (b : List ℕ) {l m p : List ℕ} {j k : ℕ} → Put (hexText b) l 0 m j → Put (0x0A ∷ []) m j p k → Put (lineOf b) l 0 p k
+line-put b p q = both p q
+
+pub accepted-is : (d : Date) (text : List ℕ) {s m : ℕ} → s ≡ shape (d .value) → m ≡ marks (d .uncertain) (d .approximate)
+    → acceptedBytes d text ≡ (0 ∷ s ∷ m ∷ []) ++ (endsBytes (d .value) ++ text)
+unfolding acceptedBytes
+accepted-is d text es em = rw (es, em)
+
+pub refused-is : (e : Refusal) {n : ℕ} → n ≡ number (e .kind) → refusedBytes e ≡ (n ∷ []) ++ (longBytes (e .place .0) ++ longBytes (e .place .1))
+unfolding refusedBytes
+refused-is e en = rw en

@@ -1,0 +1,30 @@
+use Rattle.answers.specs.Answer.{monthByte}
+use borrow.Author.Tests.{lt-ltb, le-ltb, le-leb, lt-leb, eq-eqb, ne-eqb}
+use borrow.Author.Needs.{needs}
+use Rattle.answers.proofs.month_byte.Statement.{statement}
+use Rattle.answers.proofs.month_byte.Tie as tie
+use Rattle.answers.proofs.month_byte.Reads as reads
+use Rattle.answers.proofs.month_byte.Lts as lts
+
+-- src/lib.rt:56:33
+enum-told : tie.Need-enum-told
+enum-told c = search needs
+
+-- src/lib.rt:57:32
+enum-known-m : tie.Need-enum-known-m
+enum-known-m c = search needs
+
+-- src/lib.rt:52:1
+returns : tie.Need-returns
+unfolding monthByte
+returns c = simp (c .enum-told .given .1)
+
+-- src/lib.rt:52:1
+returns-2 : tie.Need-returns-2
+unfolding monthByte
+returns-2 c =
+    let b1 = c .before in
+    simp (b1 .m .given .1)
+
+pub month-byte-spec : {M : Type 1} → statement M
+month-byte-spec = tie.close (tie.spec enum-told enum-known-m returns returns-2)

@@ -1,0 +1,127 @@
+-- The answer to a frame: bytes, and the line of hexadecimal digits that says them.
+use Prim.Native.Nat.{ℕ, _+_, _-_, _*_, _/_, _%_}
+use mathlib.Core.Bool.{Bool, true, false}
+use mathlib.Core.List.{List, [], _∷_, _++_}
+use lib.Dec.{ltb}
+use lib.IntN.{ℤ, pos, negsuc}
+use Rattle.chars.specs.Pick.{pick}
+use Rattle.refusals.specs.declared.Kind.the-variants.{RustPanics}
+use Rattle.refusals.specs.declared.Refusal.{Refusal}
+use Rattle.refusals.specs.Refusal.{number, fileSpan, refusal}
+use Rattle.dates.specs.declared.OptionMonth.{OptionMonth}
+use Rattle.dates.specs.declared.OptionMonth.the-variants.{NoMonth, SomeMonth}
+use Rattle.dates.specs.declared.OptionDay.{OptionDay}
+use Rattle.dates.specs.declared.OptionDay.the-variants.{NoDay, SomeDay}
+use Rattle.dates.specs.declared.TimeOffset.{TimeOffset}
+use Rattle.dates.specs.declared.TimeOffset.the-variants.{Utc, Offset}
+use Rattle.dates.specs.declared.OptionOffset.{OptionOffset}
+use Rattle.dates.specs.declared.OptionOffset.the-variants.{NoOffset, SomeOffset}
+use Rattle.dates.specs.declared.OptionTime.{OptionTime}
+use Rattle.dates.specs.declared.OptionTime.the-variants.{NoTime, SomeTime}
+use Rattle.dates.specs.declared.Datetime.{Datetime}
+use Rattle.dates.specs.declared.DateValue.{DateValue}
+use Rattle.dates.specs.declared.DateValue.the-variants.{At, After, Before, Between}
+use Rattle.dates.specs.declared.Date.{Date}
+use Rattle.datefield.specs.declared.ReadDate.{ReadDate}
+use Rattle.datefield.specs.declared.ReadDate.the-variants.{Accepted, Refused}
+use Rattle.writer.specs.Texts.{dateText, panics}
+
+-- a hexadecimal digit, in lower case
+unfoldable pub glyph : ℕ → ℕ
+glyph d = pick (ltb d 10) (0x30 + d) (0x61 + (d - 10))
+
+-- bytes as digits, the high one first
+unfoldable pub hexText : List ℕ → List ℕ
+hexText [] = []
+hexText (b ∷ l) = glyph (b / 16) ∷ glyph (b % 16) ∷ hexText l
+
+-- a number in four bytes, the high one first
+abbrev pub wordBytes : ℕ → List ℕ
+wordBytes n = (n / 16777216 % 256) ∷ (n / 65536 % 256) ∷ (n / 256 % 256) ∷ (n % 256) ∷ []
+
+-- in eight bytes
+abbrev pub longBytes : ℕ → List ℕ
+longBytes n = wordBytes (n / 4294967296) ++ wordBytes (n % 4294967296)
+
+-- a year in two's complement of 32 bits
+unfoldable pub twos : ℤ → ℕ
+twos (pos n) = n
+twos (negsuc n) = 4294967295 - n
+
+-- a stored month; ff if it is absent
+unfoldable pub monthByte : OptionMonth → ℕ
+monthByte NoMonth = 255
+monthByte (SomeMonth m) = m .0
+
+-- a stored day likewise
+unfoldable pub dayByte : OptionDay → ℕ
+dayByte NoDay = 255
+dayByte (SomeDay d) = d .0
+
+-- an offset: 1 UTC, 2 plus, 3 minus; then its hours and minutes
+unfoldable pub shiftBytes : TimeOffset → List ℕ
+shiftBytes Utc = 1 ∷ 0 ∷ 0 ∷ []
+shiftBytes (Offset true h m) = 2 ∷ h ∷ m ∷ []
+shiftBytes (Offset false h m) = 3 ∷ h ∷ m ∷ []
+
+-- zeros if it is absent
+unfoldable pub offsetBytes : OptionOffset → List ℕ
+offsetBytes NoOffset = 0 ∷ 0 ∷ 0 ∷ []
+offsetBytes (SomeOffset o) = shiftBytes o
+
+-- a time: 01, hour, minute, second and the offset; zeros if it is absent
+unfoldable pub timeBytes : OptionTime → List ℕ
+timeBytes NoTime = 0 ∷ 0 ∷ 0 ∷ 0 ∷ 0 ∷ 0 ∷ 0 ∷ []
+timeBytes (SomeTime t) = 1 ∷ t .hour ∷ t .minute ∷ t .second ∷ offsetBytes (t .offset)
+
+-- a Datetime: the year, the month and the day, the time
+unfoldable pub datetimeBytes : Datetime → List ℕ
+datetimeBytes d = wordBytes (twos (d .year)) ++ ((monthByte (d .month) ∷ dayByte (d .day) ∷ []) ++ timeBytes (d .time))
+
+-- the shapes by their numbers
+unfoldable pub shape : DateValue → ℕ
+shape (At a) = 0
+shape (After a) = 1
+shape (Before a) = 2
+shape (Between a b) = 3
+
+-- each Datetime of a point or a range
+unfoldable pub endsBytes : DateValue → List ℕ
+endsBytes (At a) = datetimeBytes a
+endsBytes (After a) = datetimeBytes a
+endsBytes (Before a) = datetimeBytes a
+endsBytes (Between a b) = datetimeBytes a ++ datetimeBytes b
+
+-- a bit
+unfoldable pub bit : Bool → ℕ
+bit true = 1
+bit false = 0
+
+-- the marks: bit 0 uncertain, bit 1 approximate
+unfoldable pub marks : Bool → Bool → ℕ
+marks uncertain approximate = bit uncertain + 2 * bit approximate
+
+-- a Date with its written text: 00, its shape, its marks, its Datetimes, and the text
+unfoldable pub acceptedBytes : Date → List ℕ → List ℕ
+acceptedBytes d text = (0 ∷ shape (d .value) ∷ marks (d .uncertain) (d .approximate) ∷ []) ++ (endsBytes (d .value) ++ text)
+
+-- a refusal: its number, and its place from start to end
+unfoldable pub refusedBytes : Refusal → List ℕ
+refusedBytes e = (number (e .kind) ∷ []) ++ (longBytes (e .place .0) ++ longBytes (e .place .1))
+
+-- a line: the digits of bytes and a line feed
+abbrev pub lineOf : List ℕ → List ℕ
+lineOf bytes = hexText bytes ++ (0x0A ∷ [])
+
+-- the line of a Date
+abbrev pub acceptedLine : Date → List ℕ → List ℕ
+acceptedLine d text = lineOf (acceptedBytes d text)
+
+-- the line of a refusal
+abbrev pub refusedLine : Refusal → List ℕ
+refusedLine e = lineOf (refusedBytes e)
+
+-- the line of what a reader answered; where the Rust panics in writing the Date, that is the refusal
+unfoldable pub answerLine : ReadDate → List ℕ
+answerLine (Accepted d) = pick (panics d) (refusedLine (refusal RustPanics (fileSpan 0 0))) (acceptedLine d (dateText d))
+answerLine (Refused e) = refusedLine e

@@ -1,0 +1,267 @@
+// The answer to a frame, as a line of hexadecimal digits in a buffer that the caller lends. The functions that put a text at a place of
+// a buffer with the room for it give the place behind it.
+ghost use mathlib.Core.Path.{_≡_};
+ghost use mathlib.Core.Bool.{false};
+ghost use mathlib.Core.List.{[], _∷_, _++_};
+ghost use Prim.Native.Nat.{_+_, _*_, _/_, _%_, _≤_, _<_};
+ghost use lib.ListN.{length};
+ghost use Rattle.writer.specs.Answers as writing;
+ghost use Rattle.writer.specs.Answers.{Put};
+ghost use Rattle.writer.specs.Texts.{dateText};
+ghost use Rattle.answers.specs.Answer as spec;
+use datefield::ReadDate;
+use dates::Date;
+use dates::DateValue;
+use dates::Datetime;
+use dates::OptionDay;
+use dates::OptionMonth;
+use dates::OptionOffset;
+use dates::OptionTime;
+use dates::TimeOffset;
+use refusals::FileSpan;
+use refusals::Kind;
+use refusals::Refusal;
+use writer::Written;
+
+// ---- the bytes of an answer
+
+// A number in four bytes.
+fn word(n: u32) -> [u8; 4]
+    ensures { λ r. ⌜ r ≡ spec.wordBytes n ⌝ }
+{
+    [
+        (n / 16777216 % 256) as u8,
+        (n / 65536 % 256) as u8,
+        (n / 256 % 256) as u8,
+        (n % 256) as u8,
+    ]
+}
+
+// A year in two's complement.
+fn twos(year: i32) -> u32
+    ensures { λ r. ⌜ r ≡ spec.twos year ⌝ }
+{
+    if year < 0 {
+        let y = year as i64;
+        return u32::MAX - ((0 - y) as u32 - 1);
+    }
+    year as u32
+}
+
+// A stored month; ff if it is absent.
+fn month_byte(m: OptionMonth) -> u8
+    ensures { λ r. ⌜ r ≡ spec.monthByte m ⌝ }
+{
+    match m {
+        OptionMonth::NoMonth => 255,
+        OptionMonth::SomeMonth(m) => m.0,
+    }
+}
+
+// A stored day; ff if it is absent.
+fn day_byte(d: OptionDay) -> u8
+    ensures { λ r. ⌜ r ≡ spec.dayByte d ⌝ }
+{
+    match d {
+        OptionDay::NoDay => 255,
+        OptionDay::SomeDay(d) => d.0,
+    }
+}
+
+// The kind of an offset that is there, its hours and its minutes.
+fn shift_bytes(o: TimeOffset) -> [u8; 3]
+    ensures { λ r. ⌜ r ≡ spec.shiftBytes o ⌝ }
+{
+    match o {
+        TimeOffset::Utc => [1, 0, 0],
+        TimeOffset::Offset {
+            positive,
+            hours,
+            minutes,
+        } => {
+            if positive {
+                return [2, hours, minutes];
+            }
+            [3, hours, minutes]
+        }
+    }
+}
+
+// The same of one that may be absent.
+fn offset_bytes(o: OptionOffset) -> [u8; 3]
+    ensures { λ r. ⌜ r ≡ spec.offsetBytes o ⌝ }
+{
+    match o {
+        OptionOffset::NoOffset => [0, 0, 0],
+        OptionOffset::SomeOffset(o) => shift_bytes(o),
+    }
+}
+
+// The shape of a point or a range.
+fn shape(v: DateValue) -> u8
+    ensures { λ r. ⌜ r ≡ spec.shape v ⌝ }
+{
+    match v {
+        DateValue::At(_) => 0,
+        DateValue::After(_) => 1,
+        DateValue::Before(_) => 2,
+        DateValue::Between(_, _) => 3,
+    }
+}
+
+// A bit.
+fn bit(b: bool) -> u8
+    ensures { λ r. ⌜ r ≡ spec.bit b ⌝ }
+{
+    if b {
+        return 1;
+    }
+    0
+}
+
+// The marks, packed: bit 0 uncertain, bit 1 approximate.
+fn marks(uncertain: bool, approximate: bool) -> u8
+    ensures { λ r. ⌜ r ≡ spec.marks uncertain approximate ⌝ }
+{
+    bit(uncertain) & 1 | (bit(approximate) & 1) << 1
+}
+
+// ---- the line
+
+// A hexadecimal digit.
+fn glyph(d: u8) -> u8
+    requires { ⌜ d < 16 ⌝ }
+    ensures { λ r. ⌜ r ≡ spec.glyph d ⌝ }
+{
+    if d < 10 {
+        return b'0' + d;
+    }
+    b'a' + (d - 10)
+}
+
+// The high digit of a byte.
+fn high(b: u8) -> u8
+    ensures { λ r. ⌜ r ≡ spec.glyph (b / 16) ⌝ }
+{
+    glyph(b / 16)
+}
+
+// The low one.
+fn low(b: u8) -> u8
+    ensures { λ r. ⌜ r ≡ spec.glyph (b % 16) ⌝ }
+{
+    glyph(b % 16)
+}
+
+// Bytes as digits.
+fn put_hex(t: &[u8], out: &mut [u8], at: usize) -> usize
+    requires { ⌜ at + 2 * length (now t) ≤ length (now out) ⌝ }
+    ensures { λ r. ⌜ Put (spec.hexText (now (t .entry))) (now (out .entry)) at (now (out .exit)) r ⌝ }
+{
+    let mut i = 0;
+    while i < t.len() {
+        out[at + 2 * i] = high(t[i]);
+        out[at + 2 * i + 1] = low(t[i]);
+        i += 1;
+    }
+    at + 2 * i
+}
+
+// A time, and its offset; zeros if it is absent.
+fn put_time(t: OptionTime, out: &mut [u8], at: usize) -> usize
+    requires { ⌜ at + 14 ≤ length (now out) ⌝ }
+    ensures { λ r. ⌜ Put (spec.hexText (spec.timeBytes t)) (now (out .entry)) at (now (out .exit)) r ⌝ }
+{
+    match t {
+        OptionTime::NoTime => put_hex(&[0, 0, 0, 0, 0, 0, 0], out, at),
+        OptionTime::SomeTime(t) => {
+            let offset = t.offset;
+            let k = put_hex(&[1, t.hour, t.minute, t.second], out, at);
+            put_hex(&offset_bytes(offset), out, k)
+        }
+    }
+}
+
+// A Datetime.
+fn put_datetime(d: Datetime, out: &mut [u8], at: usize) -> usize
+    requires { ⌜ at + 26 ≤ length (now out) ⌝ }
+    ensures { λ r. ⌜ Put (spec.hexText (spec.datetimeBytes d)) (now (out .entry)) at (now (out .exit)) r ⌝ }
+{
+    let month = d.month;
+    let day = d.day;
+    let time = d.time;
+    let i = put_hex(&word(twos(d.year)), out, at);
+    let j = put_hex(&[month_byte(month), day_byte(day)], out, i);
+    put_time(time, out, j)
+}
+
+// Each Datetime of a point or a range.
+fn put_ends(v: DateValue, out: &mut [u8], at: usize) -> usize
+    requires { ⌜ at + 2 * length (spec.endsBytes v) ≤ length (now out) ⌝ }
+    ensures { λ r. ⌜ Put (spec.hexText (spec.endsBytes v)) (now (out .entry)) at (now (out .exit)) r ⌝ }
+{
+    match v {
+        DateValue::At(d) => put_datetime(d, out, at),
+        DateValue::After(d) => put_datetime(d, out, at),
+        DateValue::Before(d) => put_datetime(d, out, at),
+        DateValue::Between(a, b) => {
+            let k = put_datetime(a, out, at);
+            put_datetime(b, out, k)
+        }
+    }
+}
+
+// How many bytes they have.
+fn ends_length(v: DateValue) -> usize
+    ensures { λ r. ⌜ (r ≡ length (spec.endsBytes v)) × (r < 27) ⌝ }
+{
+    match v {
+        DateValue::At(_) => 13,
+        DateValue::After(_) => 13,
+        DateValue::Before(_) => 13,
+        DateValue::Between(_, _) => 26,
+    }
+}
+
+// The line feed.
+fn end_line(out: &mut [u8], at: usize) -> usize
+    requires { ⌜ at + 1 ≤ length (now out) ⌝ }
+    ensures { λ r. ⌜ Put (10 ∷ []) (now (out .entry)) at (now (out .exit)) r ⌝ }
+{
+    out[at] = 10;
+    at + 1
+}
+
+// The line of a Date, whose written text is given.
+fn put_accepted(d: Date, text: &[u8], out: &mut [u8]) -> usize
+    requires { ⌜ length (spec.acceptedLine d (now text)) ≤ length (now out) ⌝ }
+    ensures { λ r. ⌜ Put (spec.acceptedLine d (now (text .entry))) (now (out .entry)) 0 (now (out .exit)) r ⌝ }
+{
+    let v = d.value;
+    let i = put_hex(&[0, shape(v), marks(d.uncertain, d.approximate)], out, 0);
+    let j = put_ends(v, out, i);
+    let k = put_hex(text, out, j);
+    end_line(out, k)
+}
+
+// A number in eight bytes.
+fn put_long(n: u64, out: &mut [u8], at: usize) -> usize
+    requires { ⌜ at + 16 ≤ length (now out) ⌝ }
+    ensures { λ r. ⌜ Put (spec.hexText (spec.longBytes n)) (now (out .entry)) at (now (out .exit)) r ⌝ }
+{
+    let k = put_hex(&word((n / 4294967296) as u32), out, at);
+    put_hex(&word((n % 4294967296) as u32), out, k)
+}
+
+// The line of a refusal.
+fn put_refused(e: Refusal, out: &mut [u8]) -> usize
+    requires { ⌜ 35 ≤ length (now out) ⌝ }
+    ensures { λ r. ⌜ Put (spec.refusedLine e) (now (out .entry)) 0 (now (out .exit)) r ⌝ }
+{
+    let kind = e.kind;
+    let place = e.place;
+    let i = put_hex(&[refusals::number(kind)], out, 0);
+    let j = put_long(place.0, out, i);
+    let k = put_long(place.1, out, j);
+    end_line(out, k)
+}
