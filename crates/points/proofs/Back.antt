@@ -7,7 +7,7 @@ use Prim.Native.Nat.{ℕ, zero, suc, _+_, _/_, _%_, _≤_, _<_}
 use native.Mathlib.Omega.{arith}
 use borrow.Author.Tests.{lt-ltb, le-ltb, le-leb, lt-leb}
 use lib.Dec.{lit<, lit≤}
-use lib.IntN.{ℤ, pos, negsuc, natAbs}
+use lib.IntN.{ℤ, pos, negsuc, natAbs, negℤ}
 use lib.ListN.{length, getD}
 use Rattle.chars.specs.Pick.{pick}
 use Rattle.scanner.specs.declared.Class.the-variants.{Whitespace, Is}
@@ -110,12 +110,25 @@ unfolding admits
 four-long = refl
 
 -- a year of four digits, whatever may stand behind it
-pub year-read : (y : ℤ) {s t : List ℕ} → natAbs y < 10000 → Behind t → From s 0 (yearBytes y ++ t) → yearAt s 0 ≡ Year y (cursor (0 + length (yearBytes y)))
+pub plain-year : (n : ℕ) {s t : List ℕ} → n < 10000 → Behind t → From s 0 (bytes (four n) ++ t) → yearAt s 0 ≡ Year (pos n) (cursor 4)
 unfolding yearAt shortYear windowedInt longYear longOf shortOr
-year-read (pos n) h b f =
+plain-year n h b f =
     rw (int-wrong (lead n) (three n) (four-digits n) b f Two four-short, int-read (lead n) (three n) (four-digits n) b f Four four-long, four-value n h)
-year-read (negsuc n) h b f =
-    rw (minus-wrong (lead (suc n)) (three (suc n)) (four-digits (suc n)) b f Two four-short, minus-read (lead (suc n)) (three (suc n)) (four-digits (suc n)) b f Four four-long, four-value (suc n) h)
+
+-- the same behind a minus, 0000 too
+pub minus-year : (n : ℕ) {s t : List ℕ} → n < 10000 → Behind t → From s 0 (0x2D ∷ bytes (four n) ++ t) → yearAt s 0 ≡ Year (negℤ (pos n)) (cursor 5)
+unfolding yearAt shortYear windowedInt longYear longOf shortOr
+minus-year n h b f =
+    rw (minus-wrong (lead n) (three n) (four-digits n) b f Two four-short, minus-read (lead n) (three n) (four-digits n) b f Four four-long, four-value n h)
+
+pub year-read : (y : ℤ) {s t : List ℕ} → natAbs y < 10000 → Behind t → From s 0 (yearBytes y ++ t) → yearAt s 0 ≡ Year y (cursor (0 + length (yearBytes y)))
+year-read (pos n) h b f = plain-year n h b f
+year-read (negsuc n) h b f = minus-year (suc n) h b f
+
+-- a point goes on behind its year
+pub on-year : (s : List ℕ) {y : ℤ} {i : ℕ} → yearAt s 0 ≡ Year y (cursor i) → point s ≡ behindYear s i y
+unfolding point onYear
+on-year s e = rw e
 
 -- two digits are a number, counted from the lowest
 pub part-read : (n v low high : ℕ) (k : Kind) {s t : List ℕ} {i : ℕ} → v + low ≡ n → n < 100 → n ≤ high → Behind t → From s i (bytes (two n) ++ t) → partAt s i low high k ≡ Stored v (cursor (i + 2))
@@ -170,9 +183,9 @@ pub day-end : (y : ℤ) (m : OptionMonth) (d : OptionDay) {s : List ℕ} {i : �
 unfolding behindDay
 day-end y m d f = or-end _ _ f
 
--- what stands behind a month or a day
-pub part-behind : (n : ℕ) {s t : List ℕ} {i : ℕ} → From s i (partBytes n ++ t) → From s (i + 1 + 2) t
-part-behind n f = from-behind (bytes (two (n + 1))) (front-rest f)
+-- what stands behind a separator and two digits
+pub two-behind : {a b c : ℕ} {s t : List ℕ} {i : ℕ} → From s i (a ∷ b ∷ c ∷ t) → From s (i + 1 + 2) t
+two-behind {a} {b} {c} f = from-behind (b ∷ c ∷ []) (front-rest f)
 
 -- no month is longer than 31 days
 abbrev AllLe : ℕ → List ℕ → Type 0
@@ -197,12 +210,12 @@ length-most m y = getD-most 31 (monthLengths (leapYear y)) m (lengths-most (leap
 tail-read : (y : ℤ) (m : OptionMonth) (d : OptionDay) {s : List ℕ} {i : ℕ} → PartsIn y m d → From s i (tailBytes m d) → behindYear s i y ≡ Point (datetime y m d NoTime)
 tail-read y NoMonth NoDay h f = year-end y f
 tail-read y NoMonth (SomeDay d) h f = absurd h
-tail-read y (SomeMonth m) NoDay h f = month-read y (m .0) h end f ∙ month-end y m (part-behind (m .0) f)
+tail-read y (SomeMonth m) NoDay h f = month-read y (m .0) h end f ∙ month-end y m (two-behind f)
 tail-read y (SomeMonth m) (SomeDay d) h f =
-    let g = part-behind (m .0) f in
+    let g = two-behind f in
     month-read y (m .0) (h .0) hyphen f
     ∙ day-read y m (d .0) (h .1) (omega (arith, length-most (m .0) y, h .1)) end g
-    ∙ day-end y (SomeMonth m) (SomeDay d) (part-behind (d .0) g)
+    ∙ day-end y (SomeMonth m) (SomeDay d) (two-behind g)
 
 behind-tail : (m : OptionMonth) (d : OptionDay) → Behind (tailBytes m d)
 behind-tail NoMonth d = end
@@ -210,9 +223,9 @@ behind-tail (SomeMonth m) d = hyphen
 
 -- a written point, read, is the point
 pub point-back : (d : Datetime) → Written d → point (written d) ≡ Point d
-unfolding point onYear
 point-back d w =
     let y = d .year in
     let f = from-start (written d) in
-    rw (year-read y (w .year-in) (behind-tail (d .month) (d .day)) f)
-    (tail-read y (d .month) (d .day) (w .parts-in) (from-behind (yearBytes y) f) ∙ ap (λ (t : OptionTime). Point (datetime y (d .month) (d .day) t)) (sym (w .untimed)))
+    on-year (written d) (year-read y (w .year-in) (behind-tail (d .month) (d .day)) f)
+    ∙ tail-read y (d .month) (d .day) (w .parts-in) (from-behind (yearBytes y) f)
+    ∙ ap (λ (t : OptionTime). Point (datetime y (d .month) (d .day) t)) (sym (w .untimed))

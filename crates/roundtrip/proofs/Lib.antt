@@ -1,3 +1,4 @@
+pub mod Points
 pub mod Texts
 pub mod Whole
 pub mod Derived
