@@ -1,4 +1,8 @@
+pub mod Bytes
 pub mod Points
+pub mod Values
+pub mod Trims
+pub mod Agrees
 pub mod Texts
 pub mod Whole
 pub mod Derived
