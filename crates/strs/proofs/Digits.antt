@@ -1,4 +1,5 @@
--- What callers use of a number that was parsed: it is at most the largest one. And how its digits are read, one by one.
+-- What callers use of a number that was parsed: it is at most the largest one, and has no more digits than its text has bytes. And how its
+-- digits are read, one by one.
 -- Assumes nothing.
 use mathlib.Core.Path.{_≡_, subst}
 use mathlib.Core.List.{List, [], _∷_}
