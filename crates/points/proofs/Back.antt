@@ -13,6 +13,7 @@ use Rattle.chars.specs.Pick.{pick}
 use Rattle.scanner.specs.declared.Class.the-variants.{Whitespace, Is}
 use Rattle.scanner.specs.Scan.{doneAt}
 use Rattle.scanner.proofs.Front.{From, from-start, from-behind, front-inside, front-rest, front-stop, front-past, front-end}
+use Rattle.refusals.specs.Offset.{textRefusal}
 use Rattle.refusals.specs.declared.Kind.{Kind}
 use Rattle.refusals.specs.declared.Kind.the-variants.{MonthOutOfRange, DayOutOfRange}
 use Rattle.numbers.specs.Number.{admits, cursor}
@@ -30,7 +31,7 @@ use Rattle.dates.specs.declared.OptionTime.the-variants.{NoTime}
 use Rattle.dates.specs.declared.Datetime.{Datetime}
 use Rattle.points.specs.Step.{stored, partAt, monthAt, dayAt, hyphenOr, hyphenFrom, hyphenAt, onPart, onSeparator, orEnd}
 use Rattle.points.specs.Point.{windowedInt, shortYear, longOf, longYear, shortOr, yearAt, onYear, behindDay, behindMonth, behindYear, point}
-use Rattle.points.specs.declared.ReadPoint.the-variants.{Point}
+use Rattle.points.specs.declared.ReadPoint.the-variants.{Point, Refused}
 use Rattle.points.specs.declared.ReadYear.the-variants.{Year}
 use Rattle.points.specs.declared.ReadSeparator.the-variants.{Passed}
 use Rattle.points.specs.declared.ReadPart.the-variants.{Stored}
@@ -179,6 +180,17 @@ day-read y m d l h b f =
       lt-ltb d (monthLength (m .0) y) l,
     )
 
+-- a day that the month does not have
+pub day-past : (y : ℤ) (m : Month) (d : ℕ) {s t : List ℕ} {i : ℕ} → monthLength (m .0) y ≤ d → d < 31 → Behind t → From s i (partBytes d ++ t) → behindMonth s i y m ≡ Refused (textRefusal DayOutOfRange 0 (i + 1 + 2))
+unfolding behindMonth dayAt onSeparator onPart pick
+day-past y m d l h b f =
+    rw (
+      or-more (Point (datetime y (SomeMonth m) NoDay NoTime)) _ hyphen f,
+      hyphen-read ((d + 1) / 10 % 10) (omega arith) f,
+      part-read (d + 1) d 1 31 DayOutOfRange refl (omega arith) (omega arith) b (front-rest f),
+      le-ltb d (monthLength (m .0) y) l,
+    )
+
 pub day-end : (y : ℤ) (m : OptionMonth) (d : OptionDay) {s : List ℕ} {i : ℕ} → From s i [] → behindDay s i y m d ≡ Point (datetime y m d NoTime)
 unfolding behindDay
 day-end y m d f = or-end _ _ f
@@ -229,3 +241,12 @@ point-back d w =
     on-year (written d) (year-read y (w .year-in) (behind-tail (d .month) (d .day)) f)
     ∙ tail-read y (d .month) (d .day) (w .parts-in) (from-behind (yearBytes y) f)
     ∙ ap (λ (t : OptionTime). Point (datetime y (d .month) (d .day) t)) (sym (w .untimed))
+
+-- a written point with a day that its month does not have is refused, from its start to its end
+pub point-past : (y : ℤ) (m d : ℕ) → natAbs y < 10000 → m < 12 → d < 31 → monthLength m y ≤ d → point (yearBytes y ++ (partBytes m ++ partBytes d)) ≡ Refused (textRefusal DayOutOfRange 0 (length (yearBytes y) + 6))
+unfolding point onYear
+point-past y m d h l k g =
+    let f = from-start (yearBytes y ++ (partBytes m ++ partBytes d)) in
+    let a = from-behind (yearBytes y) f in
+    rw (year-read y h hyphen f, month-read y m l hyphen a, day-past y (record { 0 = m }) d g k end (two-behind a))
+    (ap (λ (n : ℕ). Refused (textRefusal DayOutOfRange 0 n)) (omega arith))

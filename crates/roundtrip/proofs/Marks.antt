@@ -12,8 +12,9 @@ use lib.Seq.{take-at, take-length, getD-at}
 use Rattle.chars.specs.Pick.{pick}
 use Rattle.scanner.proofs.Laws.{not-white}
 use Rattle.refusals.specs.declared.FileSpan.{FileSpan}
+use Rattle.refusals.specs.Refusal.{fileSpan}
 use Rattle.chunks.specs.Plain.{allAscii, plainByte, plainText}
-use Rattle.chunks.specs.Chunks.{chunksOf, spanOf}
+use Rattle.chunks.specs.Chunks.{chunksOf, lastEnd, spanOf}
 use Rattle.chunks.specs.Answer.{textOf}
 use Rattle.chunks.proofs.Plains.{plain-high, IsPlain, Plainly, plainly}
 use Rattle.dates.specs.declared.Date.{Date}
@@ -130,32 +131,29 @@ module _ (span : FileSpan) (s : List ℕ) where
   marks-back b h true false = one-mark 0x3F refl
   marks-back b h false false = rw (append-nil s) (not-marked b h)
 
-module _ (d : Date) (w : InDomain (d .value)) where
+mark-short : (u a : Bool) → length (markText u a) ≤ 1
+unfolding markText
+mark-short true true = omega arith
+mark-short false true = omega arith
+mark-short true false = omega arith
+mark-short false false = omega arith
+
+module _ (d : Date) (k : Known (valueText (d .value))) where
   text-clear : Clear (dateText d)
   unfolding dateText
-  text-clear = clear-append (body-clear (known (d .value) w .body)) (mark-clear (d .uncertain) (d .approximate))
-
-  mark-short : (u a : Bool) → length (markText u a) ≤ 1
-  unfolding markText
-  mark-short true true = omega arith
-  mark-short false true = omega arith
-  mark-short true false = omega arith
-  mark-short false false = omega arith
+  text-clear = clear-append (body-clear (k .body)) (mark-clear (d .uncertain) (d .approximate))
 
   text-short : length (dateText d) ≤ 4096
   unfolding dateText
   text-short =
-      let k = known (d .value) w .short in
       let m = mark-short (d .uncertain) (d .approximate) in
       let e = length-append (valueText (d .value)) (markText (d .uncertain) (d .approximate)) in
-      omega arith
+      omega (arith, k .short)
 
-  read-back : (span : FileSpan) → readText span (dateText d) ≡ Accepted d
-  unfolding readText dateText marked
-  read-back span =
-      ap (trimmedDate span) (clear-trimmed text-clear)
-      ∙ marks-back span (valueText (d .value)) (known (d .value) w .body) (known (d .value) w .some) (d .uncertain) (d .approximate)
-      ∙ rw (value-back span (d .value) w)
+  marks-read : (span : FileSpan) → readText span (dateText d) ≡ marked (d .uncertain) (d .approximate) (value span (valueText (d .value)))
+  unfolding readText dateText
+  marks-read span =
+      ap (trimmedDate span) (clear-trimmed text-clear) ∙ marks-back span (valueText (d .value)) (k .body) (k .some) (d .uncertain) (d .approximate)
 
   plain-list : (start end : ℕ) → Plainly (dateText d) (oneChunk (dateText d) start end)
   plain-list start end =
@@ -165,12 +163,19 @@ module _ (d : Date) (w : InDomain (d .value)) where
   same-text : (u : Bool) (start end : ℕ) → dateText d ≡ textOf u (dateText d) (oneChunk (dateText d) start end)
   same-text u start end = sym (plain-list start end .text u ∙ clear-text u false text-clear)
 
-  -- the written text of such a Date, read by the ported reader, gives the same Date, its kind and its marks included
-  pub date-back : (start end : ℕ) → parsed (dateText d) (oneChunk (dateText d) start end) ≡ Accepted d
-  date-back start end =
+  -- the written text, read, is what the text without its mark is read as, with that mark
+  pub parsed-marked : (start end : ℕ) → parsed (dateText d) (oneChunk (dateText d) start end) ≡ marked (d .uncertain) (d .approximate) (value (fileSpan start end) (valueText (d .value)))
+  unfolding chunksOf spanOf lastEnd
+  parsed-marked start end =
       let b = dateText d in
       let t = oneChunk b start end in
-      sym (parsed-clean b t (plain-list start end .clean) (same-text true start end)) ∙ read-back (spanOf (chunksOf t))
+      sym (parsed-clean b t (plain-list start end .clean) (same-text true start end)) ∙ marks-read (fileSpan start end)
+
+module _ (d : Date) (w : InDomain (d .value)) where
+  -- the written text of such a Date, read by the ported reader, gives the same Date, its kind and its marks included
+  pub date-back : (start end : ℕ) → parsed (dateText d) (oneChunk (dateText d) start end) ≡ Accepted d
+  unfolding marked
+  date-back start end = parsed-marked d (known (d .value) w) start end ∙ rw (value-back (fileSpan start end) (d .value) w)
 
   -- and so does the strict reader
   pub strict-back : (start end : ℕ) → parsedStrict (dateText d) (oneChunk (dateText d) start end) ≡ Accepted d
@@ -178,4 +183,5 @@ module _ (d : Date) (w : InDomain (d .value)) where
   strict-back start end =
       let b = dateText d in
       let t = oneChunk b start end in
-      sym (strict-clean b t (plain-list start end .clean) (same-text false start end)) ∙ ap strictly (matched d w)
+      let k = known (d .value) w in
+      sym (strict-clean b t (plain-list d k start end .clean) (same-text d k false start end)) ∙ ap strictly (matched d w)

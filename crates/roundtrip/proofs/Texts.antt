@@ -46,20 +46,33 @@ part-is : (n : ℕ) → n + 1 < 100 → hyphenPart (n + 1) ≡ partBytes n
 unfolding hyphenPart partText
 part-is n h = ap (λ (l : List ℕ). 45 ∷ l) (decimal-is 2 (n + 1) h)
 
-tail-is : (y : ℤ) (m : OptionMonth) (d : OptionDay) → PartsIn y m d → partsText (monthParts m d) ≡ tailBytes m d
+-- a month of twelve, and a day beside it that some month has
+abbrev pub PartsShort : OptionMonth → OptionDay → Type 0
+PartsShort NoMonth d = Unit {0}
+PartsShort (SomeMonth m) NoDay = m .0 < 12
+PartsShort (SomeMonth m) (SomeDay d) = (m .0 < 12) × (d .0 < 31)
+
+tail-is : (m : OptionMonth) (d : OptionDay) → PartsShort m d → partsText (monthParts m d) ≡ tailBytes m d
 unfolding partsText monthParts dayParts writtenMonth writtenDay pick
-tail-is y NoMonth NoDay h = refl
-tail-is y NoMonth (SomeDay d) h = absurd h
-tail-is y (SomeMonth m) NoDay h =
+tail-is NoMonth d h = refl
+tail-is (SomeMonth m) NoDay h =
     rw (ne-eqb (m .0) 255 (λ (e : m .0 ≡ 255). omega arith)) (part-is (m .0) (omega arith))
-tail-is y (SomeMonth m) (SomeDay d) h =
-    let l = length-most (m .0) y in
+tail-is (SomeMonth m) (SomeDay d) h =
     rw (ne-eqb (m .0) 255 (λ (e : m .0 ≡ 255). omega (arith, h .0)), ne-eqb (d .0) 255 (λ (e : d .0 ≡ 255). omega (arith, h .1)))
     (rw (part-is (m .0) (omega (arith, h .0)), part-is (d .0) (omega (arith, h .1))))
 
-pub text-is : (d : Datetime) → Written d → datetimeText d ≡ written d
+-- whether or not the month has the day
+pub text-short : (d : Datetime) → natAbs (d .year) < 10000 → PartsShort (d .month) (d .day) → datetimeText d ≡ written d
 unfolding datetimeText partsOf
-text-is d w = rw (year-is (d .year) (w .year-in), tail-is (d .year) (d .month) (d .day) (w .parts-in))
+text-short d h l = rw (year-is (d .year) h, tail-is (d .month) (d .day) l)
+
+short-of : (y : ℤ) (m : OptionMonth) (d : OptionDay) → PartsIn y m d → PartsShort m d
+short-of y NoMonth d h = tt
+short-of y (SomeMonth m) NoDay h = h
+short-of y (SomeMonth m) (SomeDay d) h = let l = length-most (m .0) y in (h .0, omega (arith, h .1))
+
+pub text-is : (d : Datetime) → Written d → datetimeText d ≡ written d
+text-is d w = text-short d (w .year-in) (short-of (d .year) (d .month) (d .day) (w .parts-in))
 
 -- bytes from the hyphen to the nine
 pub data Body : List ℕ → Type 0 where

@@ -18,6 +18,8 @@ use Rattle.scanner.specs.Scan.{eatWhile}
 use Rattle.scanner.proofs.Laws.{not-white}
 use Rattle.scanner.proofs.Front.{From, from-start, front-stop}
 use Rattle.refusals.specs.declared.FileSpan.{FileSpan}
+use Rattle.refusals.specs.declared.TextRefusal.{TextRefusal}
+use Rattle.refusals.specs.Offset.{offset, offsetSecond}
 use lib.IntN.{ℤ}
 use Rattle.dates.specs.declared.OptionMonth.{OptionMonth}
 use Rattle.dates.specs.declared.OptionMonth.the-variants.{NoMonth, SomeMonth}
@@ -28,10 +30,11 @@ use Rattle.dates.specs.declared.DateValue.{DateValue}
 use Rattle.dates.specs.declared.DateValue.the-variants.{At, After, Before, Between}
 use Rattle.dates.specs.declared.Date.{Date}
 use Rattle.dates.specs.Value.{date}
+use Rattle.points.specs.declared.ReadPoint.the-variants.{Refused as NoPoint}
 use Rattle.points.specs.Point.{point}
 use Rattle.points.proofs.Back.{written, Written, PartsIn as Parts, point-back}
 use Rattle.datefield.specs.declared.ReadValue.{ReadValue}
-use Rattle.datefield.specs.declared.ReadValue.the-variants.{Read}
+use Rattle.datefield.specs.declared.ReadValue.the-variants.{Read, NoValue}
 use Rattle.datefield.specs.declared.ReadDate.the-variants.{Accepted}
 use Rattle.datefield.specs.Text.{trimmed, lastByte, isUncertain, isApproximate, unmarked, firstOf, isBlank, isDots, isOpen}
 use Rattle.datefield.specs.Value.{moved, firstHalf, secondHalf, onHalf, bothHalves, halves, value, marked, trimmedDate, dateText as readText}
@@ -67,7 +70,7 @@ dots-open : isOpen dots ≡ true
 unfolding isOpen isDots
 dots-open = rw (not-blank body-dots (omega arith))
 
-no-x : (span : FileSpan) {s : List ℕ} → Body s → value span s ≡ pick (ltb (firstOf 0x2F s) (length s)) (halves span s (firstOf 0x2F s)) (onHalf (moved (point s) λ e. Rattle.refusals.specs.Offset.offset e (span .0)) λ d. Read (At d))
+no-x : (span : FileSpan) {s : List ℕ} → Body s → value span s ≡ pick (ltb (firstOf 0x2F s) (length s)) (halves span s (firstOf 0x2F s)) (onHalf (moved (point s) λ e. offset e (span .0)) λ d. Read (At d))
 unfolding value pick
 no-x span {s} b = rw (first-none (body-without 0x58 (omega arith) b), le-ltb (length s) (length s) (omega arith))
 
@@ -103,6 +106,15 @@ module _ (span : FileSpan) where
       let v = written b in
       let y = body-slash (body-written a) (body-written b) in
       rw (split span u v (no-slash a) y, before-slash span u v (no-slash a) y, behind-slash span u v (no-slash a) y, closed a, closed b, point-back a wa, point-back b wb)
+
+  -- the second half is refused
+  pub second-refused : (a b : Datetime) {e : TextRefusal} → Written a → point (written b) ≡ NoPoint e → value span (written a ++ 47 ∷ written b) ≡ NoValue (offsetSecond e (span .0) (length (written a)))
+  unfolding halves bothHalves firstHalf secondHalf moved onHalf pick
+  second-refused a b wa r =
+      let u = written a in
+      let v = written b in
+      let y = body-slash (body-written a) (body-written b) in
+      rw (split span u v (no-slash a) y, before-slash span u v (no-slash a) y, behind-slash span u v (no-slash a) y, closed a, closed b, point-back a wa, r)
 
   after-back : (a : Datetime) → Written a → value span (written a ++ 47 ∷ dots) ≡ Read (After a)
   unfolding halves firstHalf moved onHalf pick
@@ -144,6 +156,13 @@ pub record Known (s : List ℕ) : Type 0 where
   pub some : 0 < length s
   pub short : length s ≤ 23
 
+pub both-known : (a b : Datetime) → Known (written a ++ 47 ∷ written b)
+both-known a b =
+    let n = written-long a in
+    let m = written-long b in
+    let l = length-append (written a) (47 ∷ written b) in
+    record { body = body-slash (body-written a) (body-written b); some = omega arith; short = omega arith }
+
 pub known : (v : DateValue) → InDomain v → Known (valueText v)
 unfolding valueText
 known (At a) e = rw (text-is a (end-of e)) (let n = written-long a in record { body = body-written a; some = omega arith; short = omega arith })
@@ -155,8 +174,4 @@ known (After a) e =
 known (Before a) e =
     rw (text-is a (end-of e)) (let n = written-long a in record { body = body-slash body-dots (body-written a); some = omega arith; short = omega arith })
 known (Between a b) e =
-    rw (text-is a (end-of (e .0)), text-is b (end-of (e .1)), append-assoc (written a) (47 ∷ []) (written b))
-    (let n = written-long a in
-    let m = written-long b in
-    let l = length-append (written a) (47 ∷ written b) in
-    record { body = body-slash (body-written a) (body-written b); some = omega arith; short = omega arith })
+    rw (text-is a (end-of (e .0)), text-is b (end-of (e .1)), append-assoc (written a) (47 ∷ []) (written b)) (both-known a b)
