@@ -1,13 +1,11 @@
 -- What the strict reader accepts has the ported reader's Date. By derivation: a point is read as what it says, a range by its halves, and a
 -- text with an X by one law of its own.
 -- Assumes nothing.
-use mathlib.Core.Path.{_≡_, refl, sym, ap, _∙_}
-use mathlib.Core.Bool.{Bool}
-use mathlib.Core.List.{List, [], _∷_, _++_}
-use Prim.Native.Nat.{ℕ, _+_, _/_, _%_, _≤_, _<_}
+use mathlib.Core.Path.{_≡_, refl, _∙_}
+use mathlib.Core.List.{List, [], _∷_}
+use Prim.Native.Nat.{ℕ, _+_}
 use native.Mathlib.Omega.{arith}
 use lib.Dec.{lit≤}
-use lib.ListN.{length, length-append}
 use Rattle.refusals.specs.declared.FileSpan.{FileSpan}
 use Rattle.chunks.specs.declared.Checked.{Checked}
 use Rattle.chunks.specs.declared.Checked.the-variants.{Clean, Faulty}
@@ -15,22 +13,21 @@ use Rattle.chunks.specs.Chunks.{chunksOf, spanOf}
 use Rattle.chunks.specs.Check.{checked}
 use Rattle.chunks.specs.Format.{formatted}
 use Rattle.chunks.specs.Upper.{uppercase}
-use Rattle.numbers.proofs.Reading.{AreDigits}
 use Rattle.dates.specs.declared.DateValue.{DateValue}
 use Rattle.dates.specs.declared.Date.{Date}
 use Rattle.points.proofs.Back.{two, two-digits, three, four, four-digits}
 use Rattle.datefield.specs.declared.ReadValue.the-variants.{Read}
 use Rattle.datefield.specs.declared.ReadDate.{ReadDate}
-use Rattle.datefield.specs.declared.ReadDate.the-variants.{Accepted, Refused}
+use Rattle.datefield.specs.declared.ReadDate.the-variants.{Accepted}
 use Rattle.datefield.specs.Value.{moved, onHalf, value, marked, dateText}
 use Rattle.strict.specs.declared.Matched.{Matched}
 use Rattle.strict.specs.declared.Matched.the-variants.{Strict, NotStrict}
 use Rattle.strict.specs.Ascii.{digits}
-use Rattle.strict.specs.Grammar.{Field, field, Point, Unknown, ddXX, dddX, dddd-XX, dddd-XX-XX, dddd-mm-XX, Value, alone, between, after, before, unknown, Text, text}
+use Rattle.strict.specs.Grammar.{field, Point, Unknown, ddXX, dddX, dddd-XX, dddd-XX-XX, dddd-mm-XX, Value, alone, between, after, before, unknown, Text, text}
 use Rattle.strict.specs.Matcher.{strict}
 use Rattle.strict.proofs.Exact.{exact}
 use Rattle.reader.specs.Field.{onClean, parsed, strictly, parsedStrict}
-use Rattle.roundtrip.proofs.Bytes.{Each, each-append, each-bytes, each-of, InValue, InPoint, PointText, ValueText, value-digit, clear-upper}
+use Rattle.roundtrip.proofs.Bytes.{Each, each-append, each-bytes, InValue, ValueText, value-digit, minus-in, alone-text, between-text, after-text, before-text, clear-upper}
 use Rattle.roundtrip.proofs.Bytes.Each.{none, more}
 use Rattle.roundtrip.proofs.Points.{point-read, point-text}
 use Rattle.roundtrip.proofs.Values.{alone-value, between-value, after-value, before-value}
@@ -40,11 +37,8 @@ use Rattle.roundtrip.proofs.Trims.{text-clear, text-marked}
 x-in : InValue 0x58
 x-in = record { low = lit≤ tt; high = lit≤ tt; unmarked = refl }
 
-minus-in : InValue 0x2D
-minus-in = record { low = lit≤ tt; high = lit≤ tt; unmarked = refl }
-
 dash-xx : Each InValue (0x2D ∷ 0x58 ∷ 0x58 ∷ [])
-dash-xx = more minus-in (more x-in (more x-in none))
+dash-xx = more (minus-in .in-value) (more x-in (more x-in none))
 
 two-in : (n : ℕ) → Each InValue (digits 2 n)
 two-in n = each-bytes value-digit (two n) (two-digits n)
@@ -59,32 +53,14 @@ unknown-text (dddX n h) =
 unknown-text (dddd-XX n h) = record { in-value = each-append (four-in n) dash-xx; some = omega arith; short = omega arith }
 unknown-text (dddd-XX-XX n h) = record { in-value = each-append (four-in n) (each-append dash-xx dash-xx); some = omega arith; short = omega arith }
 unknown-text (dddd-mm-XX n h (field m k)) =
-    record { in-value = each-append (four-in n) (more minus-in (each-append (two-in (1 + m)) dash-xx)); some = omega arith; short = omega arith }
+    record { in-value = each-append (four-in n) (more (minus-in .in-value) (each-append (two-in (1 + m)) dash-xx)); some = omega arith; short = omega arith }
 
 -- and of any value
-point-in : {s : List ℕ} → PointText s → Each InValue s
-point-in p = each-of (λ x (h : InPoint x). h .in-value) (p .in-point)
-
-slash-in : InValue 0x2F
-slash-in = record { low = lit≤ tt; high = lit≤ tt; unmarked = refl }
-
-dot-in : InValue 0x2E
-dot-in = record { low = lit≤ tt; high = lit≤ tt; unmarked = refl }
-
 value-text : {s : List ℕ} {v : DateValue} → Value Point s v → ValueText s
-value-text (alone p) = let a = point-text p in record { in-value = point-in a; some = omega arith; short = omega arith }
-value-text (between {s = s} {t = t} p q) =
-    let a = point-text p in
-    let b = point-text q in
-    let l = length-append s (47 ∷ t) in
-    record { in-value = each-append (point-in a) (more slash-in (point-in b)); some = omega arith; short = omega arith }
-value-text (after {s = s} p) =
-    let a = point-text p in
-    let l = length-append s (47 ∷ 46 ∷ 46 ∷ []) in
-    record { in-value = each-append (point-in a) (more slash-in (more dot-in (more dot-in none))); some = omega arith; short = omega arith }
-value-text (before p) =
-    let a = point-text p in
-    record { in-value = more dot-in (more dot-in (more slash-in (point-in a))); some = omega arith; short = omega arith }
+value-text (alone p) = alone-text (point-text p)
+value-text (between p q) = between-text (point-text p) (point-text q)
+value-text (after p) = after-text (point-text p)
+value-text (before p) = before-text (point-text p)
 value-text (unknown x) = unknown-text x
 
 -- the law of texts with an X, of which alone the Date of such a text is

@@ -5,21 +5,21 @@ use mathlib.Core.Path.{_≡_, refl, sym, ap, _∙_}
 use mathlib.Core.Bool.{Bool, true, false}
 use mathlib.Core.List.{List, [], _∷_, _++_}
 use mathlib.Core.Logic.{_⊎_, ⊎-elim, inl, inr}
-use Prim.Native.Nat.{ℕ, zero, suc, _+_, _-_, _≤_, _<_}
+use Prim.Native.Nat.{ℕ, zero, suc, _+_, _≤_, _<_}
 use native.Mathlib.Omega.{arith}
 use borrow.Author.Tests.{ne-eqb, eq-eqb, lt-ltb, lt-leb}
-use lib.Dec.{eqb, lit<}
-use lib.ListN.{length, getD}
+use lib.Dec.{eqb, lit<, lit≤}
+use lib.ListN.{length, getD, length-append}
 use lib.Seq.{take-length}
 use Rattle.chars.specs.Pick.{pick}
 use Rattle.scanner.specs.declared.Class.the-variants.{Whitespace}
 use Rattle.scanner.specs.Scan.{eatWhile}
 use Rattle.scanner.proofs.Laws.{not-white}
-use Rattle.scanner.proofs.Front.{From, from-start, front-stop}
+use Rattle.scanner.proofs.Front.{from-start, front-stop}
 use Rattle.chunks.specs.Plain.{allAscii, plainByte, plainText}
 use Rattle.chunks.specs.Upper.{uppercase}
 use Rattle.chunks.proofs.Plains.{plain-high, upper-plain}
-use Rattle.numbers.proofs.Reading.{bytes, AreDigits}
+use Rattle.numbers.proofs.Reading.{bytes, AreDigits, length-bytes}
 use Rattle.strs.proofs.Trims.{Plain, plain-trim}
 use Rattle.datefield.specs.Text.{trimmed, firstOf, isBlank}
 
@@ -104,6 +104,70 @@ point-digit d h =
 
 pub value-digit : (d : ℕ) → d < 10 → InValue (48 + d)
 value-digit d h = point-digit d h .in-value
+
+-- a separator is a byte of a point
+separator : (x : ℕ) → 0x2B ≤ x → x ≤ 0x5A → eqb x 0x3F ≡ false → eqb x 0x2F ≡ false → eqb x 0x58 ≡ false → InPoint x
+separator x l h m s k = record { in-value = record { low = l; high = h; unmarked = m }; no-slash = s; no-x = k }
+
+pub minus-in : InPoint 0x2D
+minus-in = separator 0x2D (lit≤ tt) (lit≤ tt) refl refl refl
+
+pub plus-in : InPoint 0x2B
+plus-in = separator 0x2B (lit≤ tt) (lit≤ tt) refl refl refl
+
+pub colon-in : InPoint 0x3A
+colon-in = separator 0x3A (lit≤ tt) (lit≤ tt) refl refl refl
+
+pub tee-in : InPoint 0x54
+tee-in = separator 0x54 (lit≤ tt) (lit≤ tt) refl refl refl
+
+pub zed-in : InPoint 0x5A
+zed-in = separator 0x5A (lit≤ tt) (lit≤ tt) refl refl refl
+
+-- a piece of a point's text: its bytes, and how long it is at most
+pub record Piece (n : ℕ) (s : List ℕ) : Type 0 where
+  pub in-point : Each InPoint s
+  pub short : length s ≤ n
+
+pub empty : {n : ℕ} → Piece n []
+empty {n} = record { in-point = none; short = omega arith }
+
+pub joined : {m n : ℕ} {s t : List ℕ} → Piece m s → Piece n t → Piece (m + n) (s ++ t)
+joined {s = s} {t = t} a b =
+    let e = length-append s t in
+    record { in-point = each-append (a .in-point) (b .in-point); short = omega arith }
+
+pub bytes-piece : (ds : List ℕ) → AreDigits ds → Piece (length ds) (bytes ds)
+bytes-piece ds h = let l = length-bytes ds in record { in-point = each-bytes point-digit ds h; short = omega arith }
+
+pub piece-clear : {n : ℕ} {s : List ℕ} → Piece n s → Clear s
+piece-clear p = each-of (λ x (h : InPoint x). value-clear x (h .in-value)) (p .in-point)
+
+-- a point's text, alone or in a range, is a value's
+pub point-in : {s : List ℕ} → PointText s → Each InValue s
+point-in p = each-of (λ x (h : InPoint x). h .in-value) (p .in-point)
+
+slash-in : InValue 0x2F
+slash-in = record { low = lit≤ tt; high = lit≤ tt; unmarked = refl }
+
+dot-in : InValue 0x2E
+dot-in = record { low = lit≤ tt; high = lit≤ tt; unmarked = refl }
+
+pub alone-text : {s : List ℕ} → PointText s → ValueText s
+alone-text p = record { in-value = point-in p; some = omega arith; short = omega arith }
+
+pub between-text : {s t : List ℕ} → PointText s → PointText t → ValueText (s ++ 47 ∷ t)
+between-text {s} {t} p q =
+    let l = length-append s (47 ∷ t) in
+    record { in-value = each-append (point-in p) (more slash-in (point-in q)); some = omega arith; short = omega arith }
+
+pub after-text : {s : List ℕ} → PointText s → ValueText (s ++ 47 ∷ 46 ∷ 46 ∷ [])
+after-text {s} p =
+    let l = length-append s (47 ∷ 46 ∷ 46 ∷ []) in
+    record { in-value = each-append (point-in p) (more slash-in (more dot-in (more dot-in none))); some = omega arith; short = omega arith }
+
+pub before-text : {s : List ℕ} → PointText s → ValueText (46 ∷ 46 ∷ 47 ∷ s)
+before-text p = record { in-value = more dot-in (more dot-in (more slash-in (point-in p))); some = omega arith; short = omega arith }
 
 -- a text that begins with no white space
 pub clear-front : {x : ℕ} {l : List ℕ} → Clear (x ∷ l) → eatWhile Whitespace (x ∷ l) 0 ≡ 0

@@ -1,35 +1,29 @@
 -- A point of the strict grammar, read by the ported reader, is the Datetime that its derivation says; and what bytes stand in its text.
 -- Assumes nothing.
-use mathlib.Core.Path.{_≡_, refl, sym, ap, _∙_, subst}
-use mathlib.Core.Bool.{false}
-use mathlib.Core.List.{List, [], _∷_, _++_}
-use Prim.Native.Nat.{ℕ, _+_, _≤_, _<_}
+use mathlib.Core.Path.{_≡_, ap, _∙_, subst}
+use mathlib.Core.List.{List, _∷_, _++_}
+use Prim.Native.Nat.{ℕ, _+_}
 use native.Mathlib.Nat.{zero-add}
 use native.Mathlib.Omega.{arith}
-use lib.Dec.{eqb, lit≤}
 use lib.IntN.{ℤ}
-use lib.ListN.{length, length-append}
+use lib.ListN.{length}
 use Rattle.scanner.proofs.Front.{From, from-start, from-behind}
 use Rattle.numbers.proofs.Reading.{bytes, Behind, end, hyphen}
-use Rattle.dates.specs.declared.Month.{Month}
 use Rattle.dates.specs.declared.OptionMonth.{OptionMonth}
 use Rattle.dates.specs.declared.OptionDay.{OptionDay}
 use Rattle.dates.specs.declared.OptionOffset.{OptionOffset}
 use Rattle.dates.specs.declared.OptionTime.{OptionTime}
 use Rattle.dates.specs.declared.Datetime.{Datetime}
 use Rattle.dates.specs.Value.{datetime, month, day}
-use Rattle.dates.specs.Calendar.{monthLength}
 use Rattle.points.specs.declared.ReadPoint.the-variants.{Point as Read}
-use Rattle.points.specs.declared.ReadTime.{ReadTime}
 use Rattle.points.specs.declared.ReadTime.the-variants.{Clock as Timed}
 use Rattle.points.specs.Time.{time, behindSecond}
 use Rattle.points.specs.Point.{withTime, behindDay, behindMonth, behindYear, point}
 use Rattle.points.proofs.Back.{two, two-digits, four, four-digits, partBytes, plain-year, minus-year, on-year, year-end, month-read, month-end, day-read, day-end, two-behind, length-most}
-use Rattle.points.proofs.Times.{tee, colon, zed, plus, time-read, none-read, utc-read, plus-read, minus-read}
-use Rattle.strict.specs.Ascii.{digits}
+use Rattle.points.proofs.Times.{tee, zed, plus, time-read, none-read, utc-read, plus-read, minus-read}
 use Rattle.strict.specs.Grammar.{Year, dddd, -dddd, Field, field, Zone, no-zone, z, ahead, behind, Clock, no-time, hh:mm:ss, InMonth, no-day, -dd, InYear, no-month, -mm, Point}
 use Rattle.strict.specs.Grammar
-use Rattle.roundtrip.proofs.Bytes.{Each, each-append, each-bytes, InPoint, point-digit, PointText}
+use Rattle.roundtrip.proofs.Bytes.{InPoint, PointText, Piece, empty, joined, bytes-piece, minus-in, plus-in, colon-in, tee-in, zed-in}
 use Rattle.roundtrip.proofs.Bytes.Each.{none, more}
 
 -- what stands behind each piece
@@ -92,41 +86,10 @@ year-goes {t = t} (-dddd n h) b = let f = from-start (45 ∷ bytes (four n) ++ t
 pub point-read : {s : List ℕ} {d : Datetime} → Point s d → point s ≡ Read d
 point-read (Grammar.point {s = s} {t = t} {y = y} a b) = year-goes a (year-behind b) ∙ in-year-read y b (from-behind s (from-start (s ++ t)))
 
--- a separator is a byte of a point
-separator : (x : ℕ) → 0x2B ≤ x → x ≤ 0x5A → eqb x 0x3F ≡ false → eqb x 0x2F ≡ false → eqb x 0x58 ≡ false → InPoint x
-separator x l h m s k = record { in-value = record { low = l; high = h; unmarked = m }; no-slash = s; no-x = k }
-
-minus-in : InPoint 0x2D
-minus-in = separator 0x2D (lit≤ tt) (lit≤ tt) refl refl refl
-
-plus-in : InPoint 0x2B
-plus-in = separator 0x2B (lit≤ tt) (lit≤ tt) refl refl refl
-
-colon-in : InPoint 0x3A
-colon-in = separator 0x3A (lit≤ tt) (lit≤ tt) refl refl refl
-
-tee-in : InPoint 0x54
-tee-in = separator 0x54 (lit≤ tt) (lit≤ tt) refl refl refl
-
-zed-in : InPoint 0x5A
-zed-in = separator 0x5A (lit≤ tt) (lit≤ tt) refl refl refl
-
--- a piece of a point's text: its bytes, and how long it is at most
-record Piece (n : ℕ) (s : List ℕ) : Type 0 where
-  in-point : Each InPoint s
-  short : length s ≤ n
-
-empty : {n : ℕ} → Piece n []
-empty {n} = record { in-point = none; short = omega arith }
-
-joined : {m n : ℕ} {s t : List ℕ} → Piece m s → Piece n t → Piece (m + n) (s ++ t)
-joined {s = s} {t = t} a b =
-    let e = length-append s t in
-    record { in-point = each-append (a .in-point) (b .in-point); short = omega arith }
-
 field-piece : {c first last n : ℕ} {s : List ℕ} → InPoint c → Field c first last s n → Piece 3 s
 field-piece {first = first} p (field n h) =
-    record { in-point = more p (each-bytes point-digit (two (first + n)) (two-digits (first + n))); short = omega arith }
+    let b = bytes-piece (two (first + n)) (two-digits (first + n)) in
+    record { in-point = more p (b .in-point); short = omega arith }
 
 zone-piece : {t : List ℕ} {o : OptionOffset} → Zone t o → Piece 6 t
 zone-piece no-zone = empty
@@ -146,14 +109,11 @@ year-piece : {y : ℤ} {t : List ℕ} {m : OptionMonth} {d : OptionDay} {c : Opt
 year-piece no-month = empty
 year-piece (-mm m d) = joined (field-piece minus-in m) (month-piece d)
 
-four-piece : (n : ℕ) → Piece 4 (digits 4 n)
-four-piece n = record { in-point = each-bytes point-digit (four n) (four-digits n); short = omega arith }
-
 -- the text of a derived point
 pub point-text : {s : List ℕ} {d : Datetime} → Point s d → PointText s
 point-text (Grammar.point {t = t} (dddd n h) b) =
-    let p = joined (four-piece n) (year-piece b) in
+    let p = joined (bytes-piece (four n) (four-digits n)) (year-piece b) in
     record { in-point = p .in-point; long = omega arith; short = omega arith }
 point-text (Grammar.point {t = t} (-dddd n h) b) =
-    let p = joined (four-piece n) (year-piece b) in
+    let p = joined (bytes-piece (four n) (four-digits n)) (year-piece b) in
     record { in-point = more minus-in (p .in-point); long = omega arith; short = omega arith }

@@ -24,16 +24,17 @@ use Rattle.datefield.specs.Value.{value, marked}
 use Rattle.reader.specs.Field.{parsed}
 use Rattle.writer.specs.Texts.{valueText, dateText}
 use Rattle.roundtrip.specs.Domain.{InDomain, ShortMonthRange, days-xx, oneChunk}
-use Rattle.roundtrip.proofs.Texts.{text-short}
-use Rattle.roundtrip.proofs.Whole.{Known, both-known, second-refused}
+use Rattle.roundtrip.proofs.Bytes.{ValueText, between-text}
+use Rattle.roundtrip.proofs.Texts.{text-short, written-text}
+use Rattle.roundtrip.proofs.Whole.{second-refused}
 use Rattle.roundtrip.proofs.Marks.{parsed-marked}
 
-short-known : {v : DateValue} → ShortMonthRange v → Known (valueText v)
+short-known : {v : DateValue} → ShortMonthRange v → ValueText (valueText v)
 unfolding valueText
 short-known (days-xx y m h l n) =
     let a = datetime (pos y) (month m) (day 0) NoTime in
     let b = datetime (pos y) (month m) (day 30) NoTime in
-    rw (text-short a h (l, lit< tt), text-short b h (l, lit< tt), append-assoc (written a) (47 ∷ []) (written b)) (both-known a b)
+    rw (text-short a h (l, lit< tt), text-short b h (l, lit< tt), append-assoc (written a) (47 ∷ []) (written b)) (between-text (written-text a) (written-text b))
 
 -- the place is the second half's, all ten bytes of it; the slash stands behind ten bytes too
 short-value : (span : FileSpan) {v : DateValue} → ShortMonthRange v → value span (valueText v) ≡ NoValue (offsetSecond (textRefusal DayOutOfRange 0 10) (span .0) 10)

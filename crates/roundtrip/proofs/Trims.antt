@@ -3,19 +3,19 @@
 use mathlib.Core.Path.{_≡_, refl, sym, ap, _∙_}
 use mathlib.Core.Bool.{Bool, true, false, _||_}
 use mathlib.Core.List.{List, [], _∷_, _++_, append-nil}
-use Prim.Native.Nat.{ℕ, _+_, _-_, _≤_, _<_}
+use Prim.Native.Nat.{ℕ, _-_, _≤_}
 use native.Mathlib.Omega.{arith}
 use borrow.Author.Tests.{ne-eqb}
-use lib.Dec.{eqb, lit<}
+use lib.Dec.{lit<}
 use lib.ListN.{length, getD, take, length-append}
 use lib.Seq.{take-at, getD-at}
 use Rattle.chars.specs.Pick.{pick}
 use Rattle.refusals.specs.declared.FileSpan.{FileSpan}
 use Rattle.chunks.specs.Plain.{plainByte}
-use Rattle.datefield.specs.Text.{trimmed, lastByte, isUncertain, isApproximate, unmarked}
+use Rattle.datefield.specs.Text.{lastByte, isUncertain, isApproximate, unmarked}
 use Rattle.datefield.specs.Value.{value, marked, trimmedDate, dateText}
 use Rattle.strict.specs.Grammar.{Mark, no-mark, uncertain, approximate, both}
-use Rattle.roundtrip.proofs.Bytes.{Each, each-append, each-at, each-of, IsClear, Clear, InValue, ValueText, low-same, value-clear, clear-trimmed}
+use Rattle.roundtrip.proofs.Bytes.{each-append, each-at, each-of, Clear, InValue, ValueText, low-same, value-clear, clear-trimmed}
 use Rattle.roundtrip.proofs.Bytes.Each.{none, more}
 
 -- a mark is a printing character of its own upper case

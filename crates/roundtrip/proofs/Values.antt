@@ -1,12 +1,12 @@
 -- A text without an X, as the ported reader takes it apart: a point, or two halves at the slash, each a point or open.
 -- Assumes nothing.
-use mathlib.Core.Path.{_≡_, refl, sym, ap, _∙_}
+use mathlib.Core.Path.{_≡_, refl, _∙_}
 use mathlib.Core.Bool.{true, false}
 use mathlib.Core.List.{List, [], _∷_, _++_}
-use Prim.Native.Nat.{ℕ, _+_, _≤_, _<_}
+use Prim.Native.Nat.{ℕ, _+_}
 use native.Mathlib.Omega.{arith}
 use borrow.Author.Tests.{ne-eqb, lt-ltb, le-ltb}
-use lib.Dec.{eqb, ltb, lit<, lit≤}
+use lib.Dec.{ltb, lit≤}
 use lib.ListN.{length, take, drop, length-append}
 use lib.Seq.{take-at, drop-append-add}
 use Rattle.chars.specs.Pick.{pick}
@@ -17,7 +17,7 @@ use Rattle.points.specs.Point.{point}
 use Rattle.datefield.specs.declared.ReadValue.the-variants.{Read}
 use Rattle.datefield.specs.Text.{firstOf, isDots, isOpen}
 use Rattle.datefield.specs.Value.{moved, firstHalf, secondHalf, onHalf, bothHalves, halves, value}
-use Rattle.roundtrip.proofs.Bytes.{Each, each-append, each-of, IsClear, Clear, Without, value-clear, InPoint, PointText, not-blank, first-none, first-some}
+use Rattle.roundtrip.proofs.Bytes.{each-append, each-of, IsClear, Clear, Without, value-clear, InPoint, PointText, not-blank, first-none, first-some}
 use Rattle.roundtrip.proofs.Bytes.Each.{none, more}
 
 abbrev dots : List ℕ
