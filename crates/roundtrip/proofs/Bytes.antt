@@ -140,8 +140,15 @@ joined {s = s} {t = t} a b =
 pub bytes-piece : (ds : List ℕ) → AreDigits ds → Piece (length ds) (bytes ds)
 bytes-piece ds h = let l = length-bytes ds in record { in-point = each-bytes point-digit ds h; short = omega arith }
 
-pub piece-clear : {n : ℕ} {s : List ℕ} → Piece n s → Clear s
-piece-clear p = each-of (λ x (h : InPoint x). value-clear x (h .in-value)) (p .in-point)
+pub point-clear : {s : List ℕ} → Each InPoint s → Clear s
+point-clear e = each-of (λ x (h : InPoint x). value-clear x (h .in-value)) e
+
+-- no X and no slash stand in it
+pub without-x : {s : List ℕ} → Each InPoint s → Without 0x58 s
+without-x e = each-of (λ x (h : InPoint x). h .no-x) e
+
+pub without-slash : {s : List ℕ} → Each InPoint s → Without 0x2F s
+without-slash e = each-of (λ x (h : InPoint x). h .no-slash) e
 
 -- a point's text, alone or in a range, is a value's
 pub point-in : {s : List ℕ} → PointText s → Each InValue s

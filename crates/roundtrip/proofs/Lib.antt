@@ -8,6 +8,8 @@ pub mod Whole
 pub mod Derived
 pub mod Marks
 pub mod Short
+pub mod Runs
 pub mod Fields
 pub mod Three
 pub mod Accepted
+pub mod Unknown

@@ -30,7 +30,7 @@ use Rattle.writer.specs.Texts.{partText, writtenMonth, writtenDay, dayParts, mo
 use Rattle.writer.specs.Fields.{partLines, endLines}
 use Rattle.roundtrip.specs.Domain.{PartsIn, EndIn, oneChunk}
 use Rattle.roundtrip.specs.Fields.{hasMonth, hasDay, monthValue, dayValue, lineIf, linesOf, readBack}
-use Rattle.roundtrip.proofs.Bytes.{Piece, bytes-piece, piece-clear, clear-text, clear-ascii}
+use Rattle.roundtrip.proofs.Bytes.{Piece, bytes-piece, point-clear, clear-text, clear-ascii}
 use Rattle.roundtrip.proofs.Texts.{decimal-is, year-is, year-piece}
 use Rattle.roundtrip.proofs.Fields.{year-field, month-field, no-day, day-field}
 
@@ -38,7 +38,7 @@ use Rattle.roundtrip.proofs.Fields.{year-field, month-field, no-day, da
 list-read : {n : ℕ} (l : List ℕ) → Piece n l → n ≤ 4096 → (s e : ℕ) → (checked l (oneChunk l s e) ≡ Clean) × (formatted l (oneChunk l s e) ≡ l)
 list-read l q h s e =
     let t = oneChunk l s e in
-    let c = piece-clear q in
+    let c = point-clear (q .in-point) in
     let p = plainly l t (record { four = refl; normal-kind = refl; whole = refl; small = omega arith; ascii = clear-ascii c }) in
     (p .clean, sym (plain-as-is l t {u = false} refl) ∙ p .text false ∙ clear-text false false c)
 

@@ -17,7 +17,7 @@ use Rattle.points.specs.Point.{point}
 use Rattle.datefield.specs.declared.ReadValue.the-variants.{Read}
 use Rattle.datefield.specs.Text.{firstOf, isDots, isOpen}
 use Rattle.datefield.specs.Value.{moved, firstHalf, secondHalf, onHalf, bothHalves, halves, value}
-use Rattle.roundtrip.proofs.Bytes.{each-append, each-of, IsClear, Clear, Without, value-clear, InPoint, PointText, not-blank, first-none, first-some}
+use Rattle.roundtrip.proofs.Bytes.{each-append, IsClear, Without, value-clear, PointText, without-x, without-slash, point-clear, not-blank, first-none, first-some}
 use Rattle.roundtrip.proofs.Bytes.Each.{none, more}
 
 abbrev dots : List ℕ
@@ -30,21 +30,10 @@ dots-open = rw (not-blank (more dot (more dot none)) (omega arith))
     dot : IsClear 46
     dot = value-clear 46 (record { low = lit≤ tt; high = lit≤ tt; unmarked = refl })
 
--- of a point's text
-module _ {s : List ℕ} (p : PointText s) where
-  points-clear : Clear s
-  points-clear = each-of (λ x (h : InPoint x). value-clear x (h .in-value)) (p .in-point)
-
-  points-x : Without 0x58 s
-  points-x = each-of (λ x (h : InPoint x). h .no-x) (p .in-point)
-
-  points-slash : Without 0x2F s
-  points-slash = each-of (λ x (h : InPoint x). h .no-slash) (p .in-point)
-
-  -- it is no open half
-  closed : isOpen s ≡ false
-  unfolding isOpen isDots
-  closed = rw (not-blank points-clear (omega arith), ne-eqb (length s) 2 (λ (e : length s ≡ 2). omega arith))
+-- a point's text is no open half
+closed : {s : List ℕ} → PointText s → isOpen s ≡ false
+unfolding isOpen isDots
+closed {s} p = rw (not-blank (point-clear (p .in-point)) (omega arith), ne-eqb (length s) 2 (λ (e : length s ≡ 2). omega arith))
 
 before-slash : (u v : List ℕ) → take (length u) (u ++ 47 ∷ v) ≡ u
 before-slash u v = take-at u (47 ∷ v) (length u) refl
@@ -66,21 +55,21 @@ module _ (span : FileSpan) where
 
   pub alone-value : {s : List ℕ} → PointText s → value span s ≡ onHalf (moved (point s) λ e. offset e (span .0)) λ a. Read (At a)
   unfolding pick
-  alone-value {s} p = no-x s (points-x p) ∙ rw (first-none 0x2F (points-slash p), le-ltb (length s) (length s) (omega arith))
+  alone-value {s} p = no-x s (without-x (p .in-point)) ∙ rw (first-none 0x2F (without-slash (p .in-point)), le-ltb (length s) (length s) (omega arith))
 
   pub between-value : {s t : List ℕ} → PointText s → PointText t → value span (s ++ 47 ∷ t) ≡ onHalf (moved (point s) λ e. offset e (span .0)) λ a. onHalf (moved (point t) λ e. offsetSecond e (span .0) (length s)) λ b. Read (Between a b)
   unfolding halves bothHalves firstHalf secondHalf pick
   between-value {s} {t} p q =
-      split s t (points-slash p) (points-x p) (points-x q) ∙ rw (before-slash s t, behind-slash s t, closed p, closed q)
+      split s t (without-slash (p .in-point)) (without-x (p .in-point)) (without-x (q .in-point)) ∙ rw (before-slash s t, behind-slash s t, closed p, closed q)
 
   pub after-value : {s : List ℕ} → PointText s → value span (s ++ 47 ∷ dots) ≡ onHalf (moved (point s) λ e. offset e (span .0)) λ a. Read (After a)
   unfolding halves firstHalf pick
   after-value {s} p =
-      split s dots (points-slash p) (points-x p) (more {x = 46} refl (more {x = 46} refl none))
+      split s dots (without-slash (p .in-point)) (without-x (p .in-point)) (more {x = 46} refl (more {x = 46} refl none))
       ∙ rw (before-slash s dots, behind-slash s dots, closed p, dots-open)
 
   pub before-value : {t : List ℕ} → PointText t → value span (dots ++ 47 ∷ t) ≡ onHalf (moved (point t) λ e. offsetSecond e (span .0) 2) λ b. Read (Before b)
   unfolding halves secondHalf pick
   before-value {t} q =
-      split dots t (more {x = 46} refl (more {x = 46} refl none)) (more {x = 46} refl (more {x = 46} refl none)) (points-x q)
+      split dots t (more {x = 46} refl (more {x = 46} refl none)) (more {x = 46} refl (more {x = 46} refl none)) (without-x (q .in-point))
       ∙ rw (before-slash dots t, behind-slash dots t, closed q, dots-open)
