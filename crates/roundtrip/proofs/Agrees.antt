@@ -32,6 +32,7 @@ use Rattle.roundtrip.proofs.Bytes.Each.{none, more}
 use Rattle.roundtrip.proofs.Points.{point-read, point-text}
 use Rattle.roundtrip.proofs.Values.{alone-value, between-value, after-value, before-value}
 use Rattle.roundtrip.proofs.Trims.{text-clear, text-marked}
+use Rattle.roundtrip.proofs.Unknown.{unknown-value}
 
 -- the bytes of a text with an X
 x-in : InValue 0x58
@@ -63,15 +64,15 @@ value-text (after p) = after-text (point-text p)
 value-text (before p) = before-text (point-text p)
 value-text (unknown x) = unknown-text x
 
--- the law of texts with an X, of which alone the Date of such a text is
-module _ (span : FileSpan) (law : (s : List ℕ) (v : DateValue) → Unknown s v → value span s ≡ Read v) where
+-- what the ported reader says of a derived text; of one with an X by that one law
+module _ (span : FileSpan) where
   value-read : {s : List ℕ} {v : DateValue} → Value Point s v → value span s ≡ Read v
   unfolding moved onHalf
   value-read (alone p) = rw (alone-value span (point-text p), point-read p)
   value-read (between p q) = rw (between-value span (point-text p) (point-text q), point-read p, point-read q)
   value-read (after p) = rw (after-value span (point-text p), point-read p)
   value-read (before p) = rw (before-value span (point-text p), point-read p)
-  value-read {s} {v} (unknown x) = law s v x
+  value-read (unknown x) = unknown-value span x
 
   text-read : {s : List ℕ} {d : Date} → Text s d → dateText span s ≡ Accepted d
   unfolding marked
@@ -93,13 +94,13 @@ unfolding onClean
 clean-agrees Clean f e = f e
 clean-agrees (Faulty x) f e = let z : _≡_ {A = ℕ} 0 1 = cc in absurd (omega arith)
 
-module _ (law : (span : FileSpan) (s : List ℕ) (v : DateValue) → Unknown s v → value span s ≡ Read v) where
-  pub agrees : (b table : List ℕ) {d : Date} → parsedStrict b table ≡ Accepted d → parsed b table ≡ Accepted d
-  unfolding parsedStrict parsed
-  agrees b table {d} e = clean-agrees (checked b table) same e
-    where
-      same : strictly (strict (formatted b table)) ≡ Accepted d → dateText (spanOf (chunksOf table)) (uppercase (formatted b table)) ≡ Accepted d
-      same a =
-          let s = formatted b table in
-          let t = exact s d .0 (matched-is (strict s) a) in
-          rw (text-upper t) (text-read (spanOf (chunksOf table)) (law (spanOf (chunksOf table))) t)
+-- for every chunk list: what the strict reader accepts, the ported reader accepts with the same Date
+pub agrees : (b table : List ℕ) {d : Date} → parsedStrict b table ≡ Accepted d → parsed b table ≡ Accepted d
+unfolding parsedStrict parsed
+agrees b table {d} e = clean-agrees (checked b table) same e
+  where
+    same : strictly (strict (formatted b table)) ≡ Accepted d → dateText (spanOf (chunksOf table)) (uppercase (formatted b table)) ≡ Accepted d
+    same a =
+        let s = formatted b table in
+        let t = exact s d .0 (matched-is (strict s) a) in
+        rw (text-upper t) (text-read (spanOf (chunksOf table)) t)

@@ -2,7 +2,6 @@ pub mod Bytes
 pub mod Points
 pub mod Values
 pub mod Trims
-pub mod Agrees
 pub mod Texts
 pub mod Whole
 pub mod Derived
@@ -13,3 +12,4 @@ pub mod Fields
 pub mod Three
 pub mod Accepted
 pub mod Unknown
+pub mod Agrees
