@@ -206,7 +206,7 @@ chunk-plain b k n s e z w h a =
     rw (z, w, add-zero (length b), eq-eqb (length b) (length b) refl, le-leb (length b) 4096 h, take-all (length b) b (omega arith), ascii-clean 0 b a, ascii-codes b a)
     (refl, append-nil (normal false b) ∙ normal-plain false b a)
 
-upper-plain : (b : List ℕ) → allAscii b ≡ true → uppercase (plainText false false b) ≡ plainText true false b
+pub upper-plain : (b : List ℕ) → allAscii b ≡ true → uppercase (plainText false false b) ≡ plainText true false b
 unfolding uppercase
 upper-plain b a = rw (ascii-codes (plainText false false b) (text-ascii false b a)) (uppers-plain false b a)
 

@@ -4,6 +4,7 @@ use mathlib.Core.Path.{_≡_, sym}
 use mathlib.Core.Bool.{Bool, true, false}
 use Prim.Native.Nat.{ℕ, _+_, _-_, _%_, _≤_, _<_}
 use native.Mathlib.Omega.{arith}
+use native.Mathlib.Decide.{ℕ-discrete, decLt}
 use borrow.Author.Tests.{ne-eqb, le-ltb, lt-ltb}
 use lib.Dec.{eqb, ltb}
 use lib.IntN.{ℤ}
@@ -21,6 +22,11 @@ unfolding byRule monthLengths february pick
 rule true m h = agree (byRule true) (λ (m : ℕ). getD (monthLengths true) m 0) 12 tt m h
 rule false m h = agree (byRule false) (λ (m : ℕ). getD (monthLengths false) m 0) 12 tt m h
 
+february-some : (leap : Bool) → 0 < february leap
+unfolding february
+february-some true = omega arith
+february-some false = omega arith
+
 module _ (m : ℕ) (y : ℤ) where
   pub second : m ≡ 1 → monthLength m y ≡ february (leapYear y)
   unfolding monthLength monthLengths
@@ -37,3 +43,11 @@ module _ (m : ℕ) (y : ℤ) where
   pub beyond : 12 ≤ m → 0 ≡ monthLength m y
   unfolding monthLength monthLengths
   beyond h = sym (List·getD-eq-default (monthLengths (leapYear y)) 0 h)
+
+  -- a month has a first day
+  pub some-day : m < 12 → 0 < monthLength m y
+  some-day h =
+      elim (ℕ-discrete m 1) [
+        | yes e ↦ rw (second e) (february-some (leapYear y))
+        | no n ↦ elim (decLt m 7) [ yes l ↦ omega (arith, low n l) | no l ↦ omega (arith, high (omega (arith, l)) h) ]
+      ]

@@ -7,12 +7,13 @@ use Prim.Native.Nat.{ℕ, zero, suc, _+_, _/_, _%_, _≤_, _<_}
 use native.Mathlib.Omega.{arith}
 use borrow.Author.Tests.{lt-ltb, le-ltb, le-leb, lt-leb}
 use lib.Dec.{lit<, lit≤}
-use lib.IntN.{ℤ, pos, negsuc, natAbs}
+use lib.IntN.{ℤ, pos, negsuc, natAbs, negℤ}
 use lib.ListN.{length, getD}
 use Rattle.chars.specs.Pick.{pick}
 use Rattle.scanner.specs.declared.Class.the-variants.{Whitespace, Is}
 use Rattle.scanner.specs.Scan.{doneAt}
 use Rattle.scanner.proofs.Front.{From, from-start, from-behind, front-inside, front-rest, front-stop, front-past, front-end}
+use Rattle.refusals.specs.Offset.{textRefusal}
 use Rattle.refusals.specs.declared.Kind.{Kind}
 use Rattle.refusals.specs.declared.Kind.the-variants.{MonthOutOfRange, DayOutOfRange}
 use Rattle.numbers.specs.Number.{admits, cursor}
@@ -30,7 +31,7 @@ use Rattle.dates.specs.declared.OptionTime.the-variants.{NoTime}
 use Rattle.dates.specs.declared.Datetime.{Datetime}
 use Rattle.points.specs.Step.{stored, partAt, monthAt, dayAt, hyphenOr, hyphenFrom, hyphenAt, onPart, onSeparator, orEnd}
 use Rattle.points.specs.Point.{windowedInt, shortYear, longOf, longYear, shortOr, yearAt, onYear, behindDay, behindMonth, behindYear, point}
-use Rattle.points.specs.declared.ReadPoint.the-variants.{Point}
+use Rattle.points.specs.declared.ReadPoint.the-variants.{Point, Refused}
 use Rattle.points.specs.declared.ReadYear.the-variants.{Year}
 use Rattle.points.specs.declared.ReadSeparator.the-variants.{Passed}
 use Rattle.points.specs.declared.ReadPart.the-variants.{Stored}
@@ -110,12 +111,25 @@ unfolding admits
 four-long = refl
 
 -- a year of four digits, whatever may stand behind it
-pub year-read : (y : ℤ) {s t : List ℕ} → natAbs y < 10000 → Behind t → From s 0 (yearBytes y ++ t) → yearAt s 0 ≡ Year y (cursor (0 + length (yearBytes y)))
+pub plain-year : (n : ℕ) {s t : List ℕ} → n < 10000 → Behind t → From s 0 (bytes (four n) ++ t) → yearAt s 0 ≡ Year (pos n) (cursor 4)
 unfolding yearAt shortYear windowedInt longYear longOf shortOr
-year-read (pos n) h b f =
+plain-year n h b f =
     rw (int-wrong (lead n) (three n) (four-digits n) b f Two four-short, int-read (lead n) (three n) (four-digits n) b f Four four-long, four-value n h)
-year-read (negsuc n) h b f =
-    rw (minus-wrong (lead (suc n)) (three (suc n)) (four-digits (suc n)) b f Two four-short, minus-read (lead (suc n)) (three (suc n)) (four-digits (suc n)) b f Four four-long, four-value (suc n) h)
+
+-- the same behind a minus, 0000 too
+pub minus-year : (n : ℕ) {s t : List ℕ} → n < 10000 → Behind t → From s 0 (0x2D ∷ bytes (four n) ++ t) → yearAt s 0 ≡ Year (negℤ (pos n)) (cursor 5)
+unfolding yearAt shortYear windowedInt longYear longOf shortOr
+minus-year n h b f =
+    rw (minus-wrong (lead n) (three n) (four-digits n) b f Two four-short, minus-read (lead n) (three n) (four-digits n) b f Four four-long, four-value n h)
+
+pub year-read : (y : ℤ) {s t : List ℕ} → natAbs y < 10000 → Behind t → From s 0 (yearBytes y ++ t) → yearAt s 0 ≡ Year y (cursor (0 + length (yearBytes y)))
+year-read (pos n) h b f = plain-year n h b f
+year-read (negsuc n) h b f = minus-year (suc n) h b f
+
+-- a point goes on behind its year
+pub on-year : (s : List ℕ) {y : ℤ} {i : ℕ} → yearAt s 0 ≡ Year y (cursor i) → point s ≡ behindYear s i y
+unfolding point onYear
+on-year s e = rw e
 
 -- two digits are a number, counted from the lowest
 pub part-read : (n v low high : ℕ) (k : Kind) {s t : List ℕ} {i : ℕ} → v + low ≡ n → n < 100 → n ≤ high → Behind t → From s i (bytes (two n) ++ t) → partAt s i low high k ≡ Stored v (cursor (i + 2))
@@ -166,13 +180,24 @@ day-read y m d l h b f =
       lt-ltb d (monthLength (m .0) y) l,
     )
 
+-- a day that the month does not have
+pub day-past : (y : ℤ) (m : Month) (d : ℕ) {s t : List ℕ} {i : ℕ} → monthLength (m .0) y ≤ d → d < 31 → Behind t → From s i (partBytes d ++ t) → behindMonth s i y m ≡ Refused (textRefusal DayOutOfRange 0 (i + 1 + 2))
+unfolding behindMonth dayAt onSeparator onPart pick
+day-past y m d l h b f =
+    rw (
+      or-more (Point (datetime y (SomeMonth m) NoDay NoTime)) _ hyphen f,
+      hyphen-read ((d + 1) / 10 % 10) (omega arith) f,
+      part-read (d + 1) d 1 31 DayOutOfRange refl (omega arith) (omega arith) b (front-rest f),
+      le-ltb d (monthLength (m .0) y) l,
+    )
+
 pub day-end : (y : ℤ) (m : OptionMonth) (d : OptionDay) {s : List ℕ} {i : ℕ} → From s i [] → behindDay s i y m d ≡ Point (datetime y m d NoTime)
 unfolding behindDay
 day-end y m d f = or-end _ _ f
 
--- what stands behind a month or a day
-pub part-behind : (n : ℕ) {s t : List ℕ} {i : ℕ} → From s i (partBytes n ++ t) → From s (i + 1 + 2) t
-part-behind n f = from-behind (bytes (two (n + 1))) (front-rest f)
+-- what stands behind a separator and two digits
+pub two-behind : {a b c : ℕ} {s t : List ℕ} {i : ℕ} → From s i (a ∷ b ∷ c ∷ t) → From s (i + 1 + 2) t
+two-behind {a} {b} {c} f = from-behind (b ∷ c ∷ []) (front-rest f)
 
 -- no month is longer than 31 days
 abbrev AllLe : ℕ → List ℕ → Type 0
@@ -197,12 +222,12 @@ length-most m y = getD-most 31 (monthLengths (leapYear y)) m (lengths-most (leap
 tail-read : (y : ℤ) (m : OptionMonth) (d : OptionDay) {s : List ℕ} {i : ℕ} → PartsIn y m d → From s i (tailBytes m d) → behindYear s i y ≡ Point (datetime y m d NoTime)
 tail-read y NoMonth NoDay h f = year-end y f
 tail-read y NoMonth (SomeDay d) h f = absurd h
-tail-read y (SomeMonth m) NoDay h f = month-read y (m .0) h end f ∙ month-end y m (part-behind (m .0) f)
+tail-read y (SomeMonth m) NoDay h f = month-read y (m .0) h end f ∙ month-end y m (two-behind f)
 tail-read y (SomeMonth m) (SomeDay d) h f =
-    let g = part-behind (m .0) f in
+    let g = two-behind f in
     month-read y (m .0) (h .0) hyphen f
     ∙ day-read y m (d .0) (h .1) (omega (arith, length-most (m .0) y, h .1)) end g
-    ∙ day-end y (SomeMonth m) (SomeDay d) (part-behind (d .0) g)
+    ∙ day-end y (SomeMonth m) (SomeDay d) (two-behind g)
 
 behind-tail : (m : OptionMonth) (d : OptionDay) → Behind (tailBytes m d)
 behind-tail NoMonth d = end
@@ -210,9 +235,18 @@ behind-tail (SomeMonth m) d = hyphen
 
 -- a written point, read, is the point
 pub point-back : (d : Datetime) → Written d → point (written d) ≡ Point d
-unfolding point onYear
 point-back d w =
     let y = d .year in
     let f = from-start (written d) in
-    rw (year-read y (w .year-in) (behind-tail (d .month) (d .day)) f)
-    (tail-read y (d .month) (d .day) (w .parts-in) (from-behind (yearBytes y) f) ∙ ap (λ (t : OptionTime). Point (datetime y (d .month) (d .day) t)) (sym (w .untimed)))
+    on-year (written d) (year-read y (w .year-in) (behind-tail (d .month) (d .day)) f)
+    ∙ tail-read y (d .month) (d .day) (w .parts-in) (from-behind (yearBytes y) f)
+    ∙ ap (λ (t : OptionTime). Point (datetime y (d .month) (d .day) t)) (sym (w .untimed))
+
+-- a written point with a day that its month does not have is refused, from its start to its end
+pub point-past : (y : ℤ) (m d : ℕ) → natAbs y < 10000 → m < 12 → d < 31 → monthLength m y ≤ d → point (yearBytes y ++ (partBytes m ++ partBytes d)) ≡ Refused (textRefusal DayOutOfRange 0 (length (yearBytes y) + 6))
+unfolding point onYear
+point-past y m d h l k g =
+    let f = from-start (yearBytes y ++ (partBytes m ++ partBytes d)) in
+    let a = from-behind (yearBytes y) f in
+    rw (year-read y h hyphen f, month-read y m l hyphen a, day-past y (record { 0 = m }) d g k end (two-behind a))
+    (ap (λ (n : ℕ). Refused (textRefusal DayOutOfRange 0 n)) (omega arith))

@@ -1,13 +1,15 @@
--- What the ported reader accepts without an X, if it has no time, is a Date whose text is read back.
+-- What the ported reader accepts, if it has no time, is a Date whose text is read back, or a day-XX range in a month under 31 days.
 -- Assumes nothing.
-use mathlib.Core.Path.{_≡_, refl, sym, ap, _∙_, subst}
-use mathlib.Core.Bool.{Bool, true, false}
+use mathlib.Core.Path.{_≡_, refl, subst}
+use mathlib.Core.Bool.{Bool}
 use mathlib.Core.List.{List}
-use Prim.Native.Nat.{ℕ, _+_}
-use lib.Dec.{ltb}
-use lib.ListN.{length, take, drop}
-use lib.IntN.{ℤ}
-use Rattle.chars.specs.Pick.{pick}
+use mathlib.Core.Logic.{_⊎_, ⊎-elim, inl, inr}
+use Prim.Native.Nat.{ℕ, _+_, _<_}
+use native.Mathlib.Omega.{arith}
+use native.Mathlib.Decide.{decLt}
+use lib.Dec.{lit<}
+use lib.ListN.{take, drop}
+use lib.IntN.{ℤ, pos}
 use Rattle.chars.proofs.Cases.{by-test}
 use Rattle.refusals.specs.declared.FileSpan.{FileSpan}
 use Rattle.refusals.specs.declared.Refusal.{Refusal}
@@ -16,8 +18,6 @@ use Rattle.chunks.specs.declared.Checked.{Checked}
 use Rattle.chunks.specs.declared.Checked.the-variants.{Clean, Faulty}
 use Rattle.chunks.specs.Chunks.{chunksOf, spanOf}
 use Rattle.chunks.specs.Check.{checked}
-use Rattle.chunks.specs.Format.{formatted}
-use Rattle.chunks.specs.Upper.{uppercase}
 use Rattle.dates.specs.declared.OptionMonth.{OptionMonth}
 use Rattle.dates.specs.declared.OptionMonth.the-variants.{NoMonth, SomeMonth}
 use Rattle.dates.specs.declared.OptionDay.{OptionDay}
@@ -27,19 +27,26 @@ use Rattle.dates.specs.declared.Datetime.{Datetime}
 use Rattle.dates.specs.declared.DateValue.{DateValue}
 use Rattle.dates.specs.declared.DateValue.the-variants.{At, After, Before, Between}
 use Rattle.dates.specs.declared.Date.{Date}
+use Rattle.dates.specs.Calendar.{monthLength}
+use Rattle.dates.specs.Value.{datetime, month, day}
+use Rattle.dates.proofs.Months.{some-day}
 use Rattle.points.specs.declared.ReadPoint.{ReadPoint}
 use Rattle.points.specs.declared.ReadPoint.the-variants.{Point, Refused as NoPoint}
 use Rattle.points.specs.Point.{point}
 use Rattle.points.proofs.Back.{PartsIn as Parts}
 use Rattle.points.proofs.Accepted.{Dated, accepted-date}
+use Rattle.xranges.specs.declared.ReadRange.{ReadRange}
+use Rattle.xranges.specs.declared.ReadRange.the-variants.{Range, NoRange}
+use Rattle.xranges.specs.Range.{rangeDates}
+use Rattle.xranges.proofs.Accepted.{XRange, some-years, all-months, all-days, accepted-range}
 use Rattle.datefield.specs.declared.ReadValue.{ReadValue}
 use Rattle.datefield.specs.declared.ReadValue.the-variants.{Read, NoValue}
 use Rattle.datefield.specs.declared.ReadDate.{ReadDate}
 use Rattle.datefield.specs.declared.ReadDate.the-variants.{Accepted, Refused}
-use Rattle.datefield.specs.Text.{trimmed, lastByte, isUncertain, isApproximate, unmarked, firstOf, isOpen}
-use Rattle.datefield.specs.Value.{moved, firstHalf, secondHalf, onHalf, bothHalves, halves, value, marked, trimmedDate, dateText}
+use Rattle.datefield.specs.Text.{firstOf, isOpen}
+use Rattle.datefield.specs.Value.{moved, firstHalf, secondHalf, onHalf, bothHalves, halves, xRange, value, marked, trimmedDate, dateText}
 use Rattle.reader.specs.Field.{onClean, parsed}
-use Rattle.roundtrip.specs.Domain.{PartsIn, EndIn, InDomain, Untimed, hasX}
+use Rattle.roundtrip.specs.Domain.{PartsIn, EndIn, InDomain, Untimed, ShortMonthRange, days-xx}
 
 -- every end is a date of the calendar, whatever its time
 abbrev AllDated : DateValue → Type 0
@@ -48,8 +55,12 @@ AllDated (After a) = Dated a
 AllDated (Before a) = Dated a
 AllDated (Between a b) = Dated a × Dated b
 
+-- or it is the one exception
+abbrev Known : DateValue → Type 0
+Known v = AllDated v ⊎ ShortMonthRange v
+
 data Holds : ReadValue → Type 0 where
-  holds : {v : DateValue} → AllDated v → Holds (Read v)
+  holds : {v : DateValue} → Known v → Holds (Read v)
   fails : {e : Refusal} → Holds (NoValue e)
 
 half-good : (t : List ℕ) (by : TextRefusal → Refusal) {go : Datetime → ReadValue} → ((d : Datetime) → Dated d → Holds (go d)) → Holds (onHalf (moved (point t) by) go)
@@ -66,30 +77,52 @@ halves-good span s slash =
     let u = take slash s in
     let v = drop (slash + 1) s in
     by-test Holds (isOpen u)
-    (λ _. by-test Holds (isOpen v) (λ _. fails) λ _. half-good v _ λ b h. holds {v = Before b} h)
-    (λ _. by-test Holds (isOpen v) (λ _. half-good u _ λ a h. holds {v = After a} h) λ _. half-good u _ λ a h. half-good v _ λ b k. holds {v = Between a b} (h, k))
+    (λ _. by-test Holds (isOpen v) (λ _. fails) λ _. half-good v _ λ b h. holds {v = Before b} (inl h))
+    (λ _. by-test Holds (isOpen v) (λ _. half-good u _ λ a h. holds {v = After a} (inl h)) λ _. half-good u _ λ a h. half-good v _ λ b k. holds {v = Between a b} (inl (h, k)))
 
-value-good : (span : FileSpan) (s : List ℕ) → ltb (firstOf 0x58 s) (length s) ≡ false → Holds (value span s)
-unfolding value pick
-value-good span s x =
-    rw x (by-test Holds (ltb (firstOf 0x2F s) (length s)) (λ _. halves-good span s (firstOf 0x2F s)) λ _. half-good s _ λ a h. holds {v = At a} h)
+-- an X range
+dated : (y : ℕ) (m : OptionMonth) (d : OptionDay) → y < 10000 → Parts (pos y) m d → Dated (datetime (pos y) m d NoTime)
+dated y m d h p = record { year-in = h; parts-in = p }
+
+range-known : {a b : Datetime} → XRange a b → Known (Between a b)
+range-known (some-years {y} {z} h k) = inl (dated y NoMonth NoDay h tt, dated z NoMonth NoDay k tt)
+range-known (all-months {y} h) = inl (dated y (month 0) NoDay h (lit< tt), dated y (month 11) NoDay h (lit< tt))
+range-known (all-days {y} {m} h l) =
+    elim (decLt (monthLength m (pos y)) 31) [
+      | yes n ↦ inr (days-xx y m h l n)
+      | no n ↦ inl (dated y (month m) (day 0) h (l, some-day m (pos y) l), dated y (month m) (day 30) h (l, omega (arith, n)))
+    ]
+
+range-good : (span : FileSpan) (s : List ℕ) → Holds (xRange span (rangeDates s))
+unfolding xRange
+range-good span s = at (rangeDates s) refl
+  where
+    at : (r : ReadRange) → rangeDates s ≡ r → Holds (xRange span r)
+    at (Range a b) e = holds (range-known (accepted-range s e))
+    at (NoRange f) e = fails
+
+value-good : (span : FileSpan) (s : List ℕ) → Holds (value span s)
+unfolding value
+value-good span s =
+    by-test Holds _ (λ _. range-good span s) λ _.
+    by-test Holds _ (λ _. halves-good span s (firstOf 0x2F s)) λ _. half-good s _ λ a h. holds {v = At a} (inl h)
 
 -- the same of a Date
 data Fine : ReadDate → Type 0 where
-  fine : {d : Date} → AllDated (d .value) → Fine (Accepted d)
-  not : {e : Refusal} → Fine (Refused e)
+  fine : {d : Date} → Known (d .value) → Fine (Accepted d)
+  refused : {e : Refusal} → Fine (Refused e)
 
 marked-fine : (u a : Bool) {r : ReadValue} → Holds r → Fine (marked u a r)
 unfolding marked
 marked-fine u a (holds h) = fine h
-marked-fine u a fails = not
+marked-fine u a fails = refused
 
 clean-fine : (c : Checked) {r : ReadDate} → Fine r → Fine (onClean c r)
 unfolding onClean
 clean-fine Clean f = f
-clean-fine (Faulty e) f = not
+clean-fine (Faulty e) f = refused
 
-of-fine : {d : Date} → Fine (Accepted d) → AllDated (d .value)
+of-fine : {d : Date} → Fine (Accepted d) → Known (d .value)
 of-fine (fine h) = h
 
 parts-of : (y : ℤ) (m : OptionMonth) (d : OptionDay) → Parts y m d → PartsIn y m d
@@ -107,10 +140,10 @@ in-domain (After a) h t = end-in h t
 in-domain (Before a) h t = end-in h t
 in-domain (Between a b) h t = (end-in (h .0) (t .0), end-in (h .1) (t .1))
 
-parsed-fine : (b table : List ℕ) → hasX b table ≡ false → Fine (parsed b table)
+parsed-fine : (b table : List ℕ) → Fine (parsed b table)
 unfolding parsed dateText trimmedDate
-parsed-fine b table x = clean-fine (checked b table) (marked-fine _ _ (value-good (spanOf (chunksOf table)) _ x))
+parsed-fine b table = clean-fine (checked b table) (marked-fine _ _ (value-good (spanOf (chunksOf table)) _))
 
--- an accepted text without an X gives a Date of the domain, if it has no time
-pub accepted-in : (b table : List ℕ) {d : Date} → hasX b table ≡ false → parsed b table ≡ Accepted d → Untimed (d .value) → InDomain (d .value)
-accepted-in b table {d} x e t = in-domain (d .value) (of-fine (subst Fine e (parsed-fine b table x))) t
+-- an accepted text gives a Date of the domain, if it has no time, or such a range
+pub accepted-in : (b table : List ℕ) {d : Date} → parsed b table ≡ Accepted d → Untimed (d .value) → InDomain (d .value) ⊎ ShortMonthRange (d .value)
+accepted-in b table {d} e t = ⊎-elim (λ h. inl (in-domain (d .value) h t)) inr (of-fine (subst Fine e (parsed-fine b table)))

@@ -75,7 +75,7 @@ value-derived (Between a b) w =
     subst (λ (s : List ℕ). Value Point s (Between a b)) (sym (append-assoc (datetimeText a) (47 ∷ []) (datetimeText b)))
     (between (end-derived a (w .0)) (end-derived b (w .1)))
 
-mark-derived : (u a : Bool) → Mark (markText u a) u a
+pub mark-derived : (u a : Bool) → Mark (markText u a) u a
 unfolding markText
 mark-derived true true = both
 mark-derived false true = approximate

@@ -1,32 +1,26 @@
 -- A year, a month and a day as they are written, each read as a field of its own.
 -- Assumes nothing.
 use mathlib.Core.Path.{_≡_, refl, sym, ap, _∙_}
-use mathlib.Core.Bool.{Bool, true, false, _&&_}
-use mathlib.Core.List.{List, [], _∷_, _++_, append-nil}
-use Prim.Native.Nat.{ℕ, zero, suc, _+_, _-_, _*_, _/_, _%_, _≤_, _<_}
-use native.Mathlib.Nat.{add-zero, add-sub-cancel-left}
+use mathlib.Core.Bool.{Bool, true, false}
+use mathlib.Core.List.{List, [], _∷_, append-nil}
+use Prim.Native.Nat.{ℕ, suc, _+_, _/_, _%_, _<_}
 use native.Mathlib.Omega.{arith}
-use borrow.Author.Tests.{ne-eqb, eq-eqb, lt-ltb, le-ltb, lt-leb, le-leb}
-use lib.Dec.{eqb, ltb, leb, lit<}
+use borrow.Author.Tests.{ne-eqb, eq-eqb, le-leb}
+use lib.Dec.{leb, lit<}
 use lib.IntN.{ℤ, pos, negsuc, natAbs}
-use lib.ListN.{length, getD, take, drop}
-use lib.Seq.{take-length}
+use lib.ListN.{length}
 use Rattle.chars.specs.Pick.{pick}
-use Rattle.chars.specs.Classes.{isAsciiDigit, within}
 use Rattle.scanner.specs.declared.Class.the-variants.{Whitespace, PlainWhitespace, AsciiDigit, Separator, Is}
-use Rattle.scanner.specs.declared.EatIf.{EatIf}
-use Rattle.scanner.specs.declared.EatIf.the-variants.{Past, Kept}
+use Rattle.scanner.specs.declared.EatIf.the-variants.{Kept}
 use Rattle.scanner.specs.Class.{inClass}
 use Rattle.scanner.specs.Scan.{eatWhile, eatText, begins, doneAt, part}
 use Rattle.scanner.proofs.Laws.{not-white}
-use Rattle.scanner.proofs.Front.{From, from-start, from-behind, front-go, front-stop, front-rest, front-end, front-past}
+use Rattle.scanner.proofs.Front.{From, from-start, from-behind, front-stop, front-rest, front-end, front-past}
 use Rattle.refusals.specs.declared.FileSpan.{FileSpan}
 use Rattle.numbers.specs.declared.Digits.the-variants.{OneOrTwo}
 use Rattle.numbers.specs.Number.{admits, cursor}
-use Rattle.numbers.proofs.Reading.{bytes, value, AreDigits, Behind, end, digit-hyphen, hyphen-hyphen, length-bytes, front-ate, front-kept, digit-white, number-read}
+use Rattle.numbers.proofs.Reading.{bytes, end, digit-hyphen, hyphen-hyphen, front-ate, front-kept, digit-white, number-read}
 use Rattle.dates.specs.declared.OptionDay.the-variants.{NoDay}
-use Rattle.strs.specs.declared.ParsedNumber.the-variants.{Value}
-use Rattle.strs.specs.Parse.{digitOf, valueOf, digitsFrom, parse}
 use Rattle.strs.specs.Trim.{trim}
 use Rattle.strs.proofs.Trims.{Plain, plain-trim}
 use Rattle.fields.specs.declared.ReadYear.the-variants.{Year}
@@ -38,43 +32,10 @@ use Rattle.fields.specs.Names.{stored}
 use Rattle.fields.specs.Month.{monthOf, monthField}
 use Rattle.fields.specs.Day.{isDay, dayBehind, dayAt, dayFrom, dayInMonthField, dayGiven, dayField}
 use Rattle.points.proofs.Back.{two, four, lead, three, two-digits, two-value, four-digits, four-value, yearBytes}
-
-digit-ascii : (d : ℕ) → d < 10 → inClass AsciiDigit (48 + d) ≡ true
-unfolding inClass isAsciiDigit within
-digit-ascii d h = simp (le-leb 0x30 (48 + d) (omega arith), le-leb (48 + d) 0x39 (omega arith))
-
--- digits up to the end of the text
-ascii-run : (ds : List ℕ) {s : List ℕ} {i : ℕ} → AreDigits ds → From s i (bytes ds) → eatWhile AsciiDigit s i ≡ i + length ds
-ascii-run [] {s} {i} h f = front-end f AsciiDigit ∙ sym (add-zero i)
-ascii-run (d ∷ ds) {s} {i} h f = front-go f AsciiDigit (omega (arith, h .0)) (digit-ascii d (h .0)) ∙ ascii-run ds (h .1) (front-rest f) ∙ omega arith
-
-ascii-part : (ds : List ℕ) {s : List ℕ} {i : ℕ} → From s i (bytes ds) → part s i (i + length ds) ≡ bytes ds
-unfolding part
-ascii-part ds f = rw (add-sub-cancel-left, f .is) (ap (λ (n : ℕ). take n (bytes ds)) (sym (length-bytes ds)) ∙ take-length (bytes ds))
+use Rattle.roundtrip.proofs.Runs.{none, ascii-run, ascii-part, parse-is}
 
 past-all : (u : List ℕ) {s : List ℕ} {i : ℕ} → From s i u → From s (i + length u) []
 past-all u f = from-behind u (record { is = f .is ∙ sym (append-nil u) })
-
--- the number that they are
-digit-is : (d : ℕ) → d < 10 → digitOf (48 + d) ≡ d
-unfolding digitOf pick
-digit-is d h = simp (le-ltb (48 + d) 0x30 (omega arith), lt-ltb (48 + d) 0x3A (omega arith)) (omega arith)
-
-value-grows : (acc : ℕ) (ds : List ℕ) → acc ≤ value acc ds
-value-grows acc [] = omega arith
-value-grows acc (d ∷ ds) = let g = value-grows (acc * 10 + d) ds in omega arith
-
-value-is : (ds : List ℕ) (top acc : ℕ) → AreDigits ds → value acc ds ≤ top → valueOf top acc (bytes ds) ≡ Value (value acc ds)
-unfolding valueOf pick
-value-is [] top acc h l = refl
-value-is (d ∷ ds) top acc h l =
-    let g = value-grows (acc * 10 + d) ds in
-    rw (digit-is d (h .0), le-ltb 9 d (omega (arith, h .0)), le-ltb top (acc * 10 + d) (omega arith)) (value-is ds top (acc * 10 + d) (h .1) l)
-
-parse-is : (d : ℕ) (ds : List ℕ) (top : ℕ) → AreDigits (d ∷ ds) → value 0 (d ∷ ds) ≤ top → parse top (bytes (d ∷ ds)) ≡ Value (value 0 (d ∷ ds))
-unfolding parse digitsFrom pick
-parse-is d ds top h l =
-    rw (ne-eqb (48 + d) 0x2B (λ (e : 48 + d ≡ 0x2B). omega arith), lt-leb (length (bytes (d ∷ ds))) 0 (omega arith)) (value-is (d ∷ ds) top 0 h l)
 
 -- no era at the end of the text
 same : (b : Bool) → pick b Kept Kept ≡ Kept
@@ -99,8 +60,8 @@ four-read n idx sign {s} {i} h f =
     let v = four-value n h in
     rw (
       digit-white (four-digits n .0) f,
-      ascii-run (four n) (four-digits n) f,
-      ascii-part (four n) f,
+      ascii-run (four n) (four-digits n) none f,
+      ascii-part (four n) [] f,
       eq-eqb i i refl,
       parse-is (lead n) (three n) 9999 (four-digits n) (omega arith),
       v,

@@ -1,7 +1,15 @@
+pub mod Bytes
+pub mod Points
+pub mod Values
+pub mod Trims
 pub mod Texts
 pub mod Whole
 pub mod Derived
 pub mod Marks
+pub mod Short
+pub mod Runs
 pub mod Fields
 pub mod Three
 pub mod Accepted
+pub mod Unknown
+pub mod Agrees

@@ -1,21 +1,18 @@
 -- The written fields of an end, read as three fields, give that end.
 -- Assumes nothing.
 use mathlib.Core.Path.{_≡_, refl, sym, ap, _∙_}
-use mathlib.Core.Bool.{Bool, true, false}
+use mathlib.Core.Bool.{Bool, false}
 use mathlib.Core.List.{List, [], _∷_, _++_, append-nil}
-use Prim.Native.Nat.{ℕ, _+_, _≤_, _<_, _^_}
+use Prim.Native.Nat.{ℕ, _+_, _≤_, _<_}
 use native.Mathlib.Omega.{arith}
 use borrow.Author.Tests.{ne-eqb}
-use lib.Dec.{eqb}
 use lib.IntN.{ℤ, natAbs}
-use lib.ListN.{length}
 use Rattle.chars.specs.Pick.{pick}
 use Rattle.chunks.specs.declared.Checked.the-variants.{Clean}
-use Rattle.chunks.specs.Chunks.{chunksOf, spanOf}
 use Rattle.chunks.specs.Check.{checked, orElse}
 use Rattle.chunks.specs.Format.{formatted}
 use Rattle.chunks.proofs.Answers.{plain-as-is}
-use Rattle.chunks.proofs.Plains.{Plainly, plainly}
+use Rattle.chunks.proofs.Plains.{plainly}
 use Rattle.numbers.proofs.Reading.{bytes}
 use Rattle.dates.specs.declared.OptionMonth.{OptionMonth}
 use Rattle.dates.specs.declared.OptionMonth.the-variants.{NoMonth, SomeMonth}
@@ -29,26 +26,27 @@ use Rattle.points.proofs.Back.{two, two-digits, yearBytes, length-most}
 use Rattle.datefield.specs.declared.ReadDate.the-variants.{Accepted}
 use Rattle.reader.specs.Field.{onClean}
 use Rattle.reader.specs.Fields.{partsChecked, fieldsChecked, movedYear, yearOf, onMonth, insideDay, monthText, monthAlone, fieldDay, monthAndDay, partsOf, dated, onYear, readFields, threeFields}
-use Rattle.writer.specs.Texts.{yearText, partText, writtenMonth, writtenDay, dayParts, monthParts, partsOf as writtenParts}
-use Rattle.writer.specs.Fields.{line, partLines, endLines}
+use Rattle.writer.specs.Texts.{partText, writtenMonth, writtenDay, dayParts, monthParts, partsOf as writtenParts}
+use Rattle.writer.specs.Fields.{partLines, endLines}
 use Rattle.roundtrip.specs.Domain.{PartsIn, EndIn, oneChunk}
 use Rattle.roundtrip.specs.Fields.{hasMonth, hasDay, monthValue, dayValue, lineIf, linesOf, readBack}
-use Rattle.roundtrip.proofs.Texts.{decimal-is, year-is, body-bytes, body-year, year-long}
-use Rattle.roundtrip.proofs.Marks.{Clear, body-clear, clear-text, clear-ascii}
+use Rattle.roundtrip.proofs.Bytes.{Piece, bytes-piece, point-clear, clear-text, clear-ascii}
+use Rattle.roundtrip.proofs.Texts.{decimal-is, year-is, year-piece}
 use Rattle.roundtrip.proofs.Fields.{year-field, month-field, no-day, day-field}
 
 -- a list of one such chunk is clean, and formatted it is its bytes
-list-read : (l : List ℕ) → Clear l → length l ≤ 4096 → (s e : ℕ) → (checked l (oneChunk l s e) ≡ Clean) × (formatted l (oneChunk l s e) ≡ l)
-list-read l c h s e =
+list-read : {n : ℕ} (l : List ℕ) → Piece n l → n ≤ 4096 → (s e : ℕ) → (checked l (oneChunk l s e) ≡ Clean) × (formatted l (oneChunk l s e) ≡ l)
+list-read l q h s e =
     let t = oneChunk l s e in
-    let p = plainly l t (record { four = refl; normal-kind = refl; whole = refl; small = h; ascii = clear-ascii c }) in
+    let c = point-clear (q .in-point) in
+    let p = plainly l t (record { four = refl; normal-kind = refl; whole = refl; small = omega arith; ascii = clear-ascii c }) in
     (p .clean, sym (plain-as-is l t {u = false} refl) ∙ p .text false ∙ clear-text false false c)
 
 year-list : (y : ℤ) (s e : ℕ) → (checked (yearBytes y) (oneChunk (yearBytes y) s e) ≡ Clean) × (formatted (yearBytes y) (oneChunk (yearBytes y) s e) ≡ yearBytes y)
-year-list y s e = let n = year-long y in list-read (yearBytes y) (body-clear (body-year y)) (omega arith) s e
+year-list y s e = list-read (yearBytes y) (year-piece y) (omega arith) s e
 
 two-list : (n s e : ℕ) → (checked (bytes (two n)) (oneChunk (bytes (two n)) s e) ≡ Clean) × (formatted (bytes (two n)) (oneChunk (bytes (two n)) s e) ≡ bytes (two n))
-two-list n s e = list-read (bytes (two n)) (body-clear (body-bytes (two n) (two-digits n))) (omega arith) s e
+two-list n s e = list-read (bytes (two n)) (bytes-piece (two n) (two-digits n)) (omega arith) s e
 
 value-is : (n : ℕ) → n < 100 → partText n ≡ bytes (two n)
 unfolding partText

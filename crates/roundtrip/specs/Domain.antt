@@ -3,12 +3,8 @@
 use Prim.Native.Nat.{ℕ, _<_}
 use mathlib.Core.Path.{_≡_}
 use mathlib.Core.List.{List, [], _∷_}
-use lib.IntN.{ℤ, natAbs}
-use mathlib.Core.Bool.{Bool}
-use lib.Dec.{ltb}
+use lib.IntN.{ℤ, pos, natAbs}
 use lib.ListN.{length}
-use Rattle.chunks.specs.Format.{formatted}
-use Rattle.chunks.specs.Upper.{uppercase}
 use Rattle.dates.specs.declared.OptionMonth.{OptionMonth}
 use Rattle.dates.specs.declared.OptionMonth.the-variants.{NoMonth, SomeMonth}
 use Rattle.dates.specs.declared.OptionDay.{OptionDay}
@@ -18,7 +14,7 @@ use Rattle.dates.specs.declared.Datetime.{Datetime}
 use Rattle.dates.specs.declared.DateValue.{DateValue}
 use Rattle.dates.specs.declared.DateValue.the-variants.{At, After, Before, Between}
 use Rattle.dates.specs.Calendar.{monthLength}
-use Rattle.datefield.specs.Text.{trimmed, unmarked, firstOf}
+use Rattle.dates.specs.Value.{datetime, month, day}
 
 -- month and day, both counted from 0: a day stands beside a month, and within its length in that year
 abbrev pub PartsIn : ℤ → OptionMonth → OptionDay → Type 0
@@ -51,7 +47,7 @@ Untimed (After a) = a .time ≡ NoTime
 Untimed (Before a) = a .time ≡ NoTime
 Untimed (Between a b) = (a .time ≡ NoTime) × (b .time ≡ NoTime)
 
--- whether an X stands in the text of a chunk list behind formatting, without its mark
-abbrev pub hasX : List ℕ → List ℕ → Bool
-hasX b table =
-    ltb (firstOf 0x58 (unmarked (trimmed (uppercase (formatted b table))))) (length (unmarked (trimmed (uppercase (formatted b table)))))
+-- a day-XX range in a month under 31 days, from the first to the 31st: the only Date without a time that is read and not of the domain
+pub data ShortMonthRange : DateValue → Type 0 where
+  days-xx : (y m : ℕ) → y < 10000 → m < 12 → monthLength m (pos y) < 31
+      → ShortMonthRange (Between (datetime (pos y) (month m) (day 0) NoTime) (datetime (pos y) (month m) (day 30) NoTime))

@@ -1,2 +1,4 @@
 pub mod Bounds
+pub mod Accepted
+pub mod Hyphens
 pub mod Examples
