@@ -433,13 +433,13 @@ fn odd_characters(l: &mut Lines) {
 fn chunks_and_breaks(l: &mut Lines) {
     let firsts = ["2000", "2000 ", "2000\n", "", " "];
     let seconds = ["\n-01", "\r\n-1q", " \n\r -01", "\n", "-\n01"];
-    for k1 in 0..3 {
-        for k2 in 0..3 {
+    for kind1 in 0..3 {
+        for kind2 in 0..3 {
             for (i, first) in firsts.iter().enumerate() {
                 for (j, second) in seconds.iter().enumerate() {
                     // Two Normal chunks in full, of the others every second.
-                    if k1 + k2 == 0 || (i + j + k1 + k2) % 2 == 0 {
-                        l.ported(&[piece(k1 as u8, 10, first), piece(k2 as u8, 40, second)]);
+                    if kind1 + kind2 == 0 || (i + j + kind1 + kind2) % 2 == 0 {
+                        l.ported(&[piece(kind1 as u8, 10, first), piece(kind2 as u8, 40, second)]);
                     }
                 }
             }
