@@ -57,6 +57,9 @@ fn frame(section: u32, example: &str) -> Option<String> {
     if example == "no chunk" {
         return Some(hex(&one(PORTED, &[])));
     }
+    if let Some(n) = example.strip_suffix(" chunks `Normal \"\"`") {
+        return Some(hex(&one(PORTED, &vec![normal(100, ""); n.parse().ok()?])));
+    }
     let (text, place) = example.strip_prefix('`')?.split_once('`')?;
     let quoted: Vec<&str> = text.split('"').collect();
     let pairs: Vec<(&str, Vec<u8>)> = quoted
