@@ -2,6 +2,8 @@
 
 use std::fmt::Write;
 
+use crate::THREE_FIELDS;
+
 /// The operation and texts of a frame, as far as it can be read.
 pub fn describe_frame(line: &[u8]) -> String {
     let Some(frame) = bytes(line) else {
@@ -17,7 +19,7 @@ pub fn describe_frame(line: &[u8]) -> String {
 fn read_frame(frame: &[u8], text: &mut String) -> Option<()> {
     let mut rest = frame.get(1..)?;
     read_list(&mut rest, text)?;
-    if frame[0] == 3 {
+    if frame[0] == THREE_FIELDS {
         for name in ["month", "day"] {
             match take(&mut rest, 1)?[0] {
                 0 => *text += &format!(" {name} absent"),

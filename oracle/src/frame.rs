@@ -23,54 +23,23 @@ const HEAD: usize = 10;
 /// The answer where the oracle has none.
 const SKIP: &[u8] = b"--";
 
-/// What the oracle answers beyond the base.
+/// The operation that calls the ported reader.
+pub const PORTED: u8 = 1;
+
+/// The operation of the strict reader, which the oracle lacks.
+pub const STRICT: u8 = 2;
+
+/// The operation that reads three fields.
+pub const THREE_FIELDS: u8 = 3;
+
+/// What the oracle answers in place of its usual answers.
 #[derive(Debug, Default, Clone, Copy)]
 pub struct Options {
-    /// K1: U+2000 to U+206F are admitted.
-    pub k1: bool,
-    /// K10: the ported reader is operation 04, and 01 is strict.
-    pub k10: bool,
-    /// K12: operation 05 exists.
-    pub k12: bool,
-    /// Answer a strict operation's refusals 15, 16, 10 and 11, which come
+    /// Answer the strict operation's refusals 15, 16, 10 and 11, which come
     /// before its reading, in place of the skip mark.
     pub strict_checks: bool,
     /// Answer an accepted frame by 00 and its fields instead.
     pub fields: bool,
-}
-
-impl Options {
-    /// Reads a list such as `k1,k10`.
-    pub fn with(mut self, list: &str) -> Result<Self, String> {
-        for name in list.split(',') {
-            match name.to_ascii_lowercase().as_str() {
-                "k1" => self.k1 = true,
-                "k10" => self.k10 = true,
-                "k12" => self.k12 = true,
-                _ => return Err(format!("unknown request {name:?}: k1, k10, k12")),
-            }
-        }
-        Ok(self)
-    }
-
-    /// The operation that calls the ported reader.
-    pub fn ported(&self) -> u8 {
-        if self.k10 {
-            4
-        } else {
-            1
-        }
-    }
-
-    /// The operations whose reader the oracle lacks.
-    pub fn strict(&self) -> &'static [u8] {
-        match (self.k10, self.k12) {
-            (false, false) => &[2],
-            (false, true) => &[2, 5],
-            (true, false) => &[1, 2],
-            (true, true) => &[1, 2, 5],
-        }
-    }
 }
 
 /// A refusal: number, start and end.
@@ -106,7 +75,7 @@ impl Oracle {
             out.extend_from_slice(BAD_FRAME);
             return;
         }
-        let Some((operation, forms)) = split(&self.frame, &self.options) else {
+        let Some((operation, forms)) = split(&self.frame) else {
             out.extend_from_slice(BAD_FRAME);
             return;
         };
@@ -125,7 +94,6 @@ impl Oracle {
         operation: Operation,
         forms: [Option<Form>; 3],
     ) -> Result<Option<(Date, String)>, Refusal> {
-        let k1 = self.options.k1;
         let frame = self.frame.as_slice();
         let [first, month, day] = &mut self.lists;
         let form = forms[0].unwrap_or_default();
@@ -133,23 +101,23 @@ impl Oracle {
         match operation {
             Operation::Strict => {
                 if self.options.strict_checks {
-                    first.load(frame, form, k1)?;
+                    first.load(frame, form)?;
                 }
                 Ok(None)
             }
             Operation::Ported => {
-                let list = first.load(frame, form, k1)?;
+                let list = first.load(frame, form)?;
                 call(|| Date::parse(list)).map(Some)
             }
             Operation::ThreeFields => {
-                let year = first.load(frame, form, k1)?;
+                let year = first.load(frame, form)?;
                 let Some(form) = forms[1] else {
                     // A day without a month is never looked at.
                     return call(|| Date::parse_three_fields(year, None, None)).map(Some);
                 };
-                let month = month.load(frame, form, k1)?;
+                let month = month.load(frame, form)?;
                 let day = match forms[2] {
-                    Some(form) => Some(day.load(frame, form, k1)?),
+                    Some(form) => Some(day.load(frame, form)?),
                     None => None,
                 };
                 call(|| Date::parse_three_fields(year, Some(month), day)).map(Some)
@@ -186,29 +154,28 @@ struct Form {
 }
 
 /// Splits a frame into its operation and lists, or finds that it is none.
-fn split(frame: &[u8], options: &Options) -> Option<(Operation, [Option<Form>; 3])> {
+fn split(frame: &[u8]) -> Option<(Operation, [Option<Form>; 3])> {
     let code = *frame.first()?;
     let mut at = 1;
     let mut forms = [None; 3];
     forms[0] = Some(form(frame, &mut at)?);
 
-    let operation = if code == options.ported() {
-        Operation::Ported
-    } else if code == 3 {
-        for slot in &mut forms[1..] {
-            let flag = *frame.get(at)?;
-            at += 1;
-            *slot = match flag {
-                0 => None,
-                1 => Some(form(frame, &mut at)?),
-                _ => return None,
-            };
+    let operation = match code {
+        PORTED => Operation::Ported,
+        STRICT => Operation::Strict,
+        THREE_FIELDS => {
+            for slot in &mut forms[1..] {
+                let flag = *frame.get(at)?;
+                at += 1;
+                *slot = match flag {
+                    0 => None,
+                    1 => Some(form(frame, &mut at)?),
+                    _ => return None,
+                };
+            }
+            Operation::ThreeFields
         }
-        Operation::ThreeFields
-    } else if options.strict().contains(&code) {
-        Operation::Strict
-    } else {
-        return None;
+        _ => return None,
     };
 
     (at == frame.len()).then_some((operation, forms))
@@ -237,7 +204,7 @@ struct List {
 
 impl List {
     /// Checks a list in full and turns it into chunks.
-    fn load(&mut self, frame: &[u8], form: Form, k1: bool) -> Result<ChunksRef<'_>, Refusal> {
+    fn load(&mut self, frame: &[u8], form: Form) -> Result<ChunksRef<'_>, Refusal> {
         let mut pos = form.start;
         for _ in 0..form.chunks {
             if frame[pos] > 2 {
@@ -258,7 +225,7 @@ impl List {
         for slot in &mut self.chunks[..form.chunks] {
             let (head, rest) = frame[pos..].split_at(HEAD);
             let bytes = &rest[..usize::from(head[1])];
-            let text = check(bytes, k1).map_err(|fault| fault.refusal(lent))?;
+            let text = check(bytes).map_err(|fault| fault.refusal(lent))?;
 
             let mut string = std::mem::take(slot.v.get_mut());
             string.clear();
@@ -300,7 +267,7 @@ impl Fault {
 }
 
 /// Takes the bytes of a chunk as text.
-fn check(bytes: &[u8], k1: bool) -> Result<&str, Fault> {
+fn check(bytes: &[u8]) -> Result<&str, Fault> {
     let (good, fault) = match str::from_utf8(bytes) {
         Ok(text) => (text, None),
         Err(e) => {
@@ -313,8 +280,7 @@ fn check(bytes: &[u8], k1: bool) -> Result<&str, Fault> {
     // In well-formed text a byte from C4 on leads a character above U+00FF.
     if good.as_bytes().iter().any(|&b| b >= 0xc4) {
         for (at, c) in good.char_indices() {
-            let admitted = c <= '\u{ff}' || k1 && ('\u{2000}'..='\u{206f}').contains(&c);
-            if !admitted {
+            if c > '\u{ff}' {
                 return Err(Fault::Char(at, c.len_utf8()));
             }
         }
@@ -470,7 +436,7 @@ mod tests {
         assert_eq!(read(max, "../.."), (1, top, top));
     }
 
-    /// The classes of characters that the rules list.
+    /// The classes of characters, as docs/RULES.md lists them.
     #[test]
     fn characters() {
         for c in '\0'..='\u{ff}' {
@@ -491,14 +457,6 @@ mod tests {
             assert_eq!(c.is_alphabetic(), alphabetic, "{n:x}");
             assert_eq!(c.to_string().to_uppercase(), upper, "{n:x}");
             assert_eq!(upper.len(), c.len_utf8(), "{n:x}");
-        }
-        // K1.
-        for c in '\u{2000}'..='\u{206f}' {
-            let n = c as u32;
-            let space = matches!(n, 0x2000..=0x200a | 0x2028 | 0x2029 | 0x202f | 0x205f);
-            assert_eq!(c.is_whitespace(), space, "{n:x}");
-            assert!(!c.is_alphanumeric());
-            assert_eq!(c.to_string().to_uppercase(), c.to_string());
         }
     }
 }

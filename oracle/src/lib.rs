@@ -1,5 +1,5 @@
 //! The published date.rs and chunk.rs of biblatex, unchanged, behind the
-//! frames of the date port.
+//! frames that docs/RULES.md describes.
 //!
 //! The two files are modules of this crate, so that what is private to their
 //! own crate is in reach. What else they need of it stands below, cut down to
@@ -15,7 +15,7 @@ mod frame;
 pub mod make;
 
 pub use describe::{describe_answer, describe_frame};
-pub use frame::{Options, Oracle, BAD_FRAME, MAX_FRAME};
+pub use frame::{Options, Oracle, BAD_FRAME, MAX_FRAME, PORTED, STRICT, THREE_FIELDS};
 #[doc(hidden)]
 pub use scanner::Scanner;
 

@@ -1,5 +1,14 @@
 //! Builds frames.
 
+use crate::THREE_FIELDS;
+
+/// The English names of the months.
+#[rustfmt::skip]
+pub const MONTH_NAMES: [&str; 12] = [
+    "january", "february", "march", "april", "may", "june", "july", "august", "september", "october",
+    "november", "december",
+];
+
 /// One chunk of a frame: kind, place in the file, and text.
 #[derive(Debug, Clone, PartialEq)]
 pub struct Piece {
@@ -57,7 +66,7 @@ pub fn one(operation: u8, pieces: &[Piece]) -> Vec<u8> {
 
 /// A frame of three fields.
 pub fn three(year: &[Piece], month: Option<&[Piece]>, day: Option<&[Piece]>) -> Vec<u8> {
-    let mut frame = one(3, year);
+    let mut frame = one(THREE_FIELDS, year);
     for field in [month, day] {
         match field {
             None => frame.push(0),
@@ -68,6 +77,15 @@ pub fn three(year: &[Piece], month: Option<&[Piece]>, day: Option<&[Piece]>) -> 
         }
     }
     frame
+}
+
+/// An accepted three-field frame of this many bytes.
+pub fn sized(n: usize) -> Vec<u8> {
+    let year = spread(0, &format!("5{}", " ".repeat(3999)));
+    let rest = n - three(&year, Some(&[]), None).len();
+    let bytes = rest - 10 * rest.div_ceil(265);
+    let month = spread(0, &format!("{}7", " ".repeat(bytes - 1)));
+    three(&year, Some(&month), None)
 }
 
 /// The line of a frame.

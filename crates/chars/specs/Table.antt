@@ -5,7 +5,9 @@ use mathlib.Core.List.{List, [], _∷_}
 
 -- a byte from the first number to the second
 pub record In (lo hi b : ℕ) : Type 0 where
+  -- not below the first
   pub low : lo ≤ b
+  -- not above the second
   pub high : b ≤ hi
 
 -- the rows, with the codes that they are for

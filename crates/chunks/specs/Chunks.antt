@@ -7,11 +7,15 @@ use lib.ListN.{length}
 use Rattle.refusals.specs.declared.FileSpan.{FileSpan}
 use Rattle.refusals.specs.Refusal.{fileSpan}
 
--- a chunk: its kind (0 Normal, 1 Verbatim, 2 Math), its length in bytes, and its span in the file
+-- a chunk
 pub record Chunk : Type 0 where
+  -- 0 Normal, 1 Verbatim, 2 Math
   pub kind : ℕ
+  -- how many of the lent bytes are its text
   pub len : ℕ
+  -- where its span in the file starts
   pub start : ℕ
+  -- where its span in the file ends
   pub end : ℕ
 
 -- the chunks of a table, four numbers each

@@ -10,5 +10,7 @@ use Rattle.chunks.specs.Answer.{roomOf}
 
 -- a list without a fault, and room for its text
 pub record Readable (b table : List ℕ) (room : ℕ) : Type 0 where
+  -- no fault is found
   pub clean : checked b table ≡ Clean
+  -- within the limits the buffer has the room that formatting asks for
   pub roomy : isShort b table ≡ true → roomOf b table ≤ room

@@ -45,6 +45,9 @@ InCalendar y (SomeMonth m) (SomeDay d) = (m .0 < 12) × (d .0 < monthLength (m .
 
 -- a year of four digits, a month and a day of the calendar, and no time
 pub record Plain (d : Datetime) : Type 0 where
+  -- the year is -9999 to 9999
   pub year-in : natAbs (d .year) < 10000
+  -- month and day are of the calendar
   pub parts-in : InCalendar (d .year) (d .month) (d .day)
+  -- a time has no place in the text
   pub no-time : d .time ≡ NoTime

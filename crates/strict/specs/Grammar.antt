@@ -76,7 +76,7 @@ pub data Unknown : List ℕ → DateValue → Type 0 where
   dddd-mm-XX : {s : List ℕ} {m : ℕ} (n : ℕ) → n < 10000 → Field (code "-") 1 12 s m
       → Unknown (digits 4 n ++ (s ++ ascii "-XX")) (Between (plain n (month m) (day 0)) (plain n (month m) (day (lastDay m n))))
 
--- a text without its mark, over a kind of points: another grammar has more of them
+-- a text without its mark, over a kind of points: what is said of ranges and marks holds for any
 pub data Value (P : List ℕ → Datetime → Type 0) : List ℕ → DateValue → Type 0 where
   alone : {s : List ℕ} {a : Datetime} → P s a → Value P s (At a)
   between : {s t : List ℕ} {a b : Datetime} → P s a → P t b → Value P (s ++ (ascii "/" ++ t)) (Between a b)

@@ -185,7 +185,7 @@ unfoldable pub onPoint : ReadPoint → (Datetime → ℕ → Matched) → Matche
 onPoint NoPoint go = NotStrict
 onPoint (Upto a next) go = go a next
 
--- behind `../`: a point. This and what follows is over a reader of points, of which another grammar has another
+-- behind `../`: a point. This and what follows is over a reader of points, as the grammar's values are over a kind of them
 unfoldable pub behindOpen : (List ℕ → ReadPoint) → List ℕ → Matched
 behindOpen read s = onPoint (read s) λ b next. ending (Before b) (drop next s)
 

@@ -39,5 +39,7 @@ afterwards panics text out = pick panics out (pick (leb (length text) (length ou
 
 -- a text was put at a place of a buffer: the place behind it is given, and all other bytes are as they were
 pub record Put (text before : List ℕ) (at : ℕ) (after : List ℕ) (next : ℕ) : Type 0 where
+  -- the next place is behind the text
   pub behind : next ≡ at + length text
+  -- the buffer has the text at the place, and what it had before elsewhere
   pub bytes : after ≡ sets before at text

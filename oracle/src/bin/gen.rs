@@ -5,32 +5,22 @@ use std::env;
 use std::io::{self, BufWriter, Write};
 use std::process::ExitCode;
 
-use oracle::make::{hex, list, normal, one, piece, spread, three, Piece};
-use oracle::Options;
+use oracle::make::{hex, list, normal, one, piece, sized, spread, three, Piece, MONTH_NAMES};
+use oracle::{PORTED, STRICT};
 
-const USAGE: &str = "usage: gen [--with k1,k10,k12] list
-       gen [--with k1,k10,k12] many N SEED
+const USAGE: &str = "usage: gen list
+       gen many N SEED
 
 list   the fixed list; its last line has no line feed
 many   N frames by a seed";
 
 fn main() -> ExitCode {
-    let mut options = Options::default();
-    let mut args = env::args().skip(1).peekable();
-    while args.peek().is_some_and(|arg| arg == "--with") {
-        args.next();
-        match options.with(&args.next().unwrap_or_default()) {
-            Ok(more) => options = more,
-            Err(e) => return fail(&e),
-        }
-    }
-
-    let args: Vec<String> = args.collect();
+    let args: Vec<String> = env::args().skip(1).collect();
     let out = &mut BufWriter::with_capacity(1 << 16, io::stdout().lock());
     let result = match args.iter().map(String::as_str).collect::<Vec<_>>().as_slice() {
-        ["list"] => fixed(options, out),
+        ["list"] => fixed(out),
         ["many", n, seed] => match (n.parse(), seed.parse()) {
-            (Ok(n), Ok(seed)) => many(options, n, seed, out),
+            (Ok(n), Ok(seed)) => many(n, seed, out),
             _ => return fail(USAGE),
         },
         _ => return fail(USAGE),
@@ -52,13 +42,13 @@ fn fail(message: &str) -> ExitCode {
 /// Date fields: the examples, and what they leave out.
 #[rustfmt::skip]
 const DATES: &[&str] = &[
-    // The sample and the examples of the rules.
+    // The worked examples of docs/RULES.md.
     "49?", "49", "50", "0049", "-12", "2000-02-29", "1900-02-29", "../..", "19XX/2005",
     "2000-02-XX",
     // Places as the Rust gives them.
     " 123", "2000.1", "2000-  13", "2000- -01", "2000-02- 30", "2000-01-01q",
     "2000-01-01T10:20:30é", "1XXX", "2000X", "2000-XX q",
-    // What yields to what, runs, order of panics.
+    // What comes before what, whole runs, the order of panics.
     "2000/ ?", "2000/.. ?", "2000/ ..", "2000-01-01T10:20:30Zy", "2000-01-01T10:20:30Zx",
     "19XXX", "2000-XX-XXX", "2000-02-XXX", "2000-01-01T10:20:30+02:003", "½/q", "q/½",
     // Marks and trimming.
@@ -121,7 +111,7 @@ const DATES: &[&str] = &[
     "2000-01-X1", "2000-01-1X", "2000-01-XX ", "2000-01-XX q", "2000-01-XX-", "2000-01-XX/2001",
     "2000-01 - XX", "2000-01XX", "2000-01 XX", "2000-01-01X", "2000-½-XX", "2000.XX", "2000/20XX",
     "20XX/q", "../19XX", "19XX/..", "2000-01-01T10:20:30X", "200½X", "0001-XX",
-    // Uppercasing that changes letters, and what looks like a sign.
+    // Uppercasing that changes letters, and characters that are not admitted.
     "ß", "µ", "ÿ", "é", "\u{a0}", "\u{85}", "\u{ad}", "2000−01", "2000\u{2013}01", "2000\u{2009}",
     "\u{2003}2000", "2000\u{2028}-01", "19XX\u{2009}", "2000/\u{2009}", "2000\u{200b}",
     "2000\u{2007}-\u{205f}01\u{206f}", "\u{2013}2000", "2000\u{2070}", "2000\u{1fff}",
@@ -215,8 +205,8 @@ const SEQUENCES: &[&[u8]] = &[
 ];
 
 /// Lines, each once, in the order in which they came.
+#[derive(Default)]
 struct Lines {
-    options: Options,
     lines: Vec<Vec<u8>>,
     seen: HashSet<Vec<u8>>,
 }
@@ -234,7 +224,7 @@ impl Lines {
     }
 
     fn ported(&mut self, pieces: &[Piece]) {
-        self.frame(&one(self.options.ported(), pieces));
+        self.frame(&one(PORTED, pieces));
     }
 
     fn date(&mut self, text: &str) {
@@ -242,9 +232,7 @@ impl Lines {
     }
 
     fn strict(&mut self, pieces: &[Piece]) {
-        for &operation in self.options.strict() {
-            self.frame(&one(operation, pieces));
-        }
+        self.frame(&one(STRICT, pieces));
     }
 
     fn fields(&mut self, year: &str, month: Option<&str>, day: Option<&str>) {
@@ -255,8 +243,8 @@ impl Lines {
     }
 }
 
-fn fixed(options: Options, out: &mut impl Write) -> io::Result<()> {
-    let mut l = Lines { options, lines: Vec::new(), seen: HashSet::new() };
+fn fixed(out: &mut impl Write) -> io::Result<()> {
+    let mut l = Lines::default();
     l.raw("01010003000000000000000334393f");
     l.raw("zz");
     examples(&mut l);
@@ -445,13 +433,13 @@ fn odd_characters(l: &mut Lines) {
 fn chunks_and_breaks(l: &mut Lines) {
     let firsts = ["2000", "2000 ", "2000\n", "", " "];
     let seconds = ["\n-01", "\r\n-1q", " \n\r -01", "\n", "-\n01"];
-    for k1 in 0..3 {
-        for k2 in 0..3 {
+    for kind1 in 0..3 {
+        for kind2 in 0..3 {
             for (i, first) in firsts.iter().enumerate() {
                 for (j, second) in seconds.iter().enumerate() {
                     // Two Normal chunks in full, of the others every second.
-                    if k1 + k2 == 0 || (i + j + k1 + k2) % 2 == 0 {
-                        l.ported(&[piece(k1 as u8, 10, first), piece(k2 as u8, 40, second)]);
+                    if kind1 + kind2 == 0 || (i + j + kind1 + kind2) % 2 == 0 {
+                        l.ported(&[piece(kind1 as u8, 10, first), piece(kind2 as u8, 40, second)]);
                     }
                 }
             }
@@ -651,22 +639,12 @@ fn limits(l: &mut Lines) {
     }
 }
 
-/// An accepted three-field frame of this many bytes.
-fn sized(n: usize) -> Vec<u8> {
-    let year = spread(0, &format!("5{}", " ".repeat(3999)));
-    let rest = n - three(&year, Some(&[]), None).len();
-    let bytes = rest - 10 * rest.div_ceil(265);
-    let month = spread(0, &format!("{}7", " ".repeat(bytes - 1)));
-    three(&year, Some(&month), None)
-}
-
 fn bad_frames(l: &mut Lines) {
-    let ported = l.options.ported();
-    let single = one(ported, &[normal(0, "49?")]);
-    let double = one(ported, &[normal(0, "2000"), piece(1, 4, "-01")]);
+    let single = one(PORTED, &[normal(0, "49?")]);
+    let double = one(PORTED, &[normal(0, "2000"), piece(1, 4, "-01")]);
     let fields = three(&[normal(0, "5")], Some(&[normal(0, "jul")]), Some(&[normal(0, "4")]));
     let half = three(&[normal(0, "5")], None, Some(&[normal(0, "4")]));
-    let strict = one(2, &[normal(0, "2000")]);
+    let strict = one(STRICT, &[normal(0, "2000")]);
 
     l.raw("");
     for frame in [&single, &double, &fields, &half, &strict] {
@@ -839,7 +817,7 @@ fn numbered(mut number: u64, alphabet: &[char]) -> String {
     chars.iter().rev().collect()
 }
 
-fn many(options: Options, n: u64, seed: u64, out: &mut impl Write) -> io::Result<()> {
+fn many(n: u64, seed: u64, out: &mut impl Write) -> io::Result<()> {
     let mut rng = Rng(seed);
     // A quarter of the frames are short texts, one after the other.
     let first = seed.wrapping_mul(n / 4);
@@ -849,12 +827,12 @@ fn many(options: Options, n: u64, seed: u64, out: &mut impl Write) -> io::Result
             let start = rng.pick(&[0, 0, 100]);
             let text = |number, alphabet| vec![normal(start, numbered(number, alphabet))];
             hex(&match i / 4 % 4 {
-                0 | 2 => one(options.ported(), &text(number / 2, DATE_ALPHABET)),
+                0 | 2 => one(PORTED, &text(number / 2, DATE_ALPHABET)),
                 1 => three(&text(number / 4, YEAR_ALPHABET), None, None),
                 _ => three(&[normal(start, "5")], Some(&text(number / 4, MONTH_ALPHABET)), None),
             })
         } else {
-            seeded(&options, &mut rng)
+            seeded(&mut rng)
         };
         out.write_all(line.as_bytes())?;
         out.write_all(b"\n")?;
@@ -863,26 +841,28 @@ fn many(options: Options, n: u64, seed: u64, out: &mut impl Write) -> io::Result
 }
 
 /// One frame, rarely a bad one.
-fn seeded(options: &Options, rng: &mut Rng) -> String {
+fn seeded(rng: &mut Rng) -> String {
     let frame = match rng.below(100) {
         0..62 => {
             let text = date_field(rng);
-            one(options.ported(), &pieces(rng, &text, options))
+            one(PORTED, &pieces(rng, &text))
         }
         62..70 => {
             let text = date_field(rng);
-            one(rng.pick(options.strict()), &pieces(rng, &text, options))
+            // A number that nothing uses: without it a seed gives other frames.
+            rng.next();
+            one(STRICT, &pieces(rng, &text))
         }
         _ => {
             let text = year_field(rng);
-            let year = pieces(rng, &text, options);
+            let year = pieces(rng, &text);
             let month = rng.percent(85).then(|| {
                 let text = month_field(rng);
-                pieces(rng, &text, options)
+                pieces(rng, &text)
             });
             let day = rng.percent(50).then(|| {
                 let text = day_field(rng);
-                pieces(rng, &text, options)
+                pieces(rng, &text)
             });
             three(&year, month.as_deref(), day.as_deref())
         }
@@ -901,10 +881,10 @@ fn seeded(options: &Options, rng: &mut Rng) -> String {
 }
 
 /// A text as chunks, mostly one Normal one.
-fn pieces(rng: &mut Rng, text: &str, options: &Options) -> Vec<Piece> {
+fn pieces(rng: &mut Rng, text: &str) -> Vec<Piece> {
     let mut bytes = text.as_bytes().to_vec();
     match rng.below(300) {
-        // Ill-formed, unsupported, or beyond the base's characters.
+        // Ill-formed, or not admitted.
         0 => {
             let at = rng.below(bytes.len() + 1);
             bytes.splice(at..at, rng.pick(SEQUENCES).iter().copied());
@@ -915,11 +895,6 @@ fn pieces(rng: &mut Rng, text: &str, options: &Options) -> Vec<Piece> {
             let more = c.encode_utf8(&mut room).as_bytes().to_vec();
             let at = boundary(rng, text);
             bytes.splice(at..at, more);
-        }
-        3..20 if options.k1 => {
-            let c = char::from_u32(0x2000 + rng.below(0x70) as u32).unwrap_or(' ');
-            let at = boundary(rng, text);
-            bytes.splice(at..at, c.to_string().into_bytes());
         }
         // Long ones.
         20 => {
@@ -1141,39 +1116,17 @@ fn year_field(rng: &mut Rng) -> String {
 }
 
 fn month_field(rng: &mut Rng) -> String {
-    const NAMES: [&str; 26] = [
-        "january",
-        "february",
-        "march",
-        "april",
-        "may",
-        "june",
-        "july",
-        "august",
-        "september",
-        "october",
-        "november",
-        "december",
-        "jan",
-        "feb",
-        "mar",
-        "apr",
-        "jun",
-        "jul",
-        "aug",
-        "sep",
-        "sept",
-        "oct",
-        "nov",
-        "dec",
-        "febr",
+    // The abbreviations, and words that name no month.
+    #[rustfmt::skip]
+    const OTHERS: [&str; 14] = [
+        "jan", "feb", "mar", "apr", "jun", "jul", "aug", "sep", "sept", "oct", "nov", "dec", "febr",
         "spring",
     ];
     let mut text = match rng.below(10) {
         0..3 => padded(rng, 1, 12),
         3..5 => rng.below(100).to_string(),
         5..9 => {
-            let name = rng.pick(&NAMES);
+            let name = rng.pick(&[&MONTH_NAMES[..], &OTHERS].concat());
             match rng.below(4) {
                 0 => name.to_uppercase(),
                 1 => format!("{}{}", name[..1].to_uppercase(), &name[1..]),

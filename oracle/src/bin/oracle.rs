@@ -9,18 +9,16 @@ use oracle::{Options, Oracle, BAD_FRAME, MAX_FRAME};
 
 const BLOCK: usize = 1 << 20;
 
-const USAGE: &str = "usage: oracle [--with k1,k10,k12] [--strict-checks] [--fields]
+const USAGE: &str = "usage: oracle [--strict-checks] [--fields]
        oracle --version
 
 Reads one frame a line, writes one answer a line.
---with            requests that have landed, by their numbers
---strict-checks   refusals 15, 16, 10 and 11 of a strict operation, not --
+--strict-checks   refusals 15, 16, 10 and 11 of the strict operation, not --
 --fields          answer an accepted frame by 00 and its fields";
 
 fn main() -> ExitCode {
     let mut options = Options::default();
-    let mut args = env::args().skip(1);
-    while let Some(arg) = args.next() {
+    for arg in env::args().skip(1) {
         match arg.as_str() {
             "--version" => {
                 println!(
@@ -33,10 +31,6 @@ fn main() -> ExitCode {
             }
             "--strict-checks" => options.strict_checks = true,
             "--fields" => options.fields = true,
-            "--with" => match options.with(&args.next().unwrap_or_default()) {
-                Ok(more) => options = more,
-                Err(e) => return fail(&e),
-            },
             _ => return fail(USAGE),
         }
     }
