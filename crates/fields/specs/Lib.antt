@@ -1,4 +1,3 @@
 pub mod Year
-pub mod Names
 pub mod Month
 pub mod Day

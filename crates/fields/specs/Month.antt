@@ -12,7 +12,7 @@ use Rattle.numbers.specs.Number.{parseUnsignedInt}
 use Rattle.fields.specs.declared.ReadMonth.{ReadMonth}
 use Rattle.fields.specs.declared.ReadMonth.the-variants.{MonthRead, NoMonthRead}
 use Rattle.fields.specs.Year.{panics}
-use Rattle.fields.specs.Names.{stored, monthFor}
+use Rattle.months.specs.Names.{stored, monthFor}
 
 -- the letters from a place to another: the month that they name, if they name one
 unfoldable pub named : List ℕ → ℕ → ℕ → ReadMonth

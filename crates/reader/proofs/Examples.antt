@@ -45,7 +45,7 @@ use Rattle.points.specs.Time as pointsTime
 use Rattle.xranges.specs.Range as xrangesRange
 use Rattle.fields.specs.Day as fieldsDay
 use Rattle.fields.specs.Month as fieldsMonth
-use Rattle.fields.specs.Names as fieldsNames
+use Rattle.months.specs.Names as fieldsNames
 use Rattle.fields.specs.Year as fieldsYear
 use Rattle.datefield.specs.Text as datefieldText
 use Rattle.datefield.specs.Value as datefieldValue

@@ -28,7 +28,7 @@ use Rattle.fields.specs.declared.ReadMonth.the-variants.{MonthRead}
 use Rattle.fields.specs.declared.ReadDay.the-variants.{DayRead}
 use Rattle.fields.specs.declared.ReadDayField.the-variants.{Given}
 use Rattle.fields.specs.Year.{signed, onPast, negativeEra, eraAt, parseEraMarker, ended, withEra, behindDigits, onNumber, yearDigits, yearFrom, behindSign, yearAt, getYear}
-use Rattle.fields.specs.Names.{stored}
+use Rattle.months.specs.Names.{stored}
 use Rattle.fields.specs.Month.{monthOf, monthField}
 use Rattle.fields.specs.Day.{isDay, dayBehind, dayAt, dayFrom, dayInMonthField, dayGiven, dayField}
 use Rattle.points.proofs.Back.{two, four, lead, three, two-digits, two-value, four-digits, four-value, yearBytes}

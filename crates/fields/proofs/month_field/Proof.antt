@@ -26,14 +26,11 @@ returns c =
     let b5 = b3 .before .before in
     simp (← b5 .parse-unsigned-int .ensures, b3 .value .given .1, eq-eqb _ _ (b1 .if1 .taken), ← c .panics .ensures)
 
-sub-stored : tie.Need-sub-stored
-sub-stored c = search needs
+sub-m : tie.Need-sub-m
+sub-m c = search needs
 
-cast-stored : tie.Need-cast-stored
-cast-stored c = let h = unsigned-value _ _ OneOrTwo (sym (c .before .before .before .before .parse-unsigned-int .ensures) ∙ c .before .before .value .given .1) in omega arith
-
-stored-requires : tie.Need-stored-requires
-stored-requires c κs = search needs
+cast-m : tie.Need-cast-m
+cast-m c = let h = unsigned-value _ _ OneOrTwo (sym (c .before .before .before .before .parse-unsigned-int .ensures) ∙ c .before .before .value .given .1) in omega arith
 
 enum-known-next : tie.Need-enum-known-next
 enum-known-next c = search needs
@@ -56,10 +53,9 @@ panics-requires-2 c κs = search needs
 returns-2 : tie.Need-returns-2
 unfolding monthField monthOf named pick
 returns-2 c =
-    let b1 = c .before in
-    let b3 = b1 .before .before in
-    let b5 = b3 .before .before in
-    simp (← b5 .parse-unsigned-int .ensures, b3 .value .given .1, ne-eqb _ _ (b1 .if1 .left), ← c .stored .ensures)
+    let b2 = c .before .before in
+    let b4 = b2 .before .before in
+    simp (← b4 .parse-unsigned-int .ensures, b2 .value .given .1, ne-eqb _ _ (c .if1 .left))
 
 returns-3 : tie.Need-returns-3
 unfolding monthField monthOf named pick
@@ -85,9 +81,8 @@ month-field-spec =
     enum-known-value
     panics-requires
     returns
-    sub-stored
-    cast-stored
-    stored-requires
+    sub-m
+    cast-m
     enum-known-next
     eat-while-requires
     from-requires

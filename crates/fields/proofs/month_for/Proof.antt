@@ -1,4 +1,4 @@
-use Rattle.fields.specs.Names.{monthFor, orElse}
+use Rattle.months.specs.Names.{monthFor, orElse}
 use borrow.Author.Needs.{needs}
 use Rattle.fields.proofs.month_for.Statement.{statement}
 use Rattle.fields.proofs.month_for.Tie as tie

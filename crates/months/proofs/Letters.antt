@@ -11,7 +11,7 @@ use borrow.Author.Tests.{eq-eqb, ne-eqb, le-leb, lt-leb}
 use lib.Dec.{leb}
 use lib.ListN.{length, getD, drop, drop-of-length-le}
 use lib.Seq.{drop-cons}
-use Rattle.fields.specs.Names.{lower, sameLetters}
+use Rattle.months.specs.Names.{lower, sameLetters}
 
 module _ (name t : List ℕ) (i : ℕ) (h : i < length name) where
   -- the text is over before the name is

@@ -1,12 +1,12 @@
-use Rattle.fields.specs.Names.{sameLetters}
-use Rattle.fields.proofs.Letters.{letters-short, letters-not, letters-on, letters-end}
+use Rattle.months.specs.Names.{sameLetters}
+use Rattle.months.proofs.Letters.{letters-short, letters-not, letters-on, letters-end}
 use lib.ListN.{length, drop}
 use Prim.Native.Nat.{_-_, _≤_}
 use borrow.Author.Needs.{needs}
 use native.Mathlib.Omega.{arith}
 use mathlib.Core.Path.{sym, _∙_, refl, _≡_}
-use Rattle.fields.proofs.same_letters.Statement.{statement}
-use Rattle.fields.proofs.same_letters.Tie as tie
+use Rattle.months.proofs.same_letters.Statement.{statement}
+use Rattle.months.proofs.same_letters.Tie as tie
 
 abbrev Inv-loop : tie.InvT-loop
 Inv-loop t name i₀ i = (sameLetters (drop i name) (drop i t) ≡ sameLetters name t) × (i ≤ length name)

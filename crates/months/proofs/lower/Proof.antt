@@ -1,9 +1,9 @@
 use Rattle.chars.specs.Pick.{pick}
-use Rattle.fields.specs.Names.{lower}
+use Rattle.months.specs.Names.{lower}
 use borrow.Author.Tests.{lt-ltb, le-ltb}
 use borrow.Author.Needs.{needs}
-use Rattle.fields.proofs.lower.Statement.{statement}
-use Rattle.fields.proofs.lower.Tie as tie
+use Rattle.months.proofs.lower.Statement.{statement}
+use Rattle.months.proofs.lower.Tie as tie
 
 returns : tie.Need-returns
 unfolding lower pick
