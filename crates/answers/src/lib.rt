@@ -7,7 +7,8 @@ ghost use Prim.Native.Nat.{_+_, _*_, _/_, _%_, _≤_, _<_};
 ghost use lib.ListN.{length};
 ghost use Rattle.writer.specs.Answers as writing;
 ghost use Rattle.writer.specs.Answers.{Put};
-ghost use Rattle.writer.specs.Texts.{dateText};
+ghost use Rattle.datefield.specs.declared.ReadDate.the-variants.{Accepted};
+ghost use Rattle.writer.specs.declared.Measured.the-variants.{Length};
 ghost use Rattle.answers.specs.Answer as spec;
 use datefield::ReadDate;
 use dates::Date;
@@ -264,4 +265,60 @@ fn put_refused(e: Refusal, out: &mut [u8]) -> usize
     let j = put_long(place.0, out, i);
     let k = put_long(place.1, out, j);
     end_line(out, k)
+}
+
+// ---- the calls
+
+// There is no room for the line.
+fn no_room() -> Written
+    ensures { λ r. ⌜ r ≡ writing.decided (Length 1) 0 ⌝ }
+{
+    Written::Refused(refusals::refuse(Kind::NoRoom, FileSpan(0, 0)))
+}
+
+// The line of a refusal, if there is room for it.
+fn write_refused(e: Refusal, out: &mut [u8]) -> Written
+    ensures { λ r. ⌜ r ≡ writing.answer false (spec.refusedLine e) (length (now (out .entry))) ⌝ }
+    ensures { λ r. ⌜ now (out .exit) ≡ writing.afterwards false (spec.refusedLine e) (now (out .entry)) ⌝ }
+{
+    if out.len() < 35 {
+        return no_room();
+    }
+    Written::Done(put_refused(e, out))
+}
+
+// The line of a Date, whose written text is given, if there is room for it.
+fn write_accepted(d: Date, text: &[u8], out: &mut [u8]) -> Written
+    requires { ⌜ length (now text) ≤ 40 ⌝ }
+    ensures { λ r. ⌜ r ≡ writing.answer false (spec.acceptedLine d (now (text .entry))) (length (now (out .entry))) ⌝ }
+    ensures { λ r. ⌜ now (out .exit) ≡ writing.afterwards false (spec.acceptedLine d (now (text .entry))) (now (out .entry)) ⌝ }
+{
+    let v = d.value;
+    if out.len() < 2 * (3 + ends_length(v) + text.len()) + 1 {
+        return no_room();
+    }
+    Written::Done(put_accepted(d, text, out))
+}
+
+// The line of a Date; where it has no written text, that of the refusal.
+fn write_date(d: Date, out: &mut [u8]) -> Written
+    ensures { λ r. ⌜ r ≡ writing.answer false (spec.answerLine (Accepted d)) (length (now (out .entry))) ⌝ }
+    ensures { λ r. ⌜ now (out .exit) ≡ writing.afterwards false (spec.answerLine (Accepted d)) (now (out .entry)) ⌝ }
+{
+    let mut text = [0u8; 40];
+    match writer::write_date(d, &mut text) {
+        Written::Done(n) => write_accepted(d, &text[..n], out),
+        Written::Refused(e) => write_refused(e, out),
+    }
+}
+
+// The line of what a reader answered, at the front of the lent buffer; without room for it nothing is stored.
+pub fn write_answer(r: ReadDate, out: &mut [u8]) -> Written
+    ensures { λ w. ⌜ w ≡ writing.answer false (spec.answerLine r) (length (now (out .entry))) ⌝ }
+    ensures { λ w. ⌜ now (out .exit) ≡ writing.afterwards false (spec.answerLine r) (now (out .entry)) ⌝ }
+{
+    match r {
+        ReadDate::Accepted(d) => write_date(d, out),
+        ReadDate::Refused(e) => write_refused(e, out),
+    }
 }

@@ -4,7 +4,7 @@ use mathlib.Core.Bool.{Bool, true, false, _&&_, false≢true}
 use mathlib.Core.List.{List, [], _∷_, _++_, append-assoc}
 use Prim.Native.Nat.{ℕ, _+_, _-_, _*_, _%_, _≤_, _<_}
 use native.Mathlib.Omega.{arith}
-use borrow.Author.Tests.{eqb-true, leb-true, le-leb}
+use borrow.Author.Tests.{eqb-true, leb-true, le-leb, lt-leb}
 use lib.Dec.{eqb, leb}
 use lib.ListN.{length, take, drop, length-append}
 use lib.Seq.{take-at, drop-at, length-take-le}
@@ -227,3 +227,11 @@ module _ (line frame : List ℕ) {frame' text table : List ℕ} {r : Hex} (same 
 pub short-same : (line : List ℕ) → length line ≤ 512 → isHex line 256 ≡ isHex line 8192
 unfolding isHex
 short-same line h = rw (le-leb (half line) 256 (omega arith), le-leb (half line) 8192 (omega arith))
+
+-- a line of more than 16,384 bytes is no frame
+pub long-bad : (line : List ℕ) → 16384 < length line → lineRead line ≡ badFrame
+unfolding lineRead isHex pick
+long-bad line h =
+    of-test (eqb (length line % 2) 0)
+    (λ q. rw (q, lt-leb (half line) 8192 (let e = eqb-true (length line % 2) 0 q in omega arith)))
+    (λ q. rw q)

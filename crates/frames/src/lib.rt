@@ -1,10 +1,12 @@
 // Frames: one line of hexadecimal digits is one question to a reader.
 ghost use mathlib.Core.Path.{_≡_};
-ghost use mathlib.Core.Bool.{true};
+ghost use mathlib.Core.Bool.{true, false};
 ghost use Prim.Native.Nat.{_+_, _*_, _≤_, _<_};
 ghost use lib.ListN.{length};
 ghost use Rattle.hexes.specs.Hex.{isHex};
+ghost use Rattle.writer.specs.Answers as writing;
 ghost use Rattle.writer.specs.Answers.{Put};
+ghost use Rattle.answers.specs.Answer.{answerLine};
 ghost use Rattle.frames.specs.Lists as list;
 ghost use Rattle.frames.specs.Room.{Room};
 ghost use Rattle.frames.specs.declared.Operation.the-variants.{Ported, Strict, ThreeFields};
@@ -13,6 +15,7 @@ use datefield::ReadDate;
 use hexes::Hex;
 use refusals::FileSpan;
 use refusals::Kind;
+use writer::Written;
 
 // What a frame asks for.
 pub enum Operation {
@@ -358,4 +361,22 @@ pub fn read(line: &[u8]) -> ReadDate
     let mut text = [0u8; 8192];
     let mut table = [0u64; 4096];
     read_line(line, &mut frame, &mut text, &mut table)
+}
+
+// ---- the answer to a line
+
+// The answer to a line, as a line at the front of the lent buffer; without room for it nothing is stored. It has at most 139 bytes.
+pub fn answer(line: &[u8], out: &mut [u8]) -> Written
+    ensures { λ r. ⌜ r ≡ writing.answer false (answerLine (spec.lineRead (now (line .entry)))) (length (now (out .entry))) ⌝ }
+    ensures { λ r. ⌜ now (out .exit) ≡ writing.afterwards false (answerLine (spec.lineRead (now (line .entry)))) (now (out .entry)) ⌝ }
+{
+    answers::write_answer(read(line), out)
+}
+
+// The answer to a line of more than 16,384 bytes, which need not be at hand: it is no frame, whatever it holds.
+pub fn answer_long(out: &mut [u8]) -> Written
+    ensures { λ r. ⌜ r ≡ writing.answer false (answerLine spec.badFrame) (length (now (out .entry))) ⌝ }
+    ensures { λ r. ⌜ now (out .exit) ≡ writing.afterwards false (answerLine spec.badFrame) (now (out .entry)) ⌝ }
+{
+    answers::write_answer(bad_frame(), out)
 }

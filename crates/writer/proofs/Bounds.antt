@@ -72,7 +72,7 @@ year-most y f =
     let w = at-most 4 (natAbs y) 10 (omega arith) (few 10 (natAbs y) (omega arith)) in
     omega (arith, length-append (minus y) (decimal 4 (natAbs y)), length-decimal 4 (natAbs y), minus-most y, w)
 
-part-most : (n : ℕ) → n < 1000 → length (partText n) ≤ 3
+pub part-most : (n : ℕ) → n < 1000 → length (partText n) ≤ 3
 unfolding partText
 part-most n h = omega (arith, length-decimal 2 n, at-most 2 n 3 (omega arith) (few 3 n h))
 

@@ -264,14 +264,14 @@ fn put_parts(p: Parts, out: &mut [u8], at: usize) -> usize
 
 // How many digits a written month or day has.
 fn part_length(n: u8) -> usize
-    ensures { λ r. ⌜ (r ≡ length (text.partText n)) × (r < 11) ⌝ }
+    ensures { λ r. ⌜ (r ≡ length (text.partText n)) × (r < 4) ⌝ }
 {
     width(2, n as u32)
 }
 
 // How long the text of the parts is.
 fn parts_length(p: Parts) -> usize
-    ensures { λ r. ⌜ (r ≡ length (text.partsText p)) × (r < 24) ⌝ }
+    ensures { λ r. ⌜ (r ≡ length (text.partsText p)) × (r < 9) ⌝ }
 {
     match p {
         Parts::NoParts => 0,
@@ -295,7 +295,7 @@ fn put_datetime(d: Datetime, out: &mut [u8]) -> usize
 
 // How long a Datetime's text is.
 fn datetime_length(d: Datetime) -> usize
-    ensures { λ r. ⌜ (r ≡ length (text.datetimeText d)) × (r < 36) ⌝ }
+    ensures { λ r. ⌜ (r ≡ length (text.datetimeText d)) × (r < 20) ⌝ }
 {
     let p = parts_of(d);
     year_length(d.year) + parts_length(p)
@@ -334,7 +334,7 @@ fn put_value(v: DateValue, out: &mut [u8]) -> usize
 
 // How long the text of a point or a range is.
 fn value_length(v: DateValue) -> usize
-    ensures { λ r. ⌜ (r ≡ length (text.valueText v)) × (r < 80) ⌝ }
+    ensures { λ r. ⌜ (r ≡ length (text.valueText v)) × (r < 40) ⌝ }
 {
     match v {
         DateValue::At(d) => datetime_length(d),
@@ -527,9 +527,10 @@ fn refuse(kind: Kind) -> Refusal
     refusals::refuse(kind, FileSpan(0, 0))
 }
 
-// How long the text of a date is. It refuses what `write_date` refuses, apart from NoRoom.
+// How long the text of a date is: at most 40 bytes. It refuses what `write_date` refuses, apart from NoRoom.
 pub fn date_length(d: Date) -> Measured
     ensures { λ r. ⌜ r ≡ spec.measured (text.panics d) (text.dateText d) ⌝ }
+    ensures { λ r. ⌜ (text.panics d ≡ false → length (text.dateText d) ≤ 40) ⌝ }
 {
     let v = d.value;
     if value_panics(v) {
@@ -568,6 +569,7 @@ fn decide(m: Measured, room: usize) -> Written
 pub fn write_date(d: Date, out: &mut [u8]) -> Written
     ensures { λ r. ⌜ r ≡ spec.answer (text.panics d) (text.dateText d) (length (now (out .entry))) ⌝ }
     ensures { λ r. ⌜ now (out .exit) ≡ spec.afterwards (text.panics d) (text.dateText d) (now (out .entry)) ⌝ }
+    ensures { λ r. ⌜ (text.panics d ≡ false → length (text.dateText d) ≤ 40) ⌝ }
 {
     match decide(date_length(d), out.len()) {
         Written::Done(_) => Written::Done(put_date(d, out)),

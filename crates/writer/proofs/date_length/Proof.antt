@@ -1,9 +1,11 @@
+use native.Mathlib.Omega.{arith}
+use mathlib.Core.Bool.{false, false≢true}
 use Rattle.chars.specs.Pick.{pick}
 use Rattle.writer.proofs.Pieces.{added}
 use Rattle.writer.proofs.Answered.{has-length}
 use Rattle.writer.specs.Answers.{measured}
 use Rattle.writer.specs.Texts.{markText, panics, valueText, dateText}
-use mathlib.Core.Path.{sym, _∙_}
+use mathlib.Core.Path.{_≡_, sym, _∙_}
 use borrow.Author.Needs.{needs}
 use Rattle.writer.proofs.date_length.Statement.{statement}
 use Rattle.writer.proofs.date_length.Tie as tie
@@ -19,7 +21,9 @@ unfolding measured panics pick
 returns c =
     let b1 = c .before in
     let b2 = b1 .before in
-    simp (← b2 .value-panics .ensures, b1 .if1 .taken, ← c .refuse .ensures)
+    let s = b2 .before in
+    let p = sym (b2 .value-panics .ensures) ∙ b1 .if1 .taken in
+    (simp (p, ← c .refuse .ensures), λ (n : panics (s .args .d) ≡ false). absurd (false≢true (sym n ∙ p)))
 
 value-length-requires : tie.Need-value-length-requires
 value-length-requires c κs = search needs
@@ -37,7 +41,8 @@ returns-2 c =
     let b2 = b1 .before in
     let b3 = b2 .before in
     let s = b3 .before in
-    has-length (dateText (s .args .d)) (sym (b3 .value-panics .ensures) ∙ b2 .if1 .left) (added (valueText (s .args .d .value)) (markText (s .args .d .uncertain) (s .args .d .approximate)) (b1 .value-length .ensures .0) (c .mark-length .ensures .0))
+    let e = added (valueText (s .args .d .value)) (markText (s .args .d .uncertain) (s .args .d .approximate)) (b1 .value-length .ensures .0) (c .mark-length .ensures .0) in
+    (has-length (dateText (s .args .d)) (sym (b3 .value-panics .ensures) ∙ b2 .if1 .left) e, λ _. omega (arith, e, b1 .value-length .ensures .1, c .mark-length .ensures .1))
 
 pub date-length-spec : {M : Type 1} → statement M
 date-length-spec =

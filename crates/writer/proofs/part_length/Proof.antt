@@ -1,3 +1,5 @@
+use native.Mathlib.Omega.{arith}
+use Rattle.writer.proofs.Bounds.{part-most}
 use Rattle.writer.specs.Texts.{partText}
 use Rattle.writer.proofs.Counts.{length-decimal}
 use mathlib.Core.Path.{sym, _∙_}
@@ -12,7 +14,9 @@ returns : tie.Need-returns
 unfolding partText
 returns c =
     let s = c .before in
-    (c .width .ensures .0 ∙ sym (length-decimal 2 (s .args .n)), c .width .ensures .1)
+    let e = c .width .ensures .0 ∙ sym (length-decimal 2 (s .args .n)) in
+    let m = part-most (s .args .n) (omega arith) in
+    (e, omega (arith, e, m))
 
 pub part-length-spec : {M : Type 1} → statement M
 part-length-spec = tie.close (tie.spec width-requires returns)

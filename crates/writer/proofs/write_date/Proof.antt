@@ -19,7 +19,7 @@ put-date-requires c κs =
     let b3 = b1 .before .before in
     let b4 = b3 .before in
     let s = b4 .before .before in
-    fits (panics (s .args .d)) (dateText (s .args .d)) (s .args .out .now) (b4 .date-length .ensures) (b3 .decide .ensures) (b1 .enum-told .given .1)
+    fits (panics (s .args .d)) (dateText (s .args .d)) (s .args .out .now) (b4 .date-length .ensures .0) (b3 .decide .ensures) (b1 .enum-told .given .1)
 
 enum-known-e : tie.Need-enum-known-e
 enum-known-e c = search needs
@@ -34,7 +34,8 @@ returns c =
     let b6 = b4 .before .before in
     let b7 = b6 .before in
     let s = b7 .before .before in
-    done (panics (s .args .d)) (dateText (s .args .d)) (s .args .out .now) (b7 .date-length .ensures) (b6 .decide .ensures) (b4 .enum-told .given .1) (b2 .put-date .ensures)
+    let q = done (panics (s .args .d)) (dateText (s .args .d)) (s .args .out .now) (b7 .date-length .ensures .0) (b6 .decide .ensures) (b4 .enum-told .given .1) (b2 .put-date .ensures) in
+    (q .0, (q .1, b7 .date-length .ensures .1))
 
 returns-2 : tie.Need-returns-2
 returns-2 c =
@@ -42,7 +43,8 @@ returns-2 c =
     let b3 = b1 .before .before in
     let b4 = b3 .before in
     let s = b4 .before .before in
-    refuses (panics (s .args .d)) (dateText (s .args .d)) (s .args .out .now) (b4 .date-length .ensures) (b3 .decide .ensures) (b1 .e .given .1)
+    let q = refuses (panics (s .args .d)) (dateText (s .args .d)) (s .args .out .now) (b4 .date-length .ensures .0) (b3 .decide .ensures) (b1 .e .given .1) in
+    (q .0, (q .1, b4 .date-length .ensures .1))
 
 pub write-date-spec : {M : Type 1} → statement M
 write-date-spec =

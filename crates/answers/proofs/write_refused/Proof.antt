@@ -1,0 +1,45 @@
+use mathlib.Core.Path.{_≡_, refl, sym, ap, _∙_}
+use native.Mathlib.Omega.{arith}
+use Rattle.answers.specs.Answer.{refusedBytes, refusedLine}
+use Rattle.answers.proofs.Digits.{length-line, length-refused}
+use Rattle.answers.proofs.Lines.{no-line, line-done}
+use borrow.Author.Needs.{needs}
+use Rattle.answers.proofs.write_refused.Statement.{statement}
+use Rattle.answers.proofs.write_refused.Tie as tie
+use Rattle.answers.proofs.write_refused.Reads as reads
+use Rattle.answers.proofs.write_refused.Lts as lts
+use Rattle.answers.proofs.no_room.Reads as no-room-reads
+use Rattle.answers.proofs.put_refused.Reads as put-refused-reads
+
+-- src/lib.rt:285:9
+no-room-requires : tie.Need-no-room-requires
+no-room-requires c κs = search needs
+
+-- src/lib.rt:285:9
+returns : tie.Need-returns
+returns c =
+    let s = c .before .before .before in
+    let l = length-refused (s .args .e) in
+    let n = length-line (refusedBytes (s .args .e)) in
+    no-line (refusedLine (s .args .e)) (s .args .out .now) (omega (arith, l, n)) (c .no-room .ensures)
+
+-- src/lib.rt:287:19
+put-refused-requires : tie.Need-put-refused-requires
+put-refused-requires c κs = search needs
+
+-- src/lib.rt:280:1
+same-length : tie.Need-same-length
+same-length c = search needs
+
+-- src/lib.rt:280:1
+returns-2 : tie.Need-returns-2
+returns-2 c =
+    let b2 = c .before .before in
+    let s = b2 .before .before .before .before in
+    let l = length-refused (s .args .e) in
+    let n = length-line (refusedBytes (s .args .e)) in
+    line-done (refusedLine (s .args .e)) (s .args .out .now) (omega (arith, l, n)) (b2 .put-refused .ensures)
+
+pub write-refused-spec : {M : Type 1} → statement M
+write-refused-spec =
+    tie.close (tie.spec no-room-requires returns put-refused-requires same-length returns-2)
