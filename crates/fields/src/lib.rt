@@ -187,8 +187,9 @@ fn behind_digits(s: &[u8], idx: Cursor, c: Cursor, sign: Sign, n: u32) -> ReadYe
 fn behind_sign(s: &[u8], idx: Cursor, c: Cursor, sign: Sign) -> ReadYear
     ensures { λ r. ⌜ r ≡ spec.behindSign (now (s .entry)) (idx .0) (c .0) sign ⌝ }
 {
-    let start = scanner::eat_whitespace(s, c);
-    let next = scanner::eat_while(s, start, Class::AsciiDigit);
+    let run = scanner::next_run(s, c, Class::AsciiDigit);
+    let start = run.start;
+    let next = run.end;
     let digits = scanner::from(s, start, next);
     if digits.len() == 0 {
         return ReadYear::NoYear(refused(Kind::InvalidFormat, idx, next));

@@ -81,9 +81,9 @@ fn parse_digits(num: &[u8], next: Cursor) -> Parsed
 pub fn parse_unsigned_int(s: &[u8], c: Cursor, digits: Digits) -> Parsed
     ensures { λ r. ⌜ r ≡ spec.parseUnsignedInt (now (s .entry)) (c .0) digits ⌝ }
 {
-    let start = scanner::eat_whitespace(s, c);
-    let next = scanner::eat_while(s, start, Class::Numeric);
-    let num = scanner::from(s, start, next);
+    let run = scanner::next_run(s, c, Class::Numeric);
+    let next = run.end;
+    let num = scanner::from(s, run.start, next);
     if contains(digits, num.len()) {
         return parse_digits(num, next);
     }

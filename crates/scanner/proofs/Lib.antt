@@ -4,3 +4,4 @@ pub mod Prefix
 pub mod Quicks
 pub mod Parts
 pub mod Front
+pub mod Runs

@@ -9,10 +9,12 @@ use Rattle.chars.specs.Utf8.{decodeAt}
 use Rattle.chars.specs.declared.Decoded.{Decoded}
 use Rattle.chars.specs.declared.Decoded.the-variants.{Char, Bad, End}
 use Rattle.scanner.specs.declared.Class.{Class}
+use Rattle.scanner.specs.declared.Class.the-variants.{Whitespace}
 use Rattle.scanner.specs.declared.Next.{Next}
 use Rattle.scanner.specs.declared.Next.the-variants.{Ate, Nothing}
 use Rattle.scanner.specs.declared.EatIf.{EatIf}
 use Rattle.scanner.specs.declared.EatIf.the-variants.{Past, Kept}
+use Rattle.scanner.specs.declared.Run.{Run}
 use Rattle.scanner.specs.Class.{inClass}
 
 -- the length of a character of the class; of anything else 0
@@ -69,3 +71,11 @@ doneAt s at = leb (length s) at
 -- the part of a text from a place to another, as far as the text goes; nothing where the second is before the first
 unfoldable pub part : List ℕ → ℕ → ℕ → List ℕ
 part s a e = take (e - a) (drop a s)
+
+-- the run of characters of the class that starts at a place, by where it starts and ends
+unfoldable pub runAt : Class → List ℕ → ℕ → Run
+runAt k s at = record { start = record { 0 = at }; end = record { 0 = eatWhile k s at } }
+
+-- such a run behind white space
+unfoldable pub nextRun : Class → List ℕ → ℕ → Run
+nextRun k s at = runAt k s (eatWhile Whitespace s at)

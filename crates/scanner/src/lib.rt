@@ -1,5 +1,5 @@
 // The scanner: a cursor by value over a lent text, and what the readers eat at it.
-// The names are those of the scanner that the ported code uses; a text is passed beside its cursor.
+// The names are those of the scanner that the ported code uses; a text is passed beside its cursor. `Scanner` holds both.
 ghost use mathlib.Core.Path.{_≡_};
 ghost use Rattle.scanner.specs.Class.{inClass};
 ghost use Rattle.scanner.specs.Scan as spec;
@@ -271,4 +271,61 @@ pub fn from(s: &[u8], start: Cursor, c: Cursor) -> &[u8]
         return &s[a..];
     }
     &s[a..e]
+}
+
+// A run of characters: the place where it starts and the place behind it.
+pub struct Run {
+    pub start: Cursor,
+    pub end: Cursor,
+}
+
+// The run of characters of the class at the cursor, which may be empty.
+fn run_at(s: &[u8], c: Cursor, class: Class) -> Run
+    ensures { λ r. ⌜ r ≡ spec.runAt class (now (s .entry)) (c .0) ⌝ }
+{
+    Run {
+        start: c,
+        end: eat_while(s, c, class),
+    }
+}
+
+// A text that is lent, and a place in it. Few functions are over it: each takes it apart and leaves the work to a function on the
+// text and the place. Readers call `next_run`, which takes those two.
+pub struct Scanner<'a> {
+    pub text: &'a [u8],
+    pub at: Cursor,
+}
+
+impl<'a> Scanner<'a> {
+    // A scanner of a text at a place.
+    pub fn new(text: &'a [u8], at: Cursor) -> Scanner<'a>
+        ensures { λ r. ⌜ (r .text ≡ text .entry) × (r .at ≡ at) ⌝ }
+    {
+        Scanner { text, at }
+    }
+
+    // Past the white space at its place.
+    pub fn eat_whitespace(self) -> Scanner<'a>
+        ensures { λ r. ⌜ (r .text ≡ self .entry .text) × (r .at .0 ≡ spec.eatWhile Whitespace (now (self .entry .text)) (self .entry .at .0)) ⌝ }
+    {
+        let at = eat_whitespace(self.text, self.at);
+        Scanner {
+            text: self.text,
+            at,
+        }
+    }
+
+    // The run of characters of the class at its place.
+    pub fn run(self, class: Class) -> Run
+        ensures { λ r. ⌜ r ≡ spec.runAt class (now (self .entry .text)) (self .entry .at .0) ⌝ }
+    {
+        run_at(self.text, self.at, class)
+    }
+}
+
+// White space at the cursor, then the run of characters of the class.
+pub fn next_run(s: &[u8], c: Cursor, class: Class) -> Run
+    ensures { λ r. ⌜ r ≡ spec.nextRun class (now (s .entry)) (c .0) ⌝ }
+{
+    Scanner::new(s, c).eat_whitespace().run(class)
 }

@@ -227,8 +227,9 @@ fn behind_year(s: &[u8], c: Cursor, year: u32) -> ReadRange
 pub fn range_dates(s: &[u8]) -> ReadRange
     ensures { λ r. ⌜ r ≡ spec.rangeDates (now (s .entry)) ⌝ }
 {
-    let start = scanner::eat_whitespace(s, Cursor(0));
-    let c = scanner::eat_while(s, start, Class::AsciiDigit);
+    let run = scanner::next_run(s, Cursor(0), Class::AsciiDigit);
+    let start = run.start;
+    let c = run.end;
     let sure_digits = len(start, c);
     // 10_i32.pow(4 - sure_digits)
     if 4 < sure_digits {

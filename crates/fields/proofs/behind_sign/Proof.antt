@@ -1,3 +1,4 @@
+use Rattle.scanner.proofs.Runs.{run-start, run-end}
 use Rattle.strs.proofs.Digits.{value-in}
 use native.Mathlib.Omega.{arith}
 use mathlib.Core.Path.{sym, _∙_}
@@ -8,11 +9,8 @@ use borrow.Author.Needs.{needs}
 use Rattle.fields.proofs.behind_sign.Statement.{statement}
 use Rattle.fields.proofs.behind_sign.Tie as tie
 
-eat-whitespace-requires : tie.Need-eat-whitespace-requires
-eat-whitespace-requires c κs = search needs
-
-eat-while-requires : tie.Need-eat-while-requires
-eat-while-requires c κs = search needs
+next-run-requires : tie.Need-next-run-requires
+next-run-requires c κs = search needs
 
 from-requires : tie.Need-from-requires
 from-requires c κs = search needs
@@ -27,7 +25,8 @@ returns c =
     let b2 = b1 .before in
     let b3 = b2 .before in
     let b4 = b3 .before in
-    simp (← b4 .eat-whitespace .ensures, ← b3 .eat-while .ensures, ← b2 .from .ensures, eq-eqb _ _ (b1 .if1 .taken), ← c .refused .ensures)
+    let e = b4 .before .next-run .ensures in
+    simp (← run-start _ _ _ _ e, ← run-end _ _ _ _ e, ← b2 .from .ensures, eq-eqb _ _ (b1 .if1 .taken), ← c .refused .ensures)
 
 refused-requires-2 : tie.Need-refused-requires-2
 refused-requires-2 c κs = search needs
@@ -40,7 +39,8 @@ returns-2 c =
     let b3 = b2 .before in
     let b4 = b3 .before in
     let b5 = b4 .before in
-    simp (← b5 .eat-whitespace .ensures, ← b4 .eat-while .ensures, ← b3 .from .ensures, ne-eqb _ _ (b2 .if1 .left), lt-ltb _ _ (b1 .if2 .taken), ← c .refused2 .ensures)
+    let e = b5 .before .next-run .ensures in
+    simp (← run-start _ _ _ _ e, ← run-end _ _ _ _ e, ← b3 .from .ensures, ne-eqb _ _ (b2 .if1 .left), lt-ltb _ _ (b1 .if2 .taken), ← c .refused2 .ensures)
 
 panics-requires : tie.Need-panics-requires
 panics-requires c κs = search needs
@@ -54,7 +54,8 @@ returns-3 c =
     let b6 = b5 .before in
     let b7 = b6 .before in
     let b8 = b7 .before in
-    simp (← b8 .eat-whitespace .ensures, ← b7 .eat-while .ensures, ← b6 .from .ensures, ne-eqb _ _ (b5 .if1 .left), le-ltb _ _ (b4 .if2 .left), ne-eqb _ _ (b1 .if3 .taken), ← c .panics .ensures)
+    let e = b8 .before .next-run .ensures in
+    simp (← run-start _ _ _ _ e, ← run-end _ _ _ _ e, ← b6 .from .ensures, ne-eqb _ _ (b5 .if1 .left), le-ltb _ _ (b4 .if2 .left), ne-eqb _ _ (b1 .if3 .taken), ← c .panics .ensures)
 
 parse-requires : tie.Need-parse-requires
 parse-requires c κs = search needs
@@ -82,7 +83,8 @@ returns-4 c =
     let b10 = b9 .before in
     let b11 = b10 .before in
     let b12 = b11 .before in
-    simp (← b12 .eat-whitespace .ensures, ← b11 .eat-while .ensures, ← b10 .from .ensures, ne-eqb _ _ (b9 .if1 .left), le-ltb _ _ (b8 .if2 .left), eq-eqb _ _ (b5 .if3 .left), ← b4 .parse .ensures, b2 .n .given .1, ← c .behind-digits .ensures)
+    let e = b12 .before .next-run .ensures in
+    simp (← run-start _ _ _ _ e, ← run-end _ _ _ _ e, ← b10 .from .ensures, ne-eqb _ _ (b9 .if1 .left), le-ltb _ _ (b8 .if2 .left), eq-eqb _ _ (b5 .if3 .left), ← b4 .parse .ensures, b2 .n .given .1, ← c .behind-digits .ensures)
 
 returns-5 : tie.Need-returns-5
 unfolding behindSign yearFrom yearDigits onNumber pick
@@ -95,14 +97,14 @@ returns-5 c =
     let b9 = b8 .before in
     let b10 = b9 .before in
     let b11 = b10 .before in
-    simp (← b11 .eat-whitespace .ensures, ← b10 .eat-while .ensures, ← b9 .from .ensures, ne-eqb _ _ (b8 .if1 .left), le-ltb _ _ (b7 .if2 .left), eq-eqb _ _ (b4 .if3 .left), ← b3 .parse .ensures, b1 .enum-told .given .1, ← c .panics2 .ensures)
+    let e = b11 .before .next-run .ensures in
+    simp (← run-start _ _ _ _ e, ← run-end _ _ _ _ e, ← b9 .from .ensures, ne-eqb _ _ (b8 .if1 .left), le-ltb _ _ (b7 .if2 .left), eq-eqb _ _ (b4 .if3 .left), ← b3 .parse .ensures, b1 .enum-told .given .1, ← c .panics2 .ensures)
 
 pub behind-sign-spec : {M : Type 1} → statement M
 behind-sign-spec =
     tie.close
     (tie.spec
-    eat-whitespace-requires
-    eat-while-requires
+    next-run-requires
     from-requires
     refused-requires
     returns

@@ -1,3 +1,4 @@
+use Rattle.scanner.proofs.Runs.{run-start, run-end}
 use Rattle.numbers.proofs.Laws.{admitted-most, at-most-four}
 use native.Mathlib.Omega.{arith}
 use mathlib.Core.Path.{sym, _∙_}
@@ -7,11 +8,8 @@ use borrow.Author.Needs.{needs}
 use Rattle.numbers.proofs.parse_unsigned_int.Statement.{statement}
 use Rattle.numbers.proofs.parse_unsigned_int.Tie as tie
 
-eat-whitespace-requires : tie.Need-eat-whitespace-requires
-eat-whitespace-requires c κs = search needs
-
-eat-while-requires : tie.Need-eat-while-requires
-eat-while-requires c κs = search needs
+next-run-requires : tie.Need-next-run-requires
+next-run-requires c κs = search needs
 
 from-requires : tie.Need-from-requires
 from-requires c κs = search needs
@@ -30,9 +28,8 @@ returns c =
     let b1 = c .before in
     let b2 = b1 .before in
     let b3 = b2 .before in
-    let b4 = b3 .before in
-    let b5 = b4 .before in
-    simp (← b5 .eat-whitespace .ensures, ← b4 .eat-while .ensures, ← b3 .from .ensures, ← b2 .contains .ensures, b1 .if1 .taken) (c .parse-digits .ensures)
+    let e = b3 .before .before .next-run .ensures in
+    simp (← run-start _ _ _ _ e, ← run-end _ _ _ _ e, ← b3 .from .ensures, ← b2 .contains .ensures, b1 .if1 .taken) (c .parse-digits .ensures)
 
 returns-2 : tie.Need-returns-2
 unfolding parseUnsignedInt runAt runOf pick
@@ -40,15 +37,14 @@ returns-2 c =
     let b1 = c .before in
     let b2 = b1 .before in
     let b3 = b2 .before in
-    let b4 = b3 .before in
-    simp (← b4 .eat-whitespace .ensures, ← b3 .eat-while .ensures, ← b2 .from .ensures, ← b1 .contains .ensures, c .if1 .left)
+    let e = b3 .before .next-run .ensures in
+    simp (← run-start _ _ _ _ e, ← run-end _ _ _ _ e, ← b2 .from .ensures, ← b1 .contains .ensures, c .if1 .left)
 
 pub parse-unsigned-int-spec : {M : Type 1} → statement M
 parse-unsigned-int-spec =
     tie.close
     (tie.spec
-    eat-whitespace-requires
-    eat-while-requires
+    next-run-requires
     from-requires
     contains-requires
     parse-digits-requires

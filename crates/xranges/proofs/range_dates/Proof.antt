@@ -1,3 +1,4 @@
+use Rattle.scanner.proofs.Runs.{run-start, run-end}
 use Rattle.xranges.proofs.Bounds.{tens}
 use Rattle.strs.proofs.Digits.{value-in}
 use native.Mathlib.Omega.{arith}
@@ -9,11 +10,8 @@ use borrow.Author.Needs.{needs}
 use Rattle.xranges.proofs.range_dates.Statement.{statement}
 use Rattle.xranges.proofs.range_dates.Tie as tie
 
-eat-whitespace-requires : tie.Need-eat-whitespace-requires
-eat-whitespace-requires c κs = search needs
-
-eat-while-requires : tie.Need-eat-while-requires
-eat-while-requires c κs = search needs
+next-run-requires : tie.Need-next-run-requires
+next-run-requires c κs = search needs
 
 len-requires : tie.Need-len-requires
 len-requires c κs = search needs
@@ -28,7 +26,8 @@ returns c =
     let b2 = b1 .before in
     let b3 = b2 .before in
     let b4 = b3 .before in
-    simp (← b4 .eat-whitespace .ensures, ← b3 .eat-while .ensures, ← b2 .len .ensures, lt-ltb _ _ (b1 .if1 .taken), ← c .panics .ensures)
+    let e = b4 .before .next-run .ensures in
+    simp (← run-start _ _ _ _ e, ← run-end _ _ _ _ e, ← b2 .len .ensures, lt-ltb _ _ (b1 .if1 .taken), ← c .panics .ensures)
 
 refused-requires : tie.Need-refused-requires
 refused-requires c κs = search needs
@@ -41,10 +40,11 @@ returns-2 c =
     let b3 = b2 .before in
     let b4 = b3 .before in
     let b5 = b4 .before in
-    simp (← b5 .eat-whitespace .ensures, ← b4 .eat-while .ensures, ← b3 .len .ensures, le-ltb _ _ (b2 .if1 .left), lt-ltb _ _ (b1 .if2 .taken), ← c .refused .ensures)
+    let e = b5 .before .next-run .ensures in
+    simp (← run-start _ _ _ _ e, ← run-end _ _ _ _ e, ← b3 .len .ensures, le-ltb _ _ (b2 .if1 .left), lt-ltb _ _ (b1 .if2 .taken), ← c .refused .ensures)
 
-eat-while-requires-2 : tie.Need-eat-while-requires-2
-eat-while-requires-2 c κs = search needs
+eat-while-requires : tie.Need-eat-while-requires
+eat-while-requires c κs = search needs
 
 len-requires-2 : tie.Need-len-requires-2
 len-requires-2 c κs = search needs
@@ -63,7 +63,8 @@ returns-3 c =
     let b6 = b5 .before in
     let b7 = b6 .before in
     let b8 = b7 .before in
-    simp (← b8 .eat-whitespace .ensures, ← b7 .eat-while .ensures, ← b6 .len .ensures, le-ltb _ _ (b5 .if1 .left), le-ltb _ _ (b4 .if2 .left), ← b3 .eat-while2 .ensures, ← b2 .len2 .ensures, ne-eqb _ _ (b1 .if3 .taken), ← c .refused2 .ensures)
+    let e = b8 .before .next-run .ensures in
+    simp (← run-start _ _ _ _ e, ← run-end _ _ _ _ e, ← b6 .len .ensures, le-ltb _ _ (b5 .if1 .left), le-ltb _ _ (b4 .if2 .left), ← b3 .eat-while .ensures, ← b2 .len2 .ensures, ne-eqb _ _ (b1 .if3 .taken), ← c .refused2 .ensures)
 
 from-requires : tie.Need-from-requires
 from-requires c κs = search needs
@@ -92,7 +93,8 @@ returns-4 c =
     let b12 = b11 .before in
     let b13 = b12 .before in
     let b14 = b13 .before in
-    simp (← b14 .eat-whitespace .ensures, ← b13 .eat-while .ensures, ← b12 .len .ensures, le-ltb _ _ (b11 .if1 .left), le-ltb _ _ (b10 .if2 .left), ← b9 .eat-while2 .ensures, ← b8 .len2 .ensures, eq-eqb _ _ (b7 .if3 .left), ← b6 .from .ensures, ← b5 .parse .ensures, b3 .year-part .given .1, eq-eqb _ _ (b1 .if4 .taken), ← c .behind-year .ensures)
+    let e = b14 .before .next-run .ensures in
+    simp (← run-start _ _ _ _ e, ← run-end _ _ _ _ e, ← b12 .len .ensures, le-ltb _ _ (b11 .if1 .left), le-ltb _ _ (b10 .if2 .left), ← b9 .eat-while .ensures, ← b8 .len2 .ensures, eq-eqb _ _ (b7 .if3 .left), ← b6 .from .ensures, ← b5 .parse .ensures, b3 .year-part .given .1, eq-eqb _ _ (b1 .if4 .taken), ← c .behind-year .ensures)
 
 variable-requires : tie.Need-variable-requires
 variable-requires c κs = search needs
@@ -122,7 +124,8 @@ returns-5 c =
     let b13 = b12 .before in
     let b14 = b13 .before in
     let b15 = b14 .before in
-    simp (← b15 .eat-whitespace .ensures, ← b14 .eat-while .ensures, ← b13 .len .ensures, le-ltb _ _ (b12 .if1 .left), le-ltb _ _ (b11 .if2 .left), ← b10 .eat-while2 .ensures, ← b9 .len2 .ensures, eq-eqb _ _ (b8 .if3 .left), ← b7 .from .ensures, ← b6 .parse .ensures, b4 .year-part .given .1, ne-eqb _ _ (b2 .if4 .left), ← b1 .variable .ensures, ← c .years .ensures)
+    let e = b15 .before .next-run .ensures in
+    simp (← run-start _ _ _ _ e, ← run-end _ _ _ _ e, ← b13 .len .ensures, le-ltb _ _ (b12 .if1 .left), le-ltb _ _ (b11 .if2 .left), ← b10 .eat-while .ensures, ← b9 .len2 .ensures, eq-eqb _ _ (b8 .if3 .left), ← b7 .from .ensures, ← b6 .parse .ensures, b4 .year-part .given .1, ne-eqb _ _ (b2 .if4 .left), ← b1 .variable .ensures, ← c .years .ensures)
 
 returns-6 : tie.Need-returns-6
 unfolding rangeDates rangeFrom digitRun yearRun onValue pick
@@ -138,20 +141,20 @@ returns-6 c =
     let b10 = b9 .before in
     let b11 = b10 .before in
     let b12 = b11 .before in
-    simp (← b12 .eat-whitespace .ensures, ← b11 .eat-while .ensures, ← b10 .len .ensures, le-ltb _ _ (b9 .if1 .left), le-ltb _ _ (b8 .if2 .left), ← b7 .eat-while2 .ensures, ← b6 .len2 .ensures, eq-eqb _ _ (b5 .if3 .left), ← b4 .from .ensures, ← b3 .parse .ensures, b1 .enum-told .given .1, ← c .panics2 .ensures)
+    let e = b12 .before .next-run .ensures in
+    simp (← run-start _ _ _ _ e, ← run-end _ _ _ _ e, ← b10 .len .ensures, le-ltb _ _ (b9 .if1 .left), le-ltb _ _ (b8 .if2 .left), ← b7 .eat-while .ensures, ← b6 .len2 .ensures, eq-eqb _ _ (b5 .if3 .left), ← b4 .from .ensures, ← b3 .parse .ensures, b1 .enum-told .given .1, ← c .panics2 .ensures)
 
 pub range-dates-spec : {M : Type 1} → statement M
 range-dates-spec =
     tie.close
     (tie.spec
-    eat-whitespace-requires
-    eat-while-requires
+    next-run-requires
     len-requires
     panics-requires
     returns
     refused-requires
     returns-2
-    eat-while-requires-2
+    eat-while-requires
     len-requires-2
     refused-requires-2
     returns-3
