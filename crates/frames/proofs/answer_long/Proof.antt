@@ -1,0 +1,39 @@
+use mathlib.Core.Path.{_≡_, ap, _∙_}
+use mathlib.Core.Bool.{false}
+use lib.ListN.{length}
+use Rattle.datefield.specs.declared.ReadDate.{ReadDate}
+use Rattle.writer.specs.Answers.{answer, afterwards}
+use Rattle.answers.specs.Answer.{answerLine}
+use borrow.Author.Needs.{needs}
+use Rattle.frames.proofs.answer_long.Statement.{statement}
+use Rattle.frames.proofs.answer_long.Tie as tie
+use Rattle.frames.proofs.answer_long.Reads as reads
+use Rattle.frames.proofs.answer_long.Lts as lts
+use Rattle.answers.proofs.write_answer.Reads as write-answer-reads
+use Rattle.frames.proofs.bad_frame.Reads as bad-frame-reads
+
+-- src/lib.rt:381:27
+bad-frame-requires : tie.Need-bad-frame-requires
+bad-frame-requires c κs = search needs
+
+-- src/lib.rt:381:5
+write-answer-requires : tie.Need-write-answer-requires
+write-answer-requires c κs = search needs
+
+-- src/lib.rt:377:1
+same-length : tie.Need-same-length
+same-length c = search needs
+
+-- src/lib.rt:377:1
+returns : tie.Need-returns
+returns c =
+    let b2 = c .before .before in
+    let b4 = b2 .before .before in
+    let s = b4 .before .before in
+    let e = b4 .bad-frame .ensures in
+    let q = b2 .write-answer .ensures in
+    (q .0 ∙ ap (λ (x : ReadDate). answer false (answerLine x) (length (s .args .out .now))) e, q .1 ∙ ap (λ (x : ReadDate). afterwards false (answerLine x) (s .args .out .now)) e)
+
+pub answer-long-spec : {M : Type 1} → statement M
+answer-long-spec =
+    tie.close (tie.spec bad-frame-requires write-answer-requires same-length returns)
