@@ -43,16 +43,31 @@ fn flush(out: &[u8], put: usize) -> bool {
     false
 }
 
-// The answer to a line, at the front of a part of the output block; how many bytes, or 0 if there is no room.
-fn reply(line: &[u8], long: bool, out: &mut [u8]) -> usize {
-    let w = if long {
-        frames::answer_long(out)
-    } else {
-        frames::answer(line, out)
-    };
+// How many bytes were written; none if there was no room.
+fn bytes_of(w: Written) -> usize {
     match w {
         Written::Done(n) => n,
         Written::Refused(_) => 0,
+    }
+}
+
+// The answer to a line, at the front of a part of the output block: how many bytes, or 0 if there is no room.
+fn reply(line: &[u8], long: bool, out: &mut [u8]) -> usize {
+    if long {
+        return bytes_of(frames::answer_long(out));
+    }
+    bytes_of(frames::answer(line, out))
+}
+
+// Writes what was put, and puts the answer to a line at the front.
+fn put_first(line: &[u8], long: bool, out: &mut [u8], put: usize) -> Put {
+    if flush(out, put) {
+        let k = reply(line, long, out);
+        return Put { put: k, good: true };
+    }
+    Put {
+        put: 0,
+        good: false,
     }
 }
 
@@ -66,15 +81,9 @@ fn put_answer(line: &[u8], long: bool, out: &mut [u8], put: usize) -> Put {
                 good: true,
             };
         }
+        return put_first(line, long, out, put);
     }
-    if flush(out, put) {
-        let k = reply(line, long, out);
-        return Put { put: k, good: true };
-    }
-    Put {
-        put: 0,
-        good: false,
-    }
+    put_first(line, long, out, put)
 }
 
 // The place of the next line feed, or the length.

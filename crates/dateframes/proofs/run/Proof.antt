@@ -1,0 +1,66 @@
+use mathlib.Core.Path.{_≡_}
+use native.Mathlib.Omega.{arith}
+use lib.ListN.{length}
+use borrow.Author.Needs.{needs}
+use Rattle.dateframes.proofs.run.Statement.{statement}
+use Rattle.dateframes.proofs.run.Tie as tie
+use Rattle.dateframes.proofs.run.Reads as reads
+use Rattle.dateframes.proofs.run.Lts as lts
+use Rattle.dateframes.proofs.turn.Reads as turn-reads
+
+abbrev Inv-loop : tie.InvT-loop
+Inv-loop buf₀ out₀ turns₀ st₀ buf out turns st = (length buf ≡ length buf₀) × (length out ≡ length out₀)
+
+abbrev μ-loop : tie.MeasureT-loop
+μ-loop buf₀ out₀ turns₀ st₀ buf out turns st = turns
+
+loop-holds : tie.Need-loop-holds Inv-loop μ-loop
+loop-holds c = omega arith
+
+turn-requires : tie.Need-turn-requires Inv-loop μ-loop
+turn-requires c κs = search needs
+
+sub-turns : tie.Need-sub-turns Inv-loop μ-loop
+sub-turns c = omega arith
+
+loop-less : tie.Need-loop-less Inv-loop μ-loop
+loop-less c = omega arith
+
+loop-again : tie.Need-loop-again Inv-loop μ-loop
+loop-again c = omega arith
+
+same-length : tie.Need-same-length Inv-loop μ-loop
+same-length c = omega arith
+
+same-length-2 : tie.Need-same-length-2 Inv-loop μ-loop
+same-length-2 c = omega arith
+
+returns : tie.Need-returns Inv-loop μ-loop
+returns c = tt
+
+same-length-3 : tie.Need-same-length-3 Inv-loop μ-loop
+same-length-3 c = omega arith
+
+same-length-4 : tie.Need-same-length-4 Inv-loop μ-loop
+same-length-4 c = omega arith
+
+returns-2 : tie.Need-returns-2 Inv-loop μ-loop
+returns-2 c = tt
+
+pub run-spec : {M : Type 1} → statement M
+run-spec =
+    tie.close
+    (tie.spec
+    Inv-loop
+    μ-loop
+    loop-holds
+    turn-requires
+    sub-turns
+    loop-less
+    loop-again
+    same-length
+    same-length-2
+    returns
+    same-length-3
+    same-length-4
+    returns-2)
