@@ -88,7 +88,7 @@ fn window(year: i32) -> i32
 }
 
 // A year of two bytes.
-pub fn parse_short_year(s: &[u8], c: Cursor) -> ReadInt
+fn parse_short_year(s: &[u8], c: Cursor) -> ReadInt
     ensures { λ r. ⌜ r ≡ spec.shortYear (now (s .entry)) (c .0) ⌝ }
 {
     match numbers::parse_int(s, c, Digits::Two) {
@@ -102,7 +102,7 @@ pub fn parse_short_year(s: &[u8], c: Cursor) -> ReadInt
 }
 
 // A year of four bytes.
-pub fn parse_year(s: &[u8], c: Cursor) -> ReadYear
+fn parse_year(s: &[u8], c: Cursor) -> ReadYear
     ensures { λ r. ⌜ r ≡ spec.longYear (now (s .entry)) (c .0) ⌝ }
 {
     match numbers::parse_int(s, c, Digits::Four) {
@@ -146,35 +146,35 @@ fn parse_part(s: &[u8], c: Cursor, low: u8, high: u8, kind: Kind) -> ReadPart
 }
 
 // The month in the 0-11 range.
-pub fn parse_month(s: &[u8], c: Cursor) -> ReadPart
+fn parse_month(s: &[u8], c: Cursor) -> ReadPart
     ensures { λ r. ⌜ r ≡ step.monthAt (now (s .entry)) (c .0) ⌝ }
 {
     parse_part(s, c, 1, 12, Kind::MonthOutOfRange)
 }
 
 // The day in the 0-30 range.
-pub fn parse_day(s: &[u8], c: Cursor) -> ReadPart
+fn parse_day(s: &[u8], c: Cursor) -> ReadPart
     ensures { λ r. ⌜ r ≡ step.dayAt (now (s .entry)) (c .0) ⌝ }
 {
     parse_part(s, c, 1, 31, Kind::DayOutOfRange)
 }
 
 // The hour in the 0-23 range.
-pub fn parse_hour(s: &[u8], c: Cursor) -> ReadPart
+fn parse_hour(s: &[u8], c: Cursor) -> ReadPart
     ensures { λ r. ⌜ r ≡ step.hourAt (now (s .entry)) (c .0) ⌝ }
 {
     parse_part(s, c, 0, 23, Kind::InvalidNumber)
 }
 
 // Minutes or seconds in the 0-59 range.
-pub fn parse_minutes_or_seconds(s: &[u8], c: Cursor) -> ReadPart
+fn parse_minutes_or_seconds(s: &[u8], c: Cursor) -> ReadPart
     ensures { λ r. ⌜ r ≡ step.sixtyAt (now (s .entry)) (c .0) ⌝ }
 {
     parse_part(s, c, 0, 59, Kind::InvalidNumber)
 }
 
 // White space, then hyphens.
-pub fn parse_hyphen(s: &[u8], c: Cursor) -> ReadSeparator
+fn parse_hyphen(s: &[u8], c: Cursor) -> ReadSeparator
     ensures { λ r. ⌜ r ≡ step.hyphenAt (now (s .entry)) (c .0) ⌝ }
 {
     let a = scanner::eat_whitespace(s, c);
@@ -185,7 +185,7 @@ pub fn parse_hyphen(s: &[u8], c: Cursor) -> ReadSeparator
 }
 
 // White space, then a colon.
-pub fn parse_colon(s: &[u8], c: Cursor) -> ReadSeparator
+fn parse_colon(s: &[u8], c: Cursor) -> ReadSeparator
     ensures { λ r. ⌜ r ≡ step.colonAt (now (s .entry)) (c .0) ⌝ }
 {
     let a = scanner::eat_whitespace(s, c);
@@ -229,7 +229,7 @@ fn parse_shift(s: &[u8], c: Cursor, positive: bool) -> ReadOffset
 }
 
 // White space, then Z, or a sign and what is behind it. What stands behind the Z is not read.
-pub fn parse_offset(s: &[u8], c: Cursor) -> ReadOffset
+fn parse_offset(s: &[u8], c: Cursor) -> ReadOffset
     ensures { λ r. ⌜ r ≡ time.offsetAt (now (s .entry)) (c .0) ⌝ }
 {
     let a = scanner::eat_whitespace(s, c);
