@@ -21,10 +21,11 @@ use Rattle.frames.specs.Lists.{byteAt, listEnd, listTable, listText, isF
 unfoldable pub asked : ℕ → Operation
 asked n = pick (eqb n 1) Ported (pick (eqb n 2) Strict (pick (eqb n 3) ThreeFields Unknown))
 
--- the places of the month and day lists: each a flag and perhaps a list
+-- the place of the month list: a flag, and perhaps a list
 abbrev pub monthAt : List ℕ → ℕ
 monthAt f = listEnd f 1
 
+-- the place of the day list likewise
 abbrev pub dayAt : List ℕ → ℕ
 dayAt f = optionalEnd f (monthAt f)
 

@@ -1,63 +1,17 @@
--- The table of digits, and lines of them from a place on. Assumes nothing.
+-- Digits, and lines of them from a place on. Assumes nothing.
 use mathlib.Core.Path.{_≡_, refl, sym, ap, _∙_}
-use mathlib.Core.Bool.{Bool, true, false, _&&_, false≢true}
+use mathlib.Core.Bool.{Bool, true, false, _&&_, _||_, false≢true}
 use mathlib.Core.List.{List, [], _∷_, _++_}
 use Prim.Native.Nat.{ℕ, zero, suc, _+_, _-_, _*_, _/_, _%_, _≤_, _<_}
-use native.Mathlib.Nat.{add-zero}
 use native.Mathlib.Omega.{arith}
-use borrow.Author.Tests.{lt-ltb, le-ltb, lt-leb, le-leb, ltb-true, ne-eqb, eq-eqb}
-use lib.Dec.{ltb, leb, eqb}
+use borrow.Author.Tests.{lt-leb, le-leb, leb-true, ne-eqb, eq-eqb}
+use lib.Dec.{leb, eqb}
 use lib.ListN.{length, getD, drop, set, length-drop, drop-of-length-le}
 use lib.Seq.{sets, drop-cons, sets-eq}
 use Rattle.chars.specs.Pick.{pick}
+use Rattle.chars.proofs.Cases.{of-test}
 use Rattle.hexes.specs.declared.Hex.the-variants.{Bytes, Bad}
-use Rattle.hexes.specs.Hex.{digitOf, valuesFrom, table, allDigits, bytesOf, half, isHex, decoded, decodedInto}
-
-values-at : (n b i : ℕ) → i < n → getD (valuesFrom n b) i 0 ≡ digitOf (b + i)
-unfolding valuesFrom
-values-at zero b i h = absurd (omega arith)
-values-at (suc n) b zero h = ap digitOf (sym (add-zero b))
-values-at (suc n) b (suc i) h = values-at n (suc b) i (omega arith) ∙ ap digitOf (omega arith)
-
-length-values : (n b : ℕ) → length (valuesFrom n b) ≡ n
-unfolding valuesFrom
-length-values zero b = refl
-length-values (suc n) b = ap suc (length-values n (suc b))
-
-pub table-length : length table ≡ 55
-unfolding table
-table-length = length-values 55 0x30
-
--- the table's entry of a byte
-pub in-table : (b : ℕ) → 0x30 ≤ b → b ≤ 0x66 → getD table (b - 0x30) 0 ≡ digitOf b
-unfolding table
-in-table b l h = values-at 55 0x30 (b - 0x30) (omega arith) ∙ ap digitOf (omega arith)
-
--- other bytes are no digits
-pub below-table : (b : ℕ) → b < 0x30 → digitOf b ≡ 255
-unfolding digitOf pick
-below-table b h = rw (lt-leb 0x30 b h, lt-leb 0x61 b (omega arith), lt-leb 0x41 b (omega arith))
-
-pub above-table : (b : ℕ) → 0x66 < b → digitOf b ≡ 255
-unfolding digitOf pick
-above-table b h =
-    rw (le-leb 0x30 b (omega arith), lt-leb b 0x39 (omega arith), le-leb 0x61 b (omega arith), lt-leb b 0x66 h, le-leb 0x41 b (omega arith), lt-leb b 0x46 (omega arith))
-
--- from a place on
-module _ (line : List ℕ) (i : ℕ) (h : i < length line) where
-  pub next-is : allDigits (drop i line) ≡ ltb (digitOf (getD line i 0)) 16 && allDigits (drop (suc i) line)
-  unfolding allDigits
-  next-is = rw (drop-cons line i 0 h)
-
-  pub next-good : digitOf (getD line i 0) < 16 → allDigits (drop i line) ≡ allDigits (drop (suc i) line)
-  next-good g = next-is ∙ rw (lt-ltb (digitOf (getD line i 0)) 16 g)
-
-  pub next-bad : 16 ≤ digitOf (getD line i 0) → allDigits (drop i line) ≡ false
-  next-bad g = next-is ∙ rw (le-ltb (digitOf (getD line i 0)) 16 g)
-
-pub none-left : (line : List ℕ) (i : ℕ) → length line ≤ i → allDigits (drop i line) ≡ true
-unfolding allDigits
-none-left line i h = rw (drop-of-length-le line {i = i} h)
+use Rattle.hexes.specs.Hex.{within, isDigit, digitOf, allDigits, bytesOf, half, isHex, decoded, decodedInto}
 
 and-left : (a b : Bool) → a && b ≡ true → a ≡ true
 and-left true b e = refl
@@ -67,12 +21,43 @@ and-right : (a b : Bool) → a && b ≡ true → b ≡ true
 and-right true b e = e
 and-right false b e = absurd (false≢true e)
 
--- each of them is below sixteen
-pub each-small : (line : List ℕ) (i : ℕ) → allDigits line ≡ true → i < length line → digitOf (getD line i 0) < 16
+pub and-assoc : (a b c : Bool) → (a && b) && c ≡ a && (b && c)
+and-assoc true b c = refl
+and-assoc false b c = refl
+
+pub and-true : (a : Bool) → a && true ≡ a
+and-true true = refl
+and-true false = refl
+
+-- within: from the low byte to the high one
+from-to : (low high b : ℕ) → within low high b ≡ true → (low ≤ b) × (b ≤ high)
+from-to low high b e = (leb-true low b (and-left _ _ e), leb-true b high (and-right (leb low b) _ e))
+
+-- the value of a digit by its low bits
+pub value-is : (b : ℕ) → isDigit b ≡ true → (b % 16 + 9 * (b / 64) ≡ digitOf b) × (b % 16 + 9 * (b / 64) < 16)
+unfolding isDigit digitOf pick
+value-is b e =
+    of-test (within 0x30 0x39 b)
+    (λ q. let h = from-to 0x30 0x39 b q in rw q (omega (arith, h .0, h .1), omega (arith, h .0, h .1)))
+    (λ q. of-test (within 0x61 0x66 b)
+    (λ r. let h = from-to 0x61 0x66 b r in rw (q, r) (omega (arith, h .0, h .1), omega (arith, h .0, h .1)))
+    (λ r. let h = from-to 0x41 0x46 b (rw (q, r) at e) in rw (q, r) (omega (arith, h .0, h .1), omega (arith, h .0, h .1))))
+
+-- from a place on
+pub next-is : (line : List ℕ) (i : ℕ) → i < length line → allDigits (drop i line) ≡ isDigit (getD line i 0) && allDigits (drop (suc i) line)
 unfolding allDigits
-each-small [] i e h = absurd (omega arith)
-each-small (b ∷ l) zero e h = ltb-true (digitOf b) 16 (and-left _ _ e)
-each-small (b ∷ l) (suc i) e h = each-small l i (and-right (ltb (digitOf b) 16) _ e) (omega arith)
+next-is line i h = rw (drop-cons line i 0 h)
+
+pub none-left : (line : List ℕ) (i : ℕ) → length line ≤ i → allDigits (drop i line) ≡ true
+unfolding allDigits
+none-left line i h = rw (drop-of-length-le line {i = i} h)
+
+-- each of them is one
+pub each-digit : (line : List ℕ) (i : ℕ) → allDigits line ≡ true → i < length line → isDigit (getD line i 0) ≡ true
+unfolding allDigits
+each-digit [] i e h = absurd (omega arith)
+each-digit (b ∷ l) zero e h = and-left _ _ e
+each-digit (b ∷ l) (suc i) e h = each-digit l i (and-right (isDigit b) _ e) (omega arith)
 
 -- the byte of the pair at a place
 pub pair-is : (line : List ℕ) (i : ℕ) → 2 * i + 1 < length line

@@ -1,8 +1,8 @@
 -- Hexadecimal lines: the bytes that a line of digits stands for, and the digits of a number.
-use Prim.Native.Nat.{ℕ, zero, suc, _+_, _-_, _*_, _/_, _%_}
-use mathlib.Core.Bool.{Bool, true, false, _&&_}
+use Prim.Native.Nat.{ℕ, _+_, _-_, _*_, _/_, _%_}
+use mathlib.Core.Bool.{Bool, true, _&&_, _||_}
 use mathlib.Core.List.{List, [], _∷_, _++_}
-use lib.Dec.{eqb, leb, ltb}
+use lib.Dec.{eqb, leb}
 use lib.ListN.{length, drop}
 use Rattle.chars.specs.Pick.{pick}
 use Rattle.hexes.specs.declared.Hex.{Hex}
@@ -12,23 +12,18 @@ use Rattle.hexes.specs.declared.Hex.the-variants.{Bytes, Bad}
 abbrev pub within : ℕ → ℕ → ℕ → Bool
 within low high b = leb low b && leb b high
 
--- the value of a digit, 0 to 9 and a to f in either case; of any other byte 255
+-- whether a byte is a digit: 0 to 9, and a to f in either case
+unfoldable pub isDigit : ℕ → Bool
+isDigit b = within 0x30 0x39 b || (within 0x61 0x66 b || within 0x41 0x46 b)
+
+-- the value of a digit
 unfoldable pub digitOf : ℕ → ℕ
-digitOf b = pick (within 0x30 0x39 b) (b - 0x30) (pick (within 0x61 0x66 b) (b - 0x61 + 10) (pick (within 0x41 0x46 b) (b - 0x41 + 10) 255))
-
--- the values of so many bytes from one on
-unfoldable pub valuesFrom : ℕ → ℕ → List ℕ
-valuesFrom zero b = []
-valuesFrom (suc n) b = digitOf b ∷ valuesFrom n (suc b)
-
--- those of the bytes from 0 to f
-unfoldable pub table : List ℕ
-table = valuesFrom 55 0x30
+digitOf b = pick (within 0x30 0x39 b) (b - 0x30) (pick (within 0x61 0x66 b) (b - 0x61 + 10) (b - 0x41 + 10))
 
 -- whether every byte is a digit
 unfoldable pub allDigits : List ℕ → Bool
 allDigits [] = true
-allDigits (b ∷ l) = ltb (digitOf b) 16 && allDigits l
+allDigits (b ∷ l) = isDigit b && allDigits l
 
 -- the bytes, two digits each, the high one first
 abbrev pub bytesOf : List ℕ → List ℕ

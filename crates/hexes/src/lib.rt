@@ -12,45 +12,43 @@ pub enum Hex {
     Bad,
 }
 
-// The value of a digit, or 255, by the table of the bytes from '0' to 'f'. It is made once a line and lent: an index into a constant
-// would write all of it each time.
-fn digit(t: &[u8], b: u8) -> u8
-    requires { ⌜ now t ≡ spec.table ⌝ }
-    ensures { λ r. ⌜ r ≡ spec.digitOf b ⌝ }
+// Whether a byte is a digit. No test here, and none below, decides where to go on: the compiler then takes many bytes at once.
+fn is_digit(b: u8) -> bool
+    ensures { λ r. ⌜ r ≡ spec.isDigit b ⌝ }
 {
-    if b < b'0' {
-        return 255;
-    }
-    if b'f' < b {
-        return 255;
-    }
-    t[(b - b'0') as usize]
+    (b'0' <= b) & (b <= b'9') | ((b'a' <= b) & (b <= b'f') | (b'A' <= b) & (b <= b'F'))
+}
+
+// The value of a digit, by its low bits: a letter is counted from ten.
+fn digit(b: u8) -> u8
+    requires { ⌜ spec.isDigit b ≡ true ⌝ }
+    ensures { λ r. ⌜ (r ≡ spec.digitOf b) × (r < 16) ⌝ }
+{
+    b % 16 + 9 * (b / 64)
 }
 
 // Whether every byte is a digit.
-fn all_digits(t: &[u8], line: &[u8]) -> bool
-    requires { ⌜ now t ≡ spec.table ⌝ }
+fn all_digits(line: &[u8]) -> bool
     ensures { λ r. ⌜ r ≡ spec.allDigits (now (line .entry)) ⌝ }
 {
     let mut i = 0;
+    let mut all = true;
     while i < line.len() {
-        if 15 < digit(t, line[i]) {
-            return false;
-        }
+        all = all & is_digit(line[i]);
         i += 1;
     }
-    true
+    all
 }
 
 // The bytes that digits stand for, at the front of a frame with room for them.
-fn put_bytes(t: &[u8], line: &[u8], frame: &mut [u8])
-    requires { ⌜ (now t ≡ spec.table) × (spec.allDigits (now line) ≡ true) × (spec.half (now line) ≤ length (now frame)) ⌝ }
+fn put_bytes(line: &[u8], frame: &mut [u8])
+    requires { ⌜ (spec.allDigits (now line) ≡ true) × (spec.half (now line) ≤ length (now frame)) ⌝ }
     ensures { λ r. ⌜ now (frame .exit) ≡ sets (now (frame .entry)) 0 (spec.bytesOf (now (line .entry))) ⌝ }
 {
     let half = line.len() / 2;
     let mut i = 0;
     while i < half {
-        frame[i] = digit(t, line[2 * i]) * 16 + digit(t, line[2 * i + 1]);
+        frame[i] = digit(line[2 * i]) * 16 + digit(line[2 * i + 1]);
         i += 1;
     }
 }
@@ -67,10 +65,8 @@ pub fn decode(line: &[u8], frame: &mut [u8]) -> Hex
     if frame.len() < line.len() / 2 {
         return Hex::Bad;
     }
-    let t =
-        b"\x00\x01\x02\x03\x04\x05\x06\x07\x08\x09\xff\xff\xff\xff\xff\xff\xff\x0a\x0b\x0c\x0d\x0e\x0f\xff\xff\xff\xff\xff\xff\xff\xff\xff\xff\xff\xff\xff\xff\xff\xff\xff\xff\xff\xff\xff\xff\xff\xff\xff\xff\x0a\x0b\x0c\x0d\x0e\x0f";
-    if all_digits(t, line) {
-        put_bytes(t, line, frame);
+    if all_digits(line) {
+        put_bytes(line, frame);
         return Hex::Bytes(line.len() / 2);
     }
     Hex::Bad

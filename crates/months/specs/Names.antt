@@ -27,7 +27,9 @@ stored m = month m
 
 -- a word for a month, and the month as it is stored
 pub record Word : Type 0 where
+  -- the word, in lower case
   pub word : String
+  -- the month, counted from zero
   pub says : ℕ
 
 -- the month of the first word that the text is

@@ -203,6 +203,7 @@ fn month_of(bytes: &[u8], table: &[u64], buf: &mut [u8]) -> ReadMonth
 {
     match chunks::format_verbatim(bytes, table, buf) {
         Formatted::Text(n) => fields::month_field(&buf[..n]),
+        // never: the list is clean, and the buffer has the room
         Formatted::Refused(_) => ReadMonth::MonthRead {
             month: OptionMonth::NoMonth,
             next: Cursor(0),

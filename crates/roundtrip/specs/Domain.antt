@@ -25,8 +25,11 @@ PartsIn y (SomeMonth m) (SomeDay d) = (m .0 < 12) × (d .0 < monthLength (m .0) 
 
 -- one end of a Date, or its only one
 pub record EndIn (d : Datetime) : Type 0 where
+  -- a year of four digits
   pub year-in : natAbs (d .year) < 10000
+  -- a month and a day of the calendar
   pub parts-in : PartsIn (d .year) (d .month) (d .day)
+  -- no time
   pub untimed : d .time ≡ NoTime
 
 -- every end of a Date

@@ -1,43 +1,36 @@
 use mathlib.Core.Path.{_≡_, refl, sym, ap, _∙_}
+use mathlib.Core.Bool.{Bool, _&&_}
 use Prim.Native.Nat.{ℕ, suc, _+_, _-_, _≤_}
 use native.Mathlib.Omega.{arith}
-use lib.ListN.{length, drop}
-use Rattle.hexes.specs.Hex.{allDigits}
-use Rattle.hexes.proofs.Laws.{next-good, next-bad, none-left}
+use lib.ListN.{length, getD, drop}
+use Rattle.hexes.specs.Hex.{isDigit, allDigits}
+use Rattle.hexes.proofs.Laws.{and-assoc, and-true, next-is, none-left}
 use borrow.Author.Needs.{needs}
 use Rattle.hexes.proofs.all_digits.Statement.{statement}
 use Rattle.hexes.proofs.all_digits.Tie as tie
 use Rattle.hexes.proofs.all_digits.Reads as reads
 use Rattle.hexes.proofs.all_digits.Lts as lts
-use Rattle.hexes.proofs.digit.Reads as digit-reads
+use Rattle.hexes.proofs.is_digit.Reads as is-digit-reads
 
 abbrev Inv-loop : tie.InvT-loop
-Inv-loop t line i₀ i = (allDigits (drop i line) ≡ allDigits line) × (i ≤ length line)
+Inv-loop line i₀ all₀ i all = (all && allDigits (drop i line) ≡ allDigits line) × (i ≤ length line)
 
 abbrev μ-loop : tie.MeasureT-loop
-μ-loop t line i₀ i = length line - i
+μ-loop line i₀ all₀ i all = length line - i
 
 -- src/lib.rt:36:5
 loop-holds : tie.Need-loop-holds Inv-loop μ-loop
 loop-holds c = (refl, omega arith)
 
--- src/lib.rt:37:26
-shared-slice-read-digit : tie.Need-shared-slice-read-digit Inv-loop μ-loop
-shared-slice-read-digit c = search needs
+-- src/lib.rt:37:30
+shared-slice-read-is-digit : tie.Need-shared-slice-read-is-digit Inv-loop μ-loop
+shared-slice-read-is-digit c = search needs
 
--- src/lib.rt:37:17
-digit-requires : tie.Need-digit-requires Inv-loop μ-loop
-digit-requires c κs = search needs
+-- src/lib.rt:37:21
+is-digit-requires : tie.Need-is-digit-requires Inv-loop μ-loop
+is-digit-requires c κs = search needs
 
--- src/lib.rt:38:13
-returns : tie.Need-returns Inv-loop μ-loop
-returns c =
-    let b3 = c .before .before .before in
-    let l = b3 .before .loop in
-    let s = b3 .before .before .before .before in
-    sym (sym (l .inv .0) ∙ next-bad (s .args .line .now) (l .i) (omega arith) (omega (arith, c .before .digit .ensures)))
-
--- src/lib.rt:40:9
+-- src/lib.rt:38:9
 add-i : tie.Need-add-i Inv-loop μ-loop
 add-i c = search needs
 
@@ -48,18 +41,18 @@ loop-less c = omega arith
 -- src/lib.rt:36:5
 loop-again : tie.Need-loop-again Inv-loop μ-loop
 loop-again c =
-    let b3 = c .before .before .before in
-    let l = b3 .before .loop in
-    let s = b3 .before .before .before .before in
-    let e : l .i + 1 ≡ suc (l .i) = omega arith in
-    (rw e (sym (next-good (s .args .line .now) (l .i) (omega arith) (omega (arith, c .before .digit .ensures))) ∙ l .inv .0), omega arith)
+    let b2 = c .before .before in
+    let b3 = b2 .before in
+    let s = b3 .before .before in
+    let e : b3 .loop .i + 1 ≡ suc (b3 .loop .i) = omega arith in
+    (and-assoc (b3 .loop .all) (c .is-digit .result) _ ∙ rw (c .is-digit .ensures, e, ← next-is (s .args .line .now) (b3 .loop .i) (b2 .loop-test .taken)) (b3 .loop .inv .0), omega arith)
 
 -- src/lib.rt:31:1
-returns-2 : tie.Need-returns-2 Inv-loop μ-loop
-returns-2 c =
-    let l = c .before .loop in
-    let s = c .before .before .before .before in
-    sym (sym (l .inv .0) ∙ none-left (s .args .line .now) (l .i) (omega arith))
+returns : tie.Need-returns Inv-loop μ-loop
+returns c =
+    let b1 = c .before in
+    let s = b1 .before .before in
+    sym (sym (b1 .loop .inv .0) ∙ rw (none-left (s .args .line .now) (b1 .loop .i) (c .loop-test .left)) (and-true (b1 .loop .all)))
 
 pub all-digits-spec : {M : Type 1} → statement M
 all-digits-spec =
@@ -68,10 +61,9 @@ all-digits-spec =
     Inv-loop
     μ-loop
     loop-holds
-    shared-slice-read-digit
-    digit-requires
-    returns
+    shared-slice-read-is-digit
+    is-digit-requires
     add-i
     loop-less
     loop-again
-    returns-2)
+    returns)

@@ -1,8 +1,5 @@
-use mathlib.Core.Path.{_≡_, refl, sym, _∙_}
-use mathlib.Core.Bool.{true, false}
+use mathlib.Core.Path.{_≡_, sym, _∙_}
 use native.Mathlib.Omega.{arith}
-use Rattle.chars.specs.Pick.{pick}
-use Rattle.hexes.specs.Hex.{table, valuesFrom, digitOf}
 use Rattle.hexes.proofs.Laws.{odd, long, foreign, good}
 use borrow.Author.Needs.{needs}
 use Rattle.hexes.proofs.decode.Statement.{statement}
@@ -12,55 +9,53 @@ use Rattle.hexes.proofs.decode.Lts as lts
 use Rattle.hexes.proofs.all_digits.Reads as all-digits-reads
 use Rattle.hexes.proofs.put_bytes.Reads as put-bytes-reads
 
--- src/lib.rt:65:9
+-- src/lib.rt:63:9
 returns : tie.Need-returns
 returns c =
     let s = c .before .before .before in
     odd (s .args .line .now) (s .args .frame .now) (c .if1 .taken)
 
--- src/lib.rt:68:9
+-- src/lib.rt:66:9
 returns-2 : tie.Need-returns-2
 returns-2 c =
     let b1 = c .before in
     let s = b1 .before .before .before in
     long (s .args .line .now) (s .args .frame .now) (b1 .if1 .left) (c .if2 .taken)
 
--- src/lib.rt:71:8
+-- src/lib.rt:68:8
 all-digits-requires : tie.Need-all-digits-requires
-unfolding table valuesFrom digitOf pick
 all-digits-requires c κs = search needs
 
--- src/lib.rt:72:9
+-- src/lib.rt:69:9
 put-bytes-requires : tie.Need-put-bytes-requires
-unfolding table valuesFrom digitOf pick
 put-bytes-requires c κs =
-    let b2 = c .before .before in
-    let b3 = b2 .before in
-    (refl, sym (b3 .all-digits .ensures) ∙ b2 .if3 .taken, omega arith)
+    let b1 = c .before in
+    let b2 = b1 .before in
+    (sym (b2 .all-digits .ensures) ∙ b1 .if3 .taken, omega arith)
 
--- src/lib.rt:73:9
+-- src/lib.rt:70:9
 same-length : tie.Need-same-length
 same-length c = search needs
 
--- src/lib.rt:73:9
+-- src/lib.rt:70:9
 returns-3 : tie.Need-returns-3
 returns-3 c =
     let b2 = c .before .before in
-    let b5 = b2 .before .before .before in
-    let b6 = b5 .before in
-    let b10 = b6 .before .before .before .before in
-    let s = b10 .before .before .before in
-    let e = sym (b6 .all-digits .ensures) ∙ b5 .if3 .taken in
-    let g = good (s .args .line .now) (s .args .frame .now) (b10 .if1 .left) (omega arith) e in
+    let b4 = b2 .before .before in
+    let b5 = b4 .before in
+    let b7 = b5 .before .before in
+    let s = b7 .before .before .before in
+    let e = sym (b5 .all-digits .ensures) ∙ b4 .if3 .taken in
+    let g = good (s .args .line .now) (s .args .frame .now) (b7 .if1 .left) (omega arith) e in
     (g .0, b2 .put-bytes .ensures ∙ g .1)
 
--- src/lib.rt:60:1
+-- src/lib.rt:58:1
 returns-4 : tie.Need-returns-4
 returns-4 c =
     let b1 = c .before in
-    let b5 = b1 .before .before .before .before in
-    let s = b5 .before .before .before in
-    foreign (s .args .line .now) (s .args .frame .now) (b5 .if1 .left) (omega arith) (sym (b1 .all-digits .ensures) ∙ c .if3 .left)
+    let b3 = b1 .before .before in
+    let s = b3 .before .before .before in
+    foreign (s .args .line .now) (s .args .frame .now) (b3 .if1 .left) (omega arith) (sym (b1 .all-digits .ensures) ∙ c .if3 .left)
 
 pub decode-spec : {M : Type 1} → statement M
 decode-spec =

@@ -1,0 +1,14 @@
+use mathlib.Core.Path.{refl}
+use Rattle.hexes.specs.Hex.{isDigit}
+use Rattle.hexes.proofs.is_digit.Statement.{statement}
+use Rattle.hexes.proofs.is_digit.Tie as tie
+use Rattle.hexes.proofs.is_digit.Reads as reads
+use Rattle.hexes.proofs.is_digit.Lts as lts
+
+-- src/lib.rt:16:1
+returns : tie.Need-returns
+unfolding isDigit
+returns c = refl
+
+pub is-digit-spec : {M : Type 1} → statement M
+is-digit-spec = tie.close (tie.spec returns)
