@@ -1,0 +1,61 @@
+-- What a reader gives as a struct means the Date that was read: nothing is lost on the way out and back in. Assumes nothing.
+use mathlib.Core.Path.{_≡_, refl}
+use mathlib.Core.Bool.{Bool, true, false}
+use Rattle.chars.specs.Pick.{pick}
+use Rattle.dates.specs.declared.OptionMonth.{OptionMonth}
+use Rattle.dates.specs.declared.OptionMonth.the-variants.{NoMonth, SomeMonth}
+use Rattle.dates.specs.declared.OptionDay.{OptionDay}
+use Rattle.dates.specs.declared.OptionDay.the-variants.{NoDay, SomeDay}
+use Rattle.dates.specs.declared.TimeOffset.the-variants.{Utc, Offset}
+use Rattle.dates.specs.declared.OptionOffset.{OptionOffset}
+use Rattle.dates.specs.declared.OptionOffset.the-variants.{NoOffset, SomeOffset}
+use Rattle.dates.specs.declared.OptionTime.{OptionTime}
+use Rattle.dates.specs.declared.OptionTime.the-variants.{NoTime, SomeTime}
+use Rattle.dates.specs.declared.Datetime.{Datetime}
+use Rattle.dates.specs.declared.DateValue.{DateValue}
+use Rattle.dates.specs.declared.DateValue.the-variants.{At, After, Before, Between}
+use Rattle.dates.specs.declared.Date.{Date}
+use Rattle.knobstream.specs.Plain.{hasMonth, monthNumber, hasDay, dayNumber, offsetSort, shiftOf, hoursOf, minutesOf, flag, datetime, date}
+use Rattle.knobstream.specs.Back.{isSet, monthOf, dayOf, offsetOf, timeOf, datetimeOf, valueOf, dateOf}
+
+flag-back : (b : Bool) → isSet (flag b) ≡ b
+unfolding isSet
+flag-back true = refl
+flag-back false = refl
+
+month-back : (m : OptionMonth) → monthOf (hasMonth m) (monthNumber m) ≡ m
+unfolding monthOf isSet pick
+month-back NoMonth = refl
+month-back (SomeMonth m) = refl
+
+day-back : (d : OptionDay) → dayOf (hasDay d) (dayNumber d) ≡ d
+unfolding dayOf isSet pick
+day-back NoDay = refl
+day-back (SomeDay d) = refl
+
+offset-back : (o : OptionOffset) → offsetOf (offsetSort o) (hoursOf (shiftOf o)) (minutesOf (shiftOf o)) ≡ o
+unfolding offsetOf pick
+offset-back NoOffset = refl
+offset-back (SomeOffset Utc) = refl
+offset-back (SomeOffset (Offset true hours minutes)) = refl
+offset-back (SomeOffset (Offset false hours minutes)) = refl
+
+time-back : (d : Datetime) (t : OptionTime) → d .time ≡ t → timeOf (datetime d) ≡ t
+unfolding timeOf isSet pick
+time-back d NoTime e = rw e
+time-back d (SomeTime t) e = rw (e, offset-back (t .offset))
+
+pub datetime-back : (d : Datetime) → datetimeOf (datetime d) ≡ d
+unfolding datetimeOf
+datetime-back d = rw (month-back (d .month), day-back (d .day), time-back d (d .time) refl)
+
+value-back : (d : Date) (v : DateValue) → d .value ≡ v → valueOf (date d) ≡ v
+unfolding valueOf pick
+value-back d (At a) e = rw (e, datetime-back a)
+value-back d (After a) e = rw (e, datetime-back a)
+value-back d (Before a) e = rw (e, datetime-back a)
+value-back d (Between a b) e = rw (e, datetime-back a, datetime-back b)
+
+pub date-back : (d : Date) → dateOf (date d) ≡ d
+unfolding dateOf
+date-back d = rw (value-back d (d .value) refl, flag-back (d .uncertain), flag-back (d .approximate))

@@ -1,0 +1,31 @@
+use mir.ValLaws.{toZ-ofZ}
+use mir.Syntax.{w32}
+use Rattle.knobstream.specs.Back.{datetimeOf}
+use borrow.Author.Needs.{needs}
+use Rattle.knobstream.proofs.datetime_of.Statement.{statement}
+use Rattle.knobstream.proofs.datetime_of.Tie as tie
+
+month-of-requires : tie.Need-month-of-requires
+month-of-requires c κs = search needs
+
+day-of-requires : tie.Need-day-of-requires
+day-of-requires c κs = search needs
+
+time-of-requires : tie.Need-time-of-requires
+time-of-requires c κs = search needs
+
+new-requires : tie.Need-new-requires
+new-requires c κs = search needs
+
+returns : tie.Need-returns
+unfolding datetimeOf
+returns c =
+    let b2 = c .before .before in
+    let b3 = b2 .before in
+    let b4 = b3 .before in
+    let e = rw (toZ-ofZ w32 (b4 .before .args .p .year) (record { sfits = c .before .struct-told .given .0 .1 })) at (c .new .ensures) in
+    simp (← b4 .month-of .ensures, ← b3 .day-of .ensures, ← b2 .time-of .ensures, ← e)
+
+pub datetime-of-spec : {M : Type 1} → statement M
+datetime-of-spec =
+    tie.close (tie.spec month-of-requires day-of-requires time-of-requires new-requires returns)

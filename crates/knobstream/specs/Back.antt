@@ -1,0 +1,61 @@
+-- What plain structs mean: every struct, whatever numbers it holds, is a Datetime or a Date.
+use Prim.Native.Nat.{ℕ}
+use mathlib.Core.Bool.{Bool, not}
+use lib.Dec.{eqb}
+use Rattle.chars.specs.Pick.{pick}
+use Rattle.dates.specs.declared.OptionMonth.{OptionMonth}
+use Rattle.dates.specs.declared.OptionMonth.the-variants.{NoMonth}
+use Rattle.dates.specs.declared.OptionDay.{OptionDay}
+use Rattle.dates.specs.declared.OptionDay.the-variants.{NoDay}
+use Rattle.dates.specs.declared.TimeOffset.the-variants.{Utc, Offset}
+use Rattle.dates.specs.declared.OptionOffset.{OptionOffset}
+use Rattle.dates.specs.declared.OptionOffset.the-variants.{NoOffset, SomeOffset}
+use Rattle.dates.specs.declared.OptionTime.{OptionTime}
+use Rattle.dates.specs.declared.OptionTime.the-variants.{NoTime, SomeTime}
+use Rattle.dates.specs.declared.Datetime.{Datetime}
+use Rattle.dates.specs.declared.DateValue.{DateValue}
+use Rattle.dates.specs.declared.DateValue.the-variants.{At, After, Before, Between}
+use Rattle.dates.specs.declared.Date.{Date}
+use Rattle.dates.specs.Time.{time}
+use Rattle.dates.specs.Value.{month, day, datetime, date}
+use Rattle.knobstream.specs.declared.PlainDatetime.{PlainDatetime}
+use Rattle.knobstream.specs.declared.PlainDate.{PlainDate}
+
+-- 0 is no, every other number yes
+unfoldable pub isSet : ℕ → Bool
+isSet n = not (eqb n 0)
+
+-- the month, if there is one
+unfoldable pub monthOf : ℕ → ℕ → OptionMonth
+monthOf has n = pick (isSet has) (month n) NoMonth
+
+-- the day, if there is one
+unfoldable pub dayOf : ℕ → ℕ → OptionDay
+dayOf has n = pick (isSet has) (day n) NoDay
+
+-- the offset: 0 none, 1 UTC, 2 ahead of it, every other number behind it
+unfoldable pub offsetOf : ℕ → ℕ → ℕ → OptionOffset
+offsetOf sort hours minutes =
+    pick (eqb sort 0) NoOffset (pick (eqb sort 1) (SomeOffset Utc) (SomeOffset (Offset (eqb sort 2) hours minutes)))
+
+-- the time, if there is one
+unfoldable pub timeOf : PlainDatetime → OptionTime
+timeOf p =
+    pick (isSet (p .«has_time»))
+    (SomeTime (time (p .hour) (p .minute) (p .second) (offsetOf (p .offset) (p .«offset_hours») (p .«offset_minutes»))))
+    NoTime
+
+-- the Datetime
+unfoldable pub datetimeOf : PlainDatetime → Datetime
+datetimeOf p = datetime (p .year) (monthOf (p .«has_month») (p .month)) (dayOf (p .«has_day») (p .day)) (timeOf p)
+
+-- the point or range: 0 At, 1 After, 2 Before, every other number Between; only Between looks at the second
+unfoldable pub valueOf : PlainDate → DateValue
+valueOf p =
+    pick (eqb (p .shape) 0) (At (datetimeOf (p .first)))
+    (pick (eqb (p .shape) 1) (After (datetimeOf (p .first)))
+    (pick (eqb (p .shape) 2) (Before (datetimeOf (p .first))) (Between (datetimeOf (p .first)) (datetimeOf (p .second)))))
+
+-- the Date
+unfoldable pub dateOf : PlainDate → Date
+dateOf p = date (valueOf p) (isSet (p .uncertain)) (isSet (p .approximate))

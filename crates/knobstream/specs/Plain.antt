@@ -1,0 +1,181 @@
+-- Dates and answers as plain structs: what a caller that is not Rattle gets.
+use Prim.Native.Nat.{ℕ}
+use mathlib.Core.Bool.{Bool, true, false}
+use lib.IntN.{ℤ, pos, negsuc}
+use Rattle.refusals.specs.Refusal.{number}
+use Rattle.dates.specs.declared.OptionMonth.{OptionMonth}
+use Rattle.dates.specs.declared.OptionMonth.the-variants.{NoMonth, SomeMonth}
+use Rattle.dates.specs.declared.OptionDay.{OptionDay}
+use Rattle.dates.specs.declared.OptionDay.the-variants.{NoDay, SomeDay}
+use Rattle.dates.specs.declared.TimeOffset.{TimeOffset}
+use Rattle.dates.specs.declared.TimeOffset.the-variants.{Utc, Offset}
+use Rattle.dates.specs.declared.OptionOffset.{OptionOffset}
+use Rattle.dates.specs.declared.OptionOffset.the-variants.{NoOffset, SomeOffset}
+use Rattle.dates.specs.declared.Time.{Time}
+use Rattle.dates.specs.declared.OptionTime.{OptionTime}
+use Rattle.dates.specs.declared.OptionTime.the-variants.{NoTime, SomeTime}
+use Rattle.dates.specs.declared.Datetime.{Datetime}
+use Rattle.dates.specs.declared.DateValue.{DateValue}
+use Rattle.dates.specs.declared.DateValue.the-variants.{At, After, Before, Between}
+use Rattle.dates.specs.declared.Date.{Date}
+use Rattle.dates.specs.Time.{time}
+use Rattle.datefield.specs.declared.ReadDate.{ReadDate}
+use Rattle.datefield.specs.declared.ReadDate.the-variants.{Accepted, Refused}
+use Rattle.writer.specs.declared.Written.{Written}
+use Rattle.writer.specs.declared.Written.the-variants.{Done, Refused as NotWritten}
+use Rattle.order.specs.declared.Order.{Order}
+use Rattle.order.specs.declared.Order.the-variants.{Less, Equal, Greater, None}
+use Rattle.knobstream.specs.declared.PlainDatetime.{PlainDatetime}
+use Rattle.knobstream.specs.declared.PlainDate.{PlainDate}
+use Rattle.knobstream.specs.declared.PlainRead.{PlainRead}
+use Rattle.knobstream.specs.declared.PlainWritten.{PlainWritten}
+
+-- a bool as a number
+abbrev pub flag : Bool → ℕ
+flag true = 1
+flag false = 0
+
+-- whether there is a month, as a number
+abbrev pub hasMonth : OptionMonth → ℕ
+hasMonth NoMonth = 0
+hasMonth (SomeMonth m) = 1
+
+-- the stored month, counted from zero; 0 if there is none
+abbrev pub monthNumber : OptionMonth → ℕ
+monthNumber NoMonth = 0
+monthNumber (SomeMonth m) = m .0
+
+-- whether there is a day
+abbrev pub hasDay : OptionDay → ℕ
+hasDay NoDay = 0
+hasDay (SomeDay d) = 1
+
+-- the stored day, counted from zero; 0 if there is none
+abbrev pub dayNumber : OptionDay → ℕ
+dayNumber NoDay = 0
+dayNumber (SomeDay d) = d .0
+
+-- whether there is a time
+abbrev pub hasTime : OptionTime → ℕ
+hasTime NoTime = 0
+hasTime (SomeTime t) = 1
+
+-- the time; zeros and no offset if there is none
+abbrev pub clockOf : OptionTime → Time
+clockOf NoTime = time 0 0 0 NoOffset
+clockOf (SomeTime t) = t
+
+-- UTC is 1, ahead of it 2, behind it 3
+abbrev pub sortOf : TimeOffset → ℕ
+sortOf Utc = 1
+sortOf (Offset true hours minutes) = 2
+sortOf (Offset false hours minutes) = 3
+
+-- no offset is 0
+abbrev pub offsetSort : OptionOffset → ℕ
+offsetSort NoOffset = 0
+offsetSort (SomeOffset o) = sortOf o
+
+-- the offset; UTC if there is none
+abbrev pub shiftOf : OptionOffset → TimeOffset
+shiftOf NoOffset = Utc
+shiftOf (SomeOffset o) = o
+
+-- the hours of an offset; UTC has none
+abbrev pub hoursOf : TimeOffset → ℕ
+hoursOf Utc = 0
+hoursOf (Offset positive hours minutes) = hours
+
+-- the minutes likewise
+abbrev pub minutesOf : TimeOffset → ℕ
+minutesOf Utc = 0
+minutesOf (Offset positive hours minutes) = minutes
+
+-- a Datetime
+abbrev pub datetime : Datetime → PlainDatetime
+datetime d =
+    record {
+      year = d .year;
+      «has_month» = hasMonth (d .month);
+      month = monthNumber (d .month);
+      «has_day» = hasDay (d .day);
+      day = dayNumber (d .day);
+      «has_time» = hasTime (d .time);
+      hour = clockOf (d .time) .hour;
+      minute = clockOf (d .time) .minute;
+      second = clockOf (d .time) .second;
+      offset = offsetSort (clockOf (d .time) .offset);
+      «offset_hours» = hoursOf (shiftOf (clockOf (d .time) .offset));
+      «offset_minutes» = minutesOf (shiftOf (clockOf (d .time) .offset));
+    }
+
+-- where there is no Datetime, all numbers are 0
+abbrev pub noDatetime : PlainDatetime
+noDatetime =
+    record {
+      year = pos 0;
+      «has_month» = 0;
+      month = 0;
+      «has_day» = 0;
+      day = 0;
+      «has_time» = 0;
+      hour = 0;
+      minute = 0;
+      second = 0;
+      offset = 0;
+      «offset_hours» = 0;
+      «offset_minutes» = 0;
+    }
+
+-- the shape of a point or range, as a number
+abbrev pub shapeOf : DateValue → ℕ
+shapeOf (At d) = 0
+shapeOf (After d) = 1
+shapeOf (Before d) = 2
+shapeOf (Between a b) = 3
+
+-- its one Datetime, or its start
+abbrev pub firstOf : DateValue → PlainDatetime
+firstOf (At d) = datetime d
+firstOf (After d) = datetime d
+firstOf (Before d) = datetime d
+firstOf (Between a b) = datetime a
+
+-- the end of a range that has both ends
+abbrev pub secondOf : DateValue → PlainDatetime
+secondOf (At d) = noDatetime
+secondOf (After d) = noDatetime
+secondOf (Before d) = noDatetime
+secondOf (Between a b) = datetime b
+
+-- a Date
+abbrev pub date : Date → PlainDate
+date d =
+    record {
+      shape = shapeOf (d .value);
+      uncertain = flag (d .uncertain);
+      approximate = flag (d .approximate);
+      first = firstOf (d .value);
+      second = secondOf (d .value);
+    }
+
+-- where there is no Date, all numbers are 0
+abbrev pub noDate : PlainDate
+noDate = record { shape = 0; uncertain = 0; approximate = 0; first = noDatetime; second = noDatetime }
+
+-- what a reader answers: the Date with refusal 0 and place 0, 0, or no Date with the refusal's number and place
+abbrev pub read : ReadDate → PlainRead
+read (Accepted d) = record { start = 0; end = 0; date = date d; refusal = 0 }
+read (Refused e) = record { start = e .place .0; end = e .place .1; date = noDate; refusal = number (e .kind) }
+
+-- what a writer answers: how many bytes were stored with refusal 0, or 0 with the refusal's number
+abbrev pub written : Written → PlainWritten
+written (Done n) = record { length = n; refusal = 0 }
+written (NotWritten e) = record { length = 0; refusal = number (e .kind) }
+
+-- how the first stands to the second
+abbrev pub orderNumber : Order → ℤ
+orderNumber Less = negsuc 0
+orderNumber Equal = pos 0
+orderNumber Greater = pos 1
+orderNumber None = pos 2
