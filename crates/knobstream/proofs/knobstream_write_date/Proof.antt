@@ -20,7 +20,7 @@ returns : tie.Need-returns
 returns c =
     let b3 = c .before .before .before in
     let b5 = b3 .before .before in
-    made-written dateText (b5 .before .before .args .out .now) (b5 .date-of .ensures) (b3 .write-date .ensures) (c .plain-written .ensures)
+    made-written dateText (b5 .before .before .args .out .now) (b5 .date-of .ensures) (b3 .write-date .ensures .0, b3 .write-date .ensures .1 .0) (c .plain-written .ensures)
 
 pub knobstream-write-date-spec : {M : Type 1} → statement M
 knobstream-write-date-spec =
