@@ -22,7 +22,7 @@ static int show(const char *text)
         return 1;
     }
     uint8_t out[KNOBSTREAM_TEXT_ROOM];
-    const knobstream_written w = knobstream_write_date(a.date, out, sizeof out);
+    const knobstream_written w = knobstream_date_text(&a.date, out, sizeof out);
     printf("%s: %.*s\n", text, (int)w.length, (const char *)out);
     return 0;
 }
@@ -81,19 +81,19 @@ static void self_check(void)
     uint8_t out[128];
     a = read_text("1999/2000-02~");
     memset(out, 0xAA, sizeof out);
-    check(gave(knobstream_write_date(a.date, out, sizeof out), out, "1999/2000-02~"), "the text of a range");
+    check(gave(knobstream_date_text(&a.date, out, sizeof out), out, "1999/2000-02~"), "the text of a range");
     memset(out, 0xAA, sizeof out);
-    check(gave(knobstream_write_fields(a.date, out, sizeof out), out, "year=1999\nendyear=2000\nendmonth=02\n"), "its fields");
+    check(gave(knobstream_date_fields(&a.date, out, sizeof out), out, "year=1999\nendyear=2000\nendmonth=02\n"), "its fields");
     memset(out, 0xAA, sizeof out);
-    check(gave(knobstream_write_date(a.date, out, 13), out, "1999/2000-02~"), "just enough room");
+    check(gave(knobstream_date_text(&a.date, out, 13), out, "1999/2000-02~"), "just enough room");
     memset(out, 0xAA, sizeof out);
-    knobstream_written w = knobstream_write_date(a.date, out, 12);
+    knobstream_written w = knobstream_date_text(&a.date, out, 12);
     check(w.refusal == KNOBSTREAM_NO_ROOM && w.length == 0 && out[0] == 0xAA, "one byte too few");
-    w = knobstream_write_fields(a.date, NULL, 0);
+    w = knobstream_date_fields(&a.date, NULL, 0);
     check(w.refusal == KNOBSTREAM_NO_ROOM && w.length == 0, "no room, by a null pointer");
     a.date.first.has_month = 255;
     a.date.first.month = 255;
-    w = knobstream_write_date(a.date, out, sizeof out);
+    w = knobstream_date_text(&a.date, out, sizeof out);
     check(w.refusal == KNOBSTREAM_RUST_PANICS && out[0] == 0xAA, "month 255");
 
     const knobstream_datetime year = read_text("2000").date.first, month = read_text("2000-02").date.first,

@@ -167,15 +167,34 @@ knobstream_answer knobstream_parse_three_fields(
     const uint8_t *day, size_t day_len,
     const uint64_t *day_table, size_t day_table_len);
 
-/* The text of a date, at the front of `out`: "2000-02-29", "1999/2003~". */
+/* The text of a date, at the front of `out`: "2000-02-29", "1999/2003~". The
+ * date is passed part by part, so that it goes in registers. */
 knobstream_written knobstream_write_date(
-    knobstream_date date, uint8_t *out, size_t out_len);
+    knobstream_datetime first, knobstream_datetime second,
+    uint8_t *out, size_t out_len,
+    uint8_t shape, uint8_t uncertain, uint8_t approximate);
 
-/* The fields of a date, at the front of `out`: lines "year=2000", "month=02",
- * "day=29", for a range with both ends also "endyear=2003" and so on, each
- * with a line feed. */
+/* The fields of a date, likewise: lines "year=2000", "month=02", "day=29", for
+ * a range with both ends also "endyear=2003" and so on, each with a line feed. */
 knobstream_written knobstream_write_fields(
-    knobstream_date date, uint8_t *out, size_t out_len);
+    knobstream_datetime first, knobstream_datetime second,
+    uint8_t *out, size_t out_len,
+    uint8_t shape, uint8_t uncertain, uint8_t approximate);
+
+/* The same of a date as it was read. */
+static inline knobstream_written knobstream_date_text(
+    const knobstream_date *date, uint8_t *out, size_t out_len)
+{
+    return knobstream_write_date(date->first, date->second, out, out_len,
+                                 date->shape, date->uncertain, date->approximate);
+}
+
+static inline knobstream_written knobstream_date_fields(
+    const knobstream_date *date, uint8_t *out, size_t out_len)
+{
+    return knobstream_write_fields(date->first, date->second, out, out_len,
+                                   date->shape, date->uncertain, date->approximate);
+}
 
 /* How the first stands to the second: -1 less, 0 equal, 1 greater, 2 none of
  * these, as 2000 and 2000-02, or times of which one has an offset. */

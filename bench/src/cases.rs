@@ -87,7 +87,8 @@ fn keep<T>(x: T) -> &'static T {
 
 fn times<R>(n: u64, call: impl Fn() -> R) {
     for _ in 0..n {
-        black_box(call());
+        let r = call();
+        black_box(&r);
     }
 }
 
@@ -212,21 +213,24 @@ fn mixed() -> Case {
             Some(Box::new(move |n| {
                 times(n, || {
                     for i in inputs {
-                        black_box(raw::parse(black_box(&i.list)));
+                        let r = raw::parse(black_box(&i.list));
+                        black_box(&r);
                     }
                 })
             })),
             Some(Box::new(move |n| {
                 times(n, || {
                     for l in lent {
-                        let _ = black_box(ours::Date::parse(black_box(l)));
+                        let r = ours::Date::parse(black_box(l));
+                        let _ = black_box(&r);
                     }
                 })
             })),
             Some(Box::new(move |n| {
                 times(n, || {
                     for i in inputs {
-                        let _ = black_box(theirs::Date::parse(black_box(&i.chunks)));
+                        let r = theirs::Date::parse(black_box(&i.chunks));
+                        let _ = black_box(&r);
                     }
                 })
             })),
@@ -283,15 +287,16 @@ fn text(of: &str) -> Case {
         sides: [
             Some(Box::new(move |n| {
                 let mut out = [0; 64];
-                times(n, || ());
                 for _ in 0..n {
-                    black_box(raw::write_date(black_box(d.raw), black_box(&mut out)));
+                    let r = raw::write_date(black_box(&d.raw), black_box(&mut out));
+                    black_box(&r);
                 }
             })),
             Some(Box::new(move |n| {
                 let mut out = [0; 64];
                 for _ in 0..n {
-                    let _ = black_box(black_box(&d.ours).write(black_box(&mut out)));
+                    let r = black_box(&d.ours).write(black_box(&mut out));
+                    let _ = black_box(&r);
                 }
             })),
             Some(Box::new(move |n| times(n, || black_box(&d.theirs).to_chunks()))),
@@ -299,7 +304,7 @@ fn text(of: &str) -> Case {
         says: [
             Some(Box::new(move || {
                 let mut out = [0; 64];
-                let w = raw::write_date(d.raw, &mut out);
+                let w = raw::write_date(&d.raw, &mut out);
                 String::from_utf8(out[..w.length].to_vec()).unwrap()
             })),
             Some(Box::new(move || d.ours.to_string())),
@@ -352,13 +357,15 @@ fn fieldset(of: &str) -> Case {
             Some(Box::new(move |n| {
                 let mut out = [0; 128];
                 for _ in 0..n {
-                    black_box(raw::write_fields(black_box(d.raw), black_box(&mut out)));
+                    let r = raw::write_fields(black_box(&d.raw), black_box(&mut out));
+                    black_box(&r);
                 }
             })),
             Some(Box::new(move |n| {
                 let mut out = [0; 128];
                 for _ in 0..n {
-                    let _ = black_box(black_box(&d.ours).write_fields(black_box(&mut out)));
+                    let r = black_box(&d.ours).write_fields(black_box(&mut out));
+                    let _ = black_box(&r);
                 }
             })),
             Some(Box::new(move |n| times(n, || theirs::to_fieldset(black_box(d.theirs))))),

@@ -53,8 +53,24 @@ extern "C" {
         day_table: *const u64,
         day_table_len: usize,
     ) -> Answer;
-    fn knobstream_write_date(date: Date, out: *mut u8, n: usize) -> Written;
-    fn knobstream_write_fields(date: Date, out: *mut u8, n: usize) -> Written;
+    fn knobstream_write_date(
+        first: Datetime,
+        second: Datetime,
+        out: *mut u8,
+        out_len: usize,
+        shape: u8,
+        uncertain: u8,
+        approximate: u8,
+    ) -> Written;
+    fn knobstream_write_fields(
+        first: Datetime,
+        second: Datetime,
+        out: *mut u8,
+        out_len: usize,
+        shape: u8,
+        uncertain: u8,
+        approximate: u8,
+    ) -> Written;
     fn knobstream_compare(first: Datetime, second: Datetime) -> i32;
 }
 
@@ -100,13 +116,33 @@ pub fn parse_three_fields(l: &[List]) -> Answer {
 }
 
 #[inline]
-pub fn write_date(date: Date, out: &mut [u8]) -> Written {
-    unsafe { knobstream_write_date(date, out.as_mut_ptr(), out.len()) }
+pub fn write_date(d: &Date, out: &mut [u8]) -> Written {
+    unsafe {
+        knobstream_write_date(
+            d.first,
+            d.second,
+            out.as_mut_ptr(),
+            out.len(),
+            d.shape,
+            d.uncertain,
+            d.approximate,
+        )
+    }
 }
 
 #[inline]
-pub fn write_fields(date: Date, out: &mut [u8]) -> Written {
-    unsafe { knobstream_write_fields(date, out.as_mut_ptr(), out.len()) }
+pub fn write_fields(d: &Date, out: &mut [u8]) -> Written {
+    unsafe {
+        knobstream_write_fields(
+            d.first,
+            d.second,
+            out.as_mut_ptr(),
+            out.len(),
+            d.shape,
+            d.uncertain,
+            d.approximate,
+        )
+    }
 }
 
 #[inline]

@@ -78,8 +78,24 @@ extern "C" {
         day_table: *const u64,
         day_table_len: usize,
     ) -> Answer;
-    fn knobstream_write_date(date: Date, out: *mut u8, out_len: usize) -> Written;
-    fn knobstream_write_fields(date: Date, out: *mut u8, out_len: usize) -> Written;
+    fn knobstream_write_date(
+        first: Datetime,
+        second: Datetime,
+        out: *mut u8,
+        out_len: usize,
+        shape: u8,
+        uncertain: u8,
+        approximate: u8,
+    ) -> Written;
+    fn knobstream_write_fields(
+        first: Datetime,
+        second: Datetime,
+        out: *mut u8,
+        out_len: usize,
+        shape: u8,
+        uncertain: u8,
+        approximate: u8,
+    ) -> Written;
     fn knobstream_compare(first: Datetime, second: Datetime) -> i32;
 }
 
@@ -130,16 +146,36 @@ pub fn parse_three_fields(year: List, month: Option<List>, day: Option<List>) ->
     }
 }
 
-pub fn write_date(date: Date, out: &mut [u8]) -> Result<&str, u8> {
+pub fn write_date(d: Date, out: &mut [u8]) -> Result<&str, u8> {
     // SAFETY: `out` is readable and writable for the call, which keeps nothing
     // of it and stores within it alone.
-    let w = unsafe { knobstream_write_date(date, out.as_mut_ptr(), out.len()) };
+    let w = unsafe {
+        knobstream_write_date(
+            d.first,
+            d.second,
+            out.as_mut_ptr(),
+            out.len(),
+            d.shape,
+            d.uncertain,
+            d.approximate,
+        )
+    };
     text(w, out)
 }
 
-pub fn write_fields(date: Date, out: &mut [u8]) -> Result<&str, u8> {
+pub fn write_fields(d: Date, out: &mut [u8]) -> Result<&str, u8> {
     // SAFETY: as for `write_date`.
-    let w = unsafe { knobstream_write_fields(date, out.as_mut_ptr(), out.len()) };
+    let w = unsafe {
+        knobstream_write_fields(
+            d.first,
+            d.second,
+            out.as_mut_ptr(),
+            out.len(),
+            d.shape,
+            d.uncertain,
+            d.approximate,
+        )
+    };
     text(w, out)
 }
 

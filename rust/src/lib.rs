@@ -479,15 +479,20 @@ fn datetime(p: &ffi::Datetime) -> Datetime {
     }
 }
 
-fn plain_datetime(d: &Datetime) -> ffi::Datetime {
-    let mut p = ffi::Datetime {
+/// A Datetime without its time.
+fn plain_day(d: &Datetime) -> ffi::Datetime {
+    ffi::Datetime {
         year: d.year,
         has_month: d.month.is_some().into(),
         month: d.month.unwrap_or(0),
         has_day: d.day.is_some().into(),
         day: d.day.unwrap_or(0),
         ..ffi::Datetime::default()
-    };
+    }
+}
+
+fn plain_datetime(d: &Datetime) -> ffi::Datetime {
+    let mut p = plain_day(d);
     if let Some(t) = d.time {
         p.has_time = 1;
         p.hour = t.hour;
@@ -506,18 +511,19 @@ fn plain_datetime(d: &Datetime) -> ffi::Datetime {
     p
 }
 
+/// For the writers, which look at no time, and at the second Datetime of a range with both ends only.
 fn plain_date(d: &Date) -> ffi::Date {
     let (shape, first, second) = match &d.value {
-        DateValue::At(a) => (0, plain_datetime(a), ffi::Datetime::default()),
-        DateValue::After(a) => (1, plain_datetime(a), ffi::Datetime::default()),
-        DateValue::Before(a) => (2, plain_datetime(a), ffi::Datetime::default()),
-        DateValue::Between(a, b) => (3, plain_datetime(a), plain_datetime(b)),
+        DateValue::At(a) => (0, a, a),
+        DateValue::After(a) => (1, a, a),
+        DateValue::Before(a) => (2, a, a),
+        DateValue::Between(a, b) => (3, a, b),
     };
     ffi::Date {
         shape,
         uncertain: d.uncertain.into(),
         approximate: d.approximate.into(),
-        first,
-        second,
+        first: plain_day(first),
+        second: plain_day(second),
     }
 }

@@ -148,9 +148,13 @@ secondOf (After d) = noDatetime
 secondOf (Before d) = noDatetime
 secondOf (Between a b) = datetime b
 
+-- the struct of a Date's parts
+abbrev pub parts : ℕ → ℕ → ℕ → PlainDatetime → PlainDatetime → PlainDate
+parts n u p a b = record { shape = n; uncertain = u; approximate = p; first = a; second = b }
+
 -- a Date of a shape, its Datetimes and its marks
 abbrev pub dateWith : ℕ → PlainDatetime → PlainDatetime → Bool → Bool → PlainDate
-dateWith n a b u p = record { shape = n; uncertain = flag u; approximate = flag p; first = a; second = b }
+dateWith n a b u p = parts n (flag u) (flag p) a b
 
 -- a Date
 abbrev pub date : Date → PlainDate
@@ -158,7 +162,7 @@ date d = dateWith (shapeOf (d .value)) (firstOf (d .value)) (secondOf (d .value)
 
 -- where there is no Date, all numbers are 0
 abbrev pub noDate : PlainDate
-noDate = record { shape = 0; uncertain = 0; approximate = 0; first = noDatetime; second = noDatetime }
+noDate = parts 0 0 0 noDatetime noDatetime
 
 -- a Date that was read: refusal 0, and place 0, 0
 abbrev pub accepted : PlainDate → PlainRead

@@ -712,23 +712,50 @@ pub extern "C" fn knobstream_parse_three_fields(
     ))
 }
 
-// The text of a Date, at the front of the lent buffer; a refusal stores nothing.
+// The text of a Date, at the front of the lent buffer; a refusal stores nothing. The Date is passed part by part: so its Datetimes go in
+// registers.
 #[no_mangle]
-pub extern "C" fn knobstream_write_date(date: PlainDate, out: &mut [u8]) -> PlainWritten
-    ensures { λ r. ⌜ r ≡ plain.written (answer (panics (back.dateOf date)) (dateText (back.dateOf date)) (length (now (out .entry)))) ⌝ }
-    ensures { λ r. ⌜ now (out .exit) ≡ afterwards (panics (back.dateOf date)) (dateText (back.dateOf date)) (now (out .entry)) ⌝ }
+pub extern "C" fn knobstream_write_date(
+    first: PlainDatetime,
+    second: PlainDatetime,
+    out: &mut [u8],
+    shape: u8,
+    uncertain: u8,
+    approximate: u8,
+) -> PlainWritten
+    ensures { λ r. ⌜ r ≡ plain.written (answer (panics (back.dateOf (plain.parts shape uncertain approximate first second))) (dateText (back.dateOf (plain.parts shape uncertain approximate first second))) (length (now (out .entry)))) ⌝ }
+    ensures { λ r. ⌜ now (out .exit) ≡ afterwards (panics (back.dateOf (plain.parts shape uncertain approximate first second))) (dateText (back.dateOf (plain.parts shape uncertain approximate first second))) (now (out .entry)) ⌝ }
 {
-    let d = date_of(date);
+    let d = date_of(PlainDate {
+        shape,
+        uncertain,
+        approximate,
+        first,
+        second,
+    });
     plain_written(writer::write_date(d, out))
 }
 
-// The fields of a Date as lines, at the front of the lent buffer; a refusal stores nothing.
+// The fields of a Date as lines, likewise.
 #[no_mangle]
-pub extern "C" fn knobstream_write_fields(date: PlainDate, out: &mut [u8]) -> PlainWritten
-    ensures { λ r. ⌜ r ≡ plain.written (answer (panics (back.dateOf date)) (fieldsText (back.dateOf date)) (length (now (out .entry)))) ⌝ }
-    ensures { λ r. ⌜ now (out .exit) ≡ afterwards (panics (back.dateOf date)) (fieldsText (back.dateOf date)) (now (out .entry)) ⌝ }
+pub extern "C" fn knobstream_write_fields(
+    first: PlainDatetime,
+    second: PlainDatetime,
+    out: &mut [u8],
+    shape: u8,
+    uncertain: u8,
+    approximate: u8,
+) -> PlainWritten
+    ensures { λ r. ⌜ r ≡ plain.written (answer (panics (back.dateOf (plain.parts shape uncertain approximate first second))) (fieldsText (back.dateOf (plain.parts shape uncertain approximate first second))) (length (now (out .entry)))) ⌝ }
+    ensures { λ r. ⌜ now (out .exit) ≡ afterwards (panics (back.dateOf (plain.parts shape uncertain approximate first second))) (fieldsText (back.dateOf (plain.parts shape uncertain approximate first second))) (now (out .entry)) ⌝ }
 {
-    let d = date_of(date);
+    let d = date_of(PlainDate {
+        shape,
+        uncertain,
+        approximate,
+        first,
+        second,
+    });
     plain_written(writer::write_fields(d, out))
 }
 
