@@ -19,6 +19,20 @@ pub use frame::{Options, Oracle, BAD_FRAME, MAX_FRAME, PORTED, STRICT, THREE_FIE
 #[doc(hidden)]
 pub use scanner::Scanner;
 
+/// The published code itself, for measuring.
+#[doc(hidden)]
+pub mod published {
+    pub use crate::chunk::Chunk;
+    pub use crate::date::{Date, DateValue, Datetime, Time, TimeOffset};
+    pub use crate::types::{Type, TypeError, TypeErrorKind};
+    pub use crate::Spanned;
+
+    /// The fields of a date, which the published code keeps to itself.
+    pub fn to_fieldset(date: Date) -> Vec<(String, String)> {
+        date.to_fieldset()
+    }
+}
+
 use types::{Type, TypeError, TypeErrorKind};
 
 /// Which scanner the published files were built with.

@@ -16,7 +16,7 @@ use Rattle.dates.specs.declared.DateValue.{DateValue}
 use Rattle.dates.specs.declared.DateValue.the-variants.{At, After, Before, Between}
 use Rattle.dates.specs.declared.Date.{Date}
 use Rattle.knobstream.specs.Plain.{hasMonth, monthNumber, hasDay, dayNumber, offsetSort, shiftOf, hoursOf, minutesOf, flag, datetime, date}
-use Rattle.knobstream.specs.Back.{isSet, monthOf, dayOf, offsetOf, timeOf, datetimeOf, valueOf, dateOf}
+use Rattle.knobstream.specs.Back.{isSet, monthOf, dayOf, offsetOf, timeOf, datetimeOf, valueOf, dateBy, dateOf}
 
 flag-back : (b : Bool) → isSet (flag b) ≡ b
 unfolding isSet
@@ -49,7 +49,7 @@ pub datetime-back : (d : Datetime) → datetimeOf (datetime d) ≡ d
 unfolding datetimeOf
 datetime-back d = rw (month-back (d .month), day-back (d .day), time-back d (d .time) refl)
 
-value-back : (d : Date) (v : DateValue) → d .value ≡ v → valueOf (date d) ≡ v
+value-back : (d : Date) (v : DateValue) → d .value ≡ v → valueOf datetimeOf (date d) ≡ v
 unfolding valueOf pick
 value-back d (At a) e = rw (e, datetime-back a)
 value-back d (After a) e = rw (e, datetime-back a)
@@ -57,5 +57,5 @@ value-back d (Before a) e = rw (e, datetime-back a)
 value-back d (Between a b) e = rw (e, datetime-back a, datetime-back b)
 
 pub date-back : (d : Date) → dateOf (date d) ≡ d
-unfolding dateOf
+unfolding dateBy
 date-back d = rw (value-back d (d .value) refl, flag-back (d .uncertain), flag-back (d .approximate))

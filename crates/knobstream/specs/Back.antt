@@ -49,13 +49,21 @@ timeOf p =
 unfoldable pub datetimeOf : PlainDatetime → Datetime
 datetimeOf p = datetime (p .year) (monthOf (p .«has_month») (p .month)) (dayOf (p .«has_day») (p .day)) (timeOf p)
 
--- the point or range: 0 At, 1 After, 2 Before, every other number Between; only Between looks at the second
-unfoldable pub valueOf : PlainDate → DateValue
-valueOf p =
-    pick (eqb (p .shape) 0) (At (datetimeOf (p .first)))
-    (pick (eqb (p .shape) 1) (After (datetimeOf (p .first)))
-    (pick (eqb (p .shape) 2) (Before (datetimeOf (p .first))) (Between (datetimeOf (p .first)) (datetimeOf (p .second)))))
+-- the point or range, by what its Datetimes mean: 0 At, 1 After, 2 Before, every other number Between; only Between looks at the second
+unfoldable pub valueOf : (PlainDatetime → Datetime) → PlainDate → DateValue
+valueOf by p =
+    pick (eqb (p .shape) 0) (At (by (p .first)))
+    (pick (eqb (p .shape) 1) (After (by (p .first)))
+    (pick (eqb (p .shape) 2) (Before (by (p .first))) (Between (by (p .first)) (by (p .second)))))
+
+-- the Date, likewise
+unfoldable pub dateBy : (PlainDatetime → Datetime) → PlainDate → Date
+dateBy by p = date (valueOf by p) (isSet (p .uncertain)) (isSet (p .approximate))
 
 -- the Date
-unfoldable pub dateOf : PlainDate → Date
-dateOf p = date (valueOf p) (isSet (p .uncertain)) (isSet (p .approximate))
+abbrev pub dateOf : PlainDate → Date
+dateOf p = dateBy datetimeOf p
+
+-- a Datetime without its time. No public contract rests on it: the writers look at no time
+unfoldable pub dayOnly : PlainDatetime → Datetime
+dayOnly p = datetime (p .year) (monthOf (p .«has_month») (p .month)) (dayOf (p .«has_day») (p .day)) NoTime

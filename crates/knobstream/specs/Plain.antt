@@ -148,24 +148,29 @@ secondOf (After d) = noDatetime
 secondOf (Before d) = noDatetime
 secondOf (Between a b) = datetime b
 
+-- the struct of a Date's parts
+abbrev pub parts : ℕ → ℕ → ℕ → PlainDatetime → PlainDatetime → PlainDate
+parts n u p a b = record { shape = n; uncertain = u; approximate = p; first = a; second = b }
+
+-- a Date of a shape, its Datetimes and its marks
+abbrev pub dateWith : ℕ → PlainDatetime → PlainDatetime → Bool → Bool → PlainDate
+dateWith n a b u p = parts n (flag u) (flag p) a b
+
 -- a Date
 abbrev pub date : Date → PlainDate
-date d =
-    record {
-      shape = shapeOf (d .value);
-      uncertain = flag (d .uncertain);
-      approximate = flag (d .approximate);
-      first = firstOf (d .value);
-      second = secondOf (d .value);
-    }
+date d = dateWith (shapeOf (d .value)) (firstOf (d .value)) (secondOf (d .value)) (d .uncertain) (d .approximate)
 
 -- where there is no Date, all numbers are 0
 abbrev pub noDate : PlainDate
-noDate = record { shape = 0; uncertain = 0; approximate = 0; first = noDatetime; second = noDatetime }
+noDate = parts 0 0 0 noDatetime noDatetime
 
--- what a reader answers: the Date with refusal 0 and place 0, 0, or no Date with the refusal's number and place
+-- a Date that was read: refusal 0, and place 0, 0
+abbrev pub accepted : PlainDate → PlainRead
+accepted p = record { start = 0; end = 0; date = p; refusal = 0 }
+
+-- what a reader answers: the Date, or no Date with the refusal's number and place
 abbrev pub read : ReadDate → PlainRead
-read (Accepted d) = record { start = 0; end = 0; date = date d; refusal = 0 }
+read (Accepted d) = accepted (date d)
 read (Refused e) = record { start = e .place .0; end = e .place .1; date = noDate; refusal = number (e .kind) }
 
 -- what a writer answers: how many bytes were stored with refusal 0, or 0 with the refusal's number

@@ -1,7 +1,13 @@
 // The calls for C and Rust, over numbers, lent slices and plain structs. None has a `requires`: every number and every slice is taken, the
 // empty slice with a null pointer too.
+// A struct is returned arm by arm where its parts would else meet again in registers, and a usual text is read at once, without formatting.
 ghost use mathlib.Core.Path.{_≡_};
-ghost use lib.ListN.{length};
+ghost use mathlib.Core.List.{[], _∷_};
+ghost use Prim.Native.Nat.{_<_};
+ghost use lib.ListN.{length, getD};
+ghost use lib.IntN.{pos};
+ghost use Rattle.chars.specs.Classes.{isAsciiDigit};
+ghost use Rattle.strict.specs.Ascii.{digits};
 ghost use Rattle.reader.specs.Field.{parsed, parsedStrict};
 ghost use Rattle.reader.specs.Fields.{threeFields};
 ghost use Rattle.order.specs.Order.{order};
@@ -10,6 +16,7 @@ ghost use Rattle.writer.specs.Fields.{fieldsText};
 ghost use Rattle.writer.specs.Answers.{answer, afterwards};
 ghost use Rattle.knobstream.specs.Plain as plain;
 ghost use Rattle.knobstream.specs.Back as back;
+ghost use Rattle.knobstream.specs.Quick as quick;
 use datefield::ReadDate;
 use dates::Date;
 use dates::DateValue;
@@ -114,30 +121,6 @@ fn day_number(d: OptionDay) -> u8
     }
 }
 
-fn has_time(t: OptionTime) -> u8
-    ensures { λ r. ⌜ r ≡ plain.hasTime t ⌝ }
-{
-    match t {
-        OptionTime::NoTime => 0,
-        OptionTime::SomeTime(_) => 1,
-    }
-}
-
-// The time, or midnight without an offset.
-fn clock_of(t: OptionTime) -> Time
-    ensures { λ r. ⌜ r ≡ plain.clockOf t ⌝ }
-{
-    match t {
-        OptionTime::NoTime => Time {
-            hour: 0,
-            minute: 0,
-            second: 0,
-            offset: OptionOffset::NoOffset,
-        },
-        OptionTime::SomeTime(x) => x,
-    }
-}
-
 fn sort_of(o: TimeOffset) -> u8
     ensures { λ r. ⌜ r ≡ plain.sortOf o ⌝ }
 {
@@ -202,22 +185,41 @@ fn plain_datetime(d: Datetime) -> PlainDatetime
     let month = d.month;
     let day = d.day;
     let time = d.time;
-    let t = clock_of(time);
-    let offset = t.offset;
-    let o = shift_of(offset);
-    PlainDatetime {
-        year: d.year,
-        has_month: has_month(month),
-        month: month_number(month),
-        has_day: has_day(day),
-        day: day_number(day),
-        has_time: has_time(time),
-        hour: t.hour,
-        minute: t.minute,
-        second: t.second,
-        offset: offset_sort(offset),
-        offset_hours: hours_of(o),
-        offset_minutes: minutes_of(o),
+    match time {
+        OptionTime::NoTime => {
+            return PlainDatetime {
+                year: d.year,
+                has_month: has_month(month),
+                month: month_number(month),
+                has_day: has_day(day),
+                day: day_number(day),
+                has_time: 0,
+                hour: 0,
+                minute: 0,
+                second: 0,
+                offset: 0,
+                offset_hours: 0,
+                offset_minutes: 0,
+            };
+        }
+        OptionTime::SomeTime(t) => {
+            let offset = t.offset;
+            let o = shift_of(offset);
+            return PlainDatetime {
+                year: d.year,
+                has_month: has_month(month),
+                month: month_number(month),
+                has_day: has_day(day),
+                day: day_number(day),
+                has_time: 1,
+                hour: t.hour,
+                minute: t.minute,
+                second: t.second,
+                offset: offset_sort(offset),
+                offset_hours: hours_of(o),
+                offset_minutes: minutes_of(o),
+            };
+        }
     }
 }
 
@@ -240,52 +242,6 @@ fn no_datetime() -> PlainDatetime
     }
 }
 
-fn shape_of(v: DateValue) -> u8
-    ensures { λ r. ⌜ r ≡ plain.shapeOf v ⌝ }
-{
-    match v {
-        DateValue::At(_) => 0,
-        DateValue::After(_) => 1,
-        DateValue::Before(_) => 2,
-        DateValue::Between(_, _) => 3,
-    }
-}
-
-fn first_of(v: DateValue) -> PlainDatetime
-    ensures { λ r. ⌜ r ≡ plain.firstOf v ⌝ }
-{
-    match v {
-        DateValue::At(d) => plain_datetime(d),
-        DateValue::After(d) => plain_datetime(d),
-        DateValue::Before(d) => plain_datetime(d),
-        DateValue::Between(a, _) => plain_datetime(a),
-    }
-}
-
-fn second_of(v: DateValue) -> PlainDatetime
-    ensures { λ r. ⌜ r ≡ plain.secondOf v ⌝ }
-{
-    match v {
-        DateValue::At(_) => no_datetime(),
-        DateValue::After(_) => no_datetime(),
-        DateValue::Before(_) => no_datetime(),
-        DateValue::Between(_, b) => plain_datetime(b),
-    }
-}
-
-fn plain_date(d: Date) -> PlainDate
-    ensures { λ r. ⌜ r ≡ plain.date d ⌝ }
-{
-    let v = d.value;
-    PlainDate {
-        shape: shape_of(v),
-        uncertain: flag(d.uncertain),
-        approximate: flag(d.approximate),
-        first: first_of(v),
-        second: second_of(v),
-    }
-}
-
 fn no_date() -> PlainDate
     ensures { λ r. ⌜ r ≡ plain.noDate ⌝ }
 {
@@ -298,24 +254,71 @@ fn no_date() -> PlainDate
     }
 }
 
+// What a reader answers that read a Date with one Datetime.
+fn read_one(shape: u8, a: Datetime, uncertain: bool, approximate: bool) -> PlainRead
+    ensures { λ r. ⌜ r ≡ plain.accepted (plain.dateWith shape (plain.datetime a) plain.noDatetime uncertain approximate) ⌝ }
+{
+    PlainRead {
+        start: 0,
+        end: 0,
+        date: PlainDate {
+            shape,
+            uncertain: flag(uncertain),
+            approximate: flag(approximate),
+            first: plain_datetime(a),
+            second: no_datetime(),
+        },
+        refusal: 0,
+    }
+}
+
+// The same with two.
+fn read_two(a: Datetime, b: Datetime, uncertain: bool, approximate: bool) -> PlainRead
+    ensures { λ r. ⌜ r ≡ plain.accepted (plain.dateWith 3 (plain.datetime a) (plain.datetime b) uncertain approximate) ⌝ }
+{
+    PlainRead {
+        start: 0,
+        end: 0,
+        date: PlainDate {
+            shape: 3,
+            uncertain: flag(uncertain),
+            approximate: flag(approximate),
+            first: plain_datetime(a),
+            second: plain_datetime(b),
+        },
+        refusal: 0,
+    }
+}
+
 fn plain_read(r: ReadDate) -> PlainRead
     ensures { λ q. ⌜ q ≡ plain.read r ⌝ }
 {
     match r {
-        ReadDate::Accepted(d) => PlainRead {
-            start: 0,
-            end: 0,
-            date: plain_date(d),
-            refusal: 0,
-        },
+        ReadDate::Accepted(d) => {
+            let v = d.value;
+            match v {
+                DateValue::At(a) => {
+                    return read_one(0, a, d.uncertain, d.approximate);
+                }
+                DateValue::After(a) => {
+                    return read_one(1, a, d.uncertain, d.approximate);
+                }
+                DateValue::Before(a) => {
+                    return read_one(2, a, d.uncertain, d.approximate);
+                }
+                DateValue::Between(a, b) => {
+                    return read_two(a, b, d.uncertain, d.approximate);
+                }
+            }
+        }
         ReadDate::Refused(e) => {
             let kind = e.kind;
-            PlainRead {
+            return PlainRead {
                 start: e.place.0,
                 end: e.place.1,
                 date: no_date(),
                 refusal: refusals::number(kind),
-            }
+            };
         }
     }
 }
@@ -414,26 +417,36 @@ fn datetime_of(p: PlainDatetime) -> Datetime
     Datetime::new(p.year, month, day, time)
 }
 
+// The Datetime without its time, which no writer looks at.
+fn day_only(p: PlainDatetime) -> Datetime
+    ensures { λ r. ⌜ r ≡ back.dayOnly p ⌝ }
+{
+    let month = month_of(p.has_month, p.month);
+    let day = day_of(p.has_day, p.day);
+    Datetime::new(p.year, month, day, OptionTime::NoTime)
+}
+
 fn value_of(p: PlainDate) -> DateValue
-    ensures { λ r. ⌜ r ≡ back.valueOf p ⌝ }
+    ensures { λ r. ⌜ r ≡ back.valueOf back.dayOnly p ⌝ }
 {
     let shape = p.shape;
     let first = p.first;
     let second = p.second;
     if shape == 0 {
-        return DateValue::At(datetime_of(first));
+        return DateValue::At(day_only(first));
     }
     if shape == 1 {
-        return DateValue::After(datetime_of(first));
+        return DateValue::After(day_only(first));
     }
     if shape == 2 {
-        return DateValue::Before(datetime_of(first));
+        return DateValue::Before(day_only(first));
     }
-    DateValue::Between(datetime_of(first), datetime_of(second))
+    DateValue::Between(day_only(first), day_only(second))
 }
 
+// The Date without its times.
 fn date_of(p: PlainDate) -> Date
-    ensures { λ r. ⌜ r ≡ back.dateOf p ⌝ }
+    ensures { λ r. ⌜ r ≡ back.dateBy back.dayOnly p ⌝ }
 {
     let value = value_of(p);
     let uncertain = is_set(p.uncertain);
@@ -445,6 +458,186 @@ fn date_of(p: PlainDate) -> Date
     }
 }
 
+// ---- usual texts, read at once
+
+// A point in the form that Dates are written in, if the text is one.
+enum QuickPoint {
+    Found(Datetime),
+    NotFound,
+}
+
+// Two such points with a slash between them.
+enum QuickRange {
+    Both(Datetime, Datetime),
+    NotBoth,
+}
+
+// Whether a list is one Normal chunk.
+fn is_one_normal(bytes: &[u8], table: &[u64]) -> bool
+    ensures { λ r. ⌜ r ≡ quick.oneNormal (now (bytes .entry)) (now (table .entry)) ⌝ }
+{
+    if table.len() == 4 {
+        if table[0] == 0 {
+            return table[1] == bytes.len() as u64;
+        }
+    }
+    false
+}
+
+fn is_digit(b: u8) -> bool
+    ensures { λ r. ⌜ r ≡ isAsciiDigit b ⌝ }
+{
+    48 <= b && b <= 57
+}
+
+// The number that two digits are; 100 for bytes that are none.
+fn two(a: u8, b: u8) -> u8
+    ensures { λ r. ⌜ (r < 100 → a ∷ b ∷ [] ≡ digits 2 r) ⌝ }
+{
+    if is_digit(a) {
+        if is_digit(b) {
+            return (a - 48) * 10 + (b - 48);
+        }
+    }
+    100
+}
+
+fn wide(n: u8) -> u16
+    ensures { λ r. ⌜ r ≡ n ⌝ }
+{
+    n as u16
+}
+
+// The number that four digits are; 10000 for bytes that are none.
+fn four(a: u8, b: u8, c: u8, d: u8) -> u16
+    ensures { λ r. ⌜ (r < 10000 → a ∷ b ∷ c ∷ d ∷ [] ≡ digits 4 r) ⌝ }
+{
+    let high = two(a, b);
+    let low = two(c, d);
+    if high < 100 {
+        if low < 100 {
+            return wide(high) * 100 + wide(low);
+        }
+    }
+    10000
+}
+
+fn year_of(n: u16) -> i32
+    ensures { λ r. ⌜ r ≡ pos n ⌝ }
+{
+    n as i32
+}
+
+// dddd, dddd-mm or dddd-mm-dd.
+fn quick_point(s: &[u8]) -> QuickPoint
+    ensures { λ r. ⌜ quick.Point r (now (s .entry)) ⌝ }
+{
+    let n = s.len();
+    if n < 4 {
+        return QuickPoint::NotFound;
+    }
+    let y = four(s[0], s[1], s[2], s[3]);
+    if 9999 < y {
+        return QuickPoint::NotFound;
+    }
+    let year = year_of(y);
+    if n == 4 {
+        return QuickPoint::Found(Datetime::new(
+            year,
+            OptionMonth::NoMonth,
+            OptionDay::NoDay,
+            OptionTime::NoTime,
+        ));
+    }
+    if n < 7 {
+        return QuickPoint::NotFound;
+    }
+    if s[4] != b'-' {
+        return QuickPoint::NotFound;
+    }
+    let m = two(s[5], s[6]);
+    if m == 0 {
+        return QuickPoint::NotFound;
+    }
+    if 12 < m {
+        return QuickPoint::NotFound;
+    }
+    let month = Month(m - 1);
+    if n == 7 {
+        return QuickPoint::Found(Datetime::new(
+            year,
+            OptionMonth::SomeMonth(month),
+            OptionDay::NoDay,
+            OptionTime::NoTime,
+        ));
+    }
+    if n != 10 {
+        return QuickPoint::NotFound;
+    }
+    if s[7] != b'-' {
+        return QuickPoint::NotFound;
+    }
+    let d = two(s[8], s[9]);
+    if d == 0 {
+        return QuickPoint::NotFound;
+    }
+    if dates::days_in_month(month, year) < d {
+        return QuickPoint::NotFound;
+    }
+    QuickPoint::Found(Datetime::new(
+        year,
+        OptionMonth::SomeMonth(month),
+        OptionDay::SomeDay(Day(d - 1)),
+        OptionTime::NoTime,
+    ))
+}
+
+// Where a slash stands behind such a point, or the end.
+fn slash_of(s: &[u8]) -> usize
+    ensures { λ r. ⌜ (r < length (now (s .entry)) → getD (now (s .entry)) r 0 ≡ 47) ⌝ }
+{
+    let n = s.len();
+    if 4 < n {
+        if s[4] == b'/' {
+            return 4;
+        }
+        if 7 < n {
+            if s[7] == b'/' {
+                return 7;
+            }
+            if 10 < n {
+                if s[10] == b'/' {
+                    return 10;
+                }
+            }
+        }
+    }
+    n
+}
+
+// Two such points with a slash between them.
+fn quick_range(s: &[u8]) -> QuickRange
+    ensures { λ r. ⌜ quick.Range r (now (s .entry)) ⌝ }
+{
+    let k = slash_of(s);
+    if k < s.len() {
+        match quick_point(&s[..k]) {
+            QuickPoint::Found(a) => match quick_point(&s[k + 1..]) {
+                QuickPoint::Found(b) => {
+                    return QuickRange::Both(a, b);
+                }
+                QuickPoint::NotFound => {
+                    return QuickRange::NotBoth;
+                }
+            },
+            QuickPoint::NotFound => {
+                return QuickRange::NotBoth;
+            }
+        }
+    }
+    QuickRange::NotBoth
+}
+
 // ---- the calls
 
 // A date field, read as the Rust reads it.
@@ -452,6 +645,21 @@ fn date_of(p: PlainDate) -> Date
 pub extern "C" fn knobstream_parse(bytes: &[u8], table: &[u64]) -> PlainRead
     ensures { λ r. ⌜ r ≡ plain.read (parsed (now (bytes .entry)) (now (table .entry))) ⌝ }
 {
+    if is_one_normal(bytes, table) {
+        match quick_point(bytes) {
+            QuickPoint::Found(d) => {
+                return read_one(0, d, false, false);
+            }
+            QuickPoint::NotFound => match quick_range(bytes) {
+                QuickRange::Both(a, b) => {
+                    return read_two(a, b, false, false);
+                }
+                QuickRange::NotBoth => {
+                    return plain_read(reader::parse(bytes, table));
+                }
+            },
+        }
+    }
     plain_read(reader::parse(bytes, table))
 }
 
@@ -460,6 +668,21 @@ pub extern "C" fn knobstream_parse(bytes: &[u8], table: &[u64]) -> PlainRead
 pub extern "C" fn knobstream_parse_strict(bytes: &[u8], table: &[u64]) -> PlainRead
     ensures { λ r. ⌜ r ≡ plain.read (parsedStrict (now (bytes .entry)) (now (table .entry))) ⌝ }
 {
+    if is_one_normal(bytes, table) {
+        match quick_point(bytes) {
+            QuickPoint::Found(d) => {
+                return read_one(0, d, false, false);
+            }
+            QuickPoint::NotFound => match quick_range(bytes) {
+                QuickRange::Both(a, b) => {
+                    return read_two(a, b, false, false);
+                }
+                QuickRange::NotBoth => {
+                    return plain_read(reader::parse_strict(bytes, table));
+                }
+            },
+        }
+    }
     plain_read(reader::parse_strict(bytes, table))
 }
 
@@ -489,23 +712,50 @@ pub extern "C" fn knobstream_parse_three_fields(
     ))
 }
 
-// The text of a Date, at the front of the lent buffer; a refusal stores nothing.
+// The text of a Date, at the front of the lent buffer; a refusal stores nothing. The Date is passed part by part: so its Datetimes go in
+// registers.
 #[no_mangle]
-pub extern "C" fn knobstream_write_date(date: PlainDate, out: &mut [u8]) -> PlainWritten
-    ensures { λ r. ⌜ r ≡ plain.written (answer (panics (back.dateOf date)) (dateText (back.dateOf date)) (length (now (out .entry)))) ⌝ }
-    ensures { λ r. ⌜ now (out .exit) ≡ afterwards (panics (back.dateOf date)) (dateText (back.dateOf date)) (now (out .entry)) ⌝ }
+pub extern "C" fn knobstream_write_date(
+    first: PlainDatetime,
+    second: PlainDatetime,
+    out: &mut [u8],
+    shape: u8,
+    uncertain: u8,
+    approximate: u8,
+) -> PlainWritten
+    ensures { λ r. ⌜ r ≡ plain.written (answer (panics (back.dateOf (plain.parts shape uncertain approximate first second))) (dateText (back.dateOf (plain.parts shape uncertain approximate first second))) (length (now (out .entry)))) ⌝ }
+    ensures { λ r. ⌜ now (out .exit) ≡ afterwards (panics (back.dateOf (plain.parts shape uncertain approximate first second))) (dateText (back.dateOf (plain.parts shape uncertain approximate first second))) (now (out .entry)) ⌝ }
 {
-    let d = date_of(date);
+    let d = date_of(PlainDate {
+        shape,
+        uncertain,
+        approximate,
+        first,
+        second,
+    });
     plain_written(writer::write_date(d, out))
 }
 
-// The fields of a Date as lines, at the front of the lent buffer; a refusal stores nothing.
+// The fields of a Date as lines, likewise.
 #[no_mangle]
-pub extern "C" fn knobstream_write_fields(date: PlainDate, out: &mut [u8]) -> PlainWritten
-    ensures { λ r. ⌜ r ≡ plain.written (answer (panics (back.dateOf date)) (fieldsText (back.dateOf date)) (length (now (out .entry)))) ⌝ }
-    ensures { λ r. ⌜ now (out .exit) ≡ afterwards (panics (back.dateOf date)) (fieldsText (back.dateOf date)) (now (out .entry)) ⌝ }
+pub extern "C" fn knobstream_write_fields(
+    first: PlainDatetime,
+    second: PlainDatetime,
+    out: &mut [u8],
+    shape: u8,
+    uncertain: u8,
+    approximate: u8,
+) -> PlainWritten
+    ensures { λ r. ⌜ r ≡ plain.written (answer (panics (back.dateOf (plain.parts shape uncertain approximate first second))) (fieldsText (back.dateOf (plain.parts shape uncertain approximate first second))) (length (now (out .entry)))) ⌝ }
+    ensures { λ r. ⌜ now (out .exit) ≡ afterwards (panics (back.dateOf (plain.parts shape uncertain approximate first second))) (fieldsText (back.dateOf (plain.parts shape uncertain approximate first second))) (now (out .entry)) ⌝ }
 {
-    let d = date_of(date);
+    let d = date_of(PlainDate {
+        shape,
+        uncertain,
+        approximate,
+        first,
+        second,
+    });
     plain_written(writer::write_fields(d, out))
 }
 

@@ -1,4 +1,4 @@
-use Rattle.knobstream.specs.Back.{dateOf}
+use Rattle.knobstream.specs.Back.{dateBy}
 use borrow.Author.Needs.{needs}
 use Rattle.knobstream.proofs.date_of.Statement.{statement}
 use Rattle.knobstream.proofs.date_of.Tie as tie
@@ -13,7 +13,7 @@ is-set-requires-2 : tie.Need-is-set-requires-2
 is-set-requires-2 c κs = search needs
 
 returns : tie.Need-returns
-unfolding dateOf
+unfolding dateBy
 returns c =
     let b1 = c .before in
     let b2 = b1 .before in

@@ -1,5 +1,7 @@
-use Rattle.writer.specs.Texts.{dateText}
-use Rattle.knobstream.proofs.Made.{made-written}
+use Rattle.knobstream.specs.Plain.{parts}
+use Rattle.writer.specs.Texts.{panics, dateText}
+use mathlib.Core.Path.{ap, _∙_}
+use Rattle.knobstream.proofs.Made.{made-written, same-panics, same-text}
 use borrow.Author.Needs.{needs}
 use Rattle.knobstream.proofs.knobstream_write_date.Statement.{statement}
 use Rattle.knobstream.proofs.knobstream_write_date.Tie as tie
@@ -20,7 +22,12 @@ returns : tie.Need-returns
 returns c =
     let b3 = c .before .before .before in
     let b5 = b3 .before .before in
-    made-written dateText (b5 .before .before .args .out .now) (b5 .date-of .ensures) (b3 .write-date .ensures .0, b3 .write-date .ensures .1 .0) (c .plain-written .ensures)
+    let b7 = b5 .before .before in
+    let a = b7 .args in
+    let p = parts (a .shape) (a .uncertain) (a .approximate) (a .first) (a .second) in
+    let l = a .out .now in
+    let e = b5 .date-of .ensures in
+    made-written dateText l (ap panics e ∙ same-panics p) (ap dateText e ∙ same-text p) (b3 .write-date .ensures .0, b3 .write-date .ensures .1 .0) (c .plain-written .ensures)
 
 pub knobstream-write-date-spec : {M : Type 1} → statement M
 knobstream-write-date-spec =

@@ -1,5 +1,8 @@
+use Rattle.knobstream.specs.Plain.{parts}
+use Rattle.writer.specs.Texts.{panics}
+use mathlib.Core.Path.{ap, _∙_}
 use Rattle.writer.specs.Fields.{fieldsText}
-use Rattle.knobstream.proofs.Made.{made-written}
+use Rattle.knobstream.proofs.Made.{made-written, same-panics, same-fields}
 use borrow.Author.Needs.{needs}
 use Rattle.knobstream.proofs.knobstream_write_fields.Statement.{statement}
 use Rattle.knobstream.proofs.knobstream_write_fields.Tie as tie
@@ -20,7 +23,12 @@ returns : tie.Need-returns
 returns c =
     let b3 = c .before .before .before in
     let b5 = b3 .before .before in
-    made-written fieldsText (b5 .before .before .args .out .now) (b5 .date-of .ensures) (b3 .write-fields .ensures) (c .plain-written .ensures)
+    let b7 = b5 .before .before in
+    let a = b7 .args in
+    let p = parts (a .shape) (a .uncertain) (a .approximate) (a .first) (a .second) in
+    let l = a .out .now in
+    let e = b5 .date-of .ensures in
+    made-written fieldsText l (ap panics e ∙ same-panics p) (ap fieldsText e ∙ same-fields p) (b3 .write-fields .ensures) (c .plain-written .ensures)
 
 pub knobstream-write-fields-spec : {M : Type 1} → statement M
 knobstream-write-fields-spec =

@@ -1,15 +1,12 @@
-use Rattle.knobstream.proofs.Made.{made-datetime}
+use Rattle.knobstream.proofs.Made.{made-untimed, made-timed}
 use mir.ValLaws.{toZ-ofZ}
 use mir.Syntax.{w32}
 use borrow.Author.Needs.{needs}
 use Rattle.knobstream.proofs.plain_datetime.Statement.{statement}
 use Rattle.knobstream.proofs.plain_datetime.Tie as tie
 
-clock-of-requires : tie.Need-clock-of-requires
-clock-of-requires c κs = search needs
-
-shift-of-requires : tie.Need-shift-of-requires
-shift-of-requires c κs = search needs
+enum-told : tie.Need-enum-told
+enum-told c = search needs
 
 has-month-requires : tie.Need-has-month-requires
 has-month-requires c κs = search needs
@@ -23,8 +20,33 @@ has-day-requires c κs = search needs
 day-number-requires : tie.Need-day-number-requires
 day-number-requires c κs = search needs
 
-has-time-requires : tie.Need-has-time-requires
-has-time-requires c κs = search needs
+returns : tie.Need-returns
+returns c =
+    let b1 = c .before in
+    let b2 = b1 .before in
+    let b3 = b2 .before in
+    let b4 = b3 .before in
+    let b5 = b4 .before in
+    let b7 = b5 .before .before in
+    made-untimed (b7 .args .d) (toZ-ofZ w32 (b7 .args .d .year) (record { sfits = c .struct-told .given .0 .1 })) (b4 .has-month .ensures) (b3 .month-number .ensures) (b2 .has-day .ensures) (b1 .day-number .ensures) (b5 .enum-told .given .1)
+
+enum-known-time : tie.Need-enum-known-time
+enum-known-time c = search needs
+
+shift-of-requires : tie.Need-shift-of-requires
+shift-of-requires c κs = search needs
+
+has-month-requires-2 : tie.Need-has-month-requires-2
+has-month-requires-2 c κs = search needs
+
+month-number-requires-2 : tie.Need-month-number-requires-2
+month-number-requires-2 c κs = search needs
+
+has-day-requires-2 : tie.Need-has-day-requires-2
+has-day-requires-2 c κs = search needs
+
+day-number-requires-2 : tie.Need-day-number-requires-2
+day-number-requires-2 c κs = search needs
 
 offset-sort-requires : tie.Need-offset-sort-requires
 offset-sort-requires c κs = search needs
@@ -35,8 +57,8 @@ hours-of-requires c κs = search needs
 minutes-of-requires : tie.Need-minutes-of-requires
 minutes-of-requires c κs = search needs
 
-returns : tie.Need-returns
-returns c =
+returns-2 : tie.Need-returns-2
+returns-2 c =
     let b1 = c .before in
     let b2 = b1 .before in
     let b3 = b2 .before in
@@ -45,23 +67,27 @@ returns c =
     let b6 = b5 .before in
     let b7 = b6 .before in
     let b8 = b7 .before in
-    let b9 = b8 .before in
-    let b10 = b9 .before in
-    let d = b10 .before .args .d in
-    made-datetime d (toZ-ofZ w32 (d .year) (record { sfits = c .struct-told .given .0 .1 })) (b10 .clock-of .ensures) (b9 .shift-of .ensures) (b8 .has-month .ensures) (b7 .month-number .ensures) (b6 .has-day .ensures) (b5 .day-number .ensures) (b4 .has-time .ensures) (b3 .offset-sort .ensures) (b2 .hours-of .ensures) (b1 .minutes-of .ensures)
+    let b10 = b8 .before .before in
+    let b12 = b10 .before .before in
+    made-timed (b12 .args .d) (toZ-ofZ w32 (b12 .args .d .year) (record { sfits = c .struct-told2 .given .0 .1 })) (b7 .has-month2 .ensures) (b6 .month-number2 .ensures) (b5 .has-day2 .ensures) (b4 .day-number2 .ensures) (b10 .time .given .1) (b8 .shift-of .ensures) (b3 .offset-sort .ensures) (b2 .hours-of .ensures) (b1 .minutes-of .ensures)
 
 pub plain-datetime-spec : {M : Type 1} → statement M
 plain-datetime-spec =
     tie.close
     (tie.spec
-    clock-of-requires
-    shift-of-requires
+    enum-told
     has-month-requires
     month-number-requires
     has-day-requires
     day-number-requires
-    has-time-requires
+    returns
+    enum-known-time
+    shift-of-requires
+    has-month-requires-2
+    month-number-requires-2
+    has-day-requires-2
+    day-number-requires-2
     offset-sort-requires
     hours-of-requires
     minutes-of-requires
-    returns)
+    returns-2)

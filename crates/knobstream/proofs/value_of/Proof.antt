@@ -5,27 +5,27 @@ use borrow.Author.Needs.{needs}
 use Rattle.knobstream.proofs.value_of.Statement.{statement}
 use Rattle.knobstream.proofs.value_of.Tie as tie
 
-datetime-of-requires : tie.Need-datetime-of-requires
-datetime-of-requires c κs = search needs
+day-only-requires : tie.Need-day-only-requires
+day-only-requires c κs = search needs
 
 returns : tie.Need-returns
 unfolding valueOf pick
 returns c =
     let b1 = c .before in
-    simp (eq-eqb _ _ (b1 .if1 .taken), ← c .datetime-of .ensures)
+    simp (eq-eqb _ _ (b1 .if1 .taken), ← c .day-only .ensures)
 
-datetime-of-requires-2 : tie.Need-datetime-of-requires-2
-datetime-of-requires-2 c κs = search needs
+day-only-requires-2 : tie.Need-day-only-requires-2
+day-only-requires-2 c κs = search needs
 
 returns-2 : tie.Need-returns-2
 unfolding valueOf pick
 returns-2 c =
     let b1 = c .before in
     let b2 = b1 .before in
-    simp (ne-eqb _ _ (b2 .if1 .left), eq-eqb _ _ (b1 .if2 .taken), ← c .datetime-of2 .ensures)
+    simp (ne-eqb _ _ (b2 .if1 .left), eq-eqb _ _ (b1 .if2 .taken), ← c .day-only2 .ensures)
 
-datetime-of-requires-3 : tie.Need-datetime-of-requires-3
-datetime-of-requires-3 c κs = search needs
+day-only-requires-3 : tie.Need-day-only-requires-3
+day-only-requires-3 c κs = search needs
 
 returns-3 : tie.Need-returns-3
 unfolding valueOf pick
@@ -33,13 +33,13 @@ returns-3 c =
     let b1 = c .before in
     let b2 = b1 .before in
     let b3 = b2 .before in
-    simp (ne-eqb _ _ (b3 .if1 .left), ne-eqb _ _ (b2 .if2 .left), eq-eqb _ _ (b1 .if3 .taken), ← c .datetime-of3 .ensures)
+    simp (ne-eqb _ _ (b3 .if1 .left), ne-eqb _ _ (b2 .if2 .left), eq-eqb _ _ (b1 .if3 .taken), ← c .day-only3 .ensures)
 
-datetime-of-requires-4 : tie.Need-datetime-of-requires-4
-datetime-of-requires-4 c κs = search needs
+day-only-requires-4 : tie.Need-day-only-requires-4
+day-only-requires-4 c κs = search needs
 
-datetime-of-requires-5 : tie.Need-datetime-of-requires-5
-datetime-of-requires-5 c κs = search needs
+day-only-requires-5 : tie.Need-day-only-requires-5
+day-only-requires-5 c κs = search needs
 
 returns-4 : tie.Need-returns-4
 unfolding valueOf pick
@@ -48,18 +48,18 @@ returns-4 c =
     let b2 = b1 .before in
     let b3 = b2 .before in
     let b4 = b3 .before in
-    simp (ne-eqb _ _ (b4 .if1 .left), ne-eqb _ _ (b3 .if2 .left), ne-eqb _ _ (b2 .if3 .left), ← b1 .datetime-of4 .ensures, ← c .datetime-of5 .ensures)
+    simp (ne-eqb _ _ (b4 .if1 .left), ne-eqb _ _ (b3 .if2 .left), ne-eqb _ _ (b2 .if3 .left), ← b1 .day-only4 .ensures, ← c .day-only5 .ensures)
 
 pub value-of-spec : {M : Type 1} → statement M
 value-of-spec =
     tie.close
     (tie.spec
-    datetime-of-requires
+    day-only-requires
     returns
-    datetime-of-requires-2
+    day-only-requires-2
     returns-2
-    datetime-of-requires-3
+    day-only-requires-3
     returns-3
-    datetime-of-requires-4
-    datetime-of-requires-5
+    day-only-requires-4
+    day-only-requires-5
     returns-4)

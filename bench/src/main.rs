@@ -1,0 +1,90 @@
+//! Measures this library beside the published Rust of biblatex: the same
+//! inputs, one driver, one run.
+//!
+//!     bench check               the answers of all sides to all inputs are the same
+//!     bench list                the cases, a line each: number, group, name, calls to count
+//!     bench times               a line each: number, ns a call by C, by the crate, by the Rust
+//!     bench run CASE SIDE N     N calls of a side (c, crate, rust), to be counted by callgrind
+
+mod cases;
+mod raw;
+
+use cases::{Case, SIDES};
+use std::time::{Duration, Instant};
+
+fn main() {
+    let args: Vec<String> = std::env::args().skip(1).collect();
+    let cases = cases::all();
+    match args.iter().map(String::as_str).collect::<Vec<_>>()[..] {
+        ["check"] => check(&cases),
+        ["list"] => {
+            for (i, c) in cases.iter().enumerate() {
+                println!("{i}\t{}\t{}\t{}", c.group, c.name, c.counted);
+            }
+        }
+        ["times"] => times(&cases),
+        ["run", case, side, n] => {
+            let side = SIDES.iter().position(|s| *s == side).expect("c, crate or rust");
+            let case = &cases[case.parse::<usize>().expect("a case's number")];
+            if let Some(run) = &case.sides[side] {
+                run(n.parse().expect("a number of calls"));
+            }
+        }
+        _ => {
+            eprintln!("bench check | list | times | run CASE SIDE N");
+            std::process::exit(2);
+        }
+    }
+}
+
+/// Each side says what it answers; what the Rust does not have, it does not say.
+fn check(cases: &[Case]) {
+    let mut wrong = 0;
+    for c in cases {
+        let said: Vec<String> = c.says.iter().flatten().map(|say| say()).collect();
+        if said.windows(2).any(|w| w[0] != w[1]) {
+            println!("different answers to {}, {}: {said:#?}", c.group, c.name);
+            wrong += 1;
+        }
+    }
+    println!("{} cases, {wrong} with different answers", cases.len());
+    if wrong > 0 {
+        std::process::exit(1);
+    }
+}
+
+/// Rounds of a case, each of about this time.
+const ROUND: Duration = Duration::from_micros(100);
+const ROUNDS: usize = 400;
+
+/// The least time of a call, over many short rounds in which the sides take turns.
+fn times(cases: &[Case]) {
+    for (i, c) in cases.iter().enumerate() {
+        let calls = c.sides.each_ref().map(|s| s.as_ref().map_or(0, |run| calls_a_round(run)));
+        let mut least = [f64::INFINITY; 3];
+        for _ in 0..ROUNDS {
+            for (side, run) in c.sides.iter().enumerate() {
+                if let Some(run) = run {
+                    let start = Instant::now();
+                    run(calls[side]);
+                    let ns = start.elapsed().as_nanos() as f64 / calls[side] as f64;
+                    least[side] = least[side].min(ns / c.inputs as f64);
+                }
+            }
+        }
+        let cells = least.map(|ns| if ns.is_finite() { format!("{ns:.1}") } else { "-".into() });
+        println!("{i}\t{}", cells.join("\t"));
+    }
+}
+
+fn calls_a_round(run: &dyn Fn(u64)) -> u64 {
+    let mut calls = 1;
+    loop {
+        let start = Instant::now();
+        run(calls);
+        if start.elapsed() >= ROUND {
+            return calls;
+        }
+        calls *= 2;
+    }
+}

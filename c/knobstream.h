@@ -1,0 +1,207 @@
+/* Reads, writes and compares the dates of bibliographies. The functions are
+ * in libknobstream.a, for x86-64 Linux; their contracts are in
+ * crates/knobstream/src/lib.rt, and each is proved.
+ *
+ * What is lent. A slice is a pointer and a number of elements. It is lent for
+ * the one call: nothing of it is kept, and nothing but `out` is stored to. An
+ * empty slice may have any pointer, NULL too. Structs go in and come out by
+ * value, so there is nothing to free.
+ *
+ * No call allocates, keeps state, takes a lock or traps: every number and
+ * every byte has an answer. Calls may run at once in any number of threads, if
+ * no two of them have the same `out`. A reader takes 6 KiB of stack at most, a
+ * writer and a comparison 512 bytes (docs/BENCHMARKS.md says how that was
+ * found).
+ *
+ * What the caller owes: a pointer that is readable (for `out` writable) for as
+ * many elements as are said, a table that is aligned as uint64_t is, and
+ * structs whose members have values.
+ */
+#ifndef KNOBSTREAM_H
+#define KNOBSTREAM_H
+
+#include <stddef.h>
+#include <stdint.h>
+
+#ifdef __cplusplus
+extern "C" {
+#endif
+
+/* Why a call refuses. 0 is no refusal. */
+enum {
+    KNOBSTREAM_OK = 0,
+    KNOBSTREAM_UNDEFINED_RANGE = 1,       /* a range that is open on both sides */
+    KNOBSTREAM_DAY_OUT_OF_RANGE = 2,      /* no day of a month, or not of its month */
+    KNOBSTREAM_MONTH_OUT_OF_RANGE = 3,    /* not one of twelve */
+    KNOBSTREAM_INVALID_NUMBER = 4,        /* no number, or not in its range */
+    KNOBSTREAM_MISSING_NUMBER = 5,
+    KNOBSTREAM_WRONG_NUMBER_OF_DIGITS = 6,
+    KNOBSTREAM_INVALID_FORMAT = 7,        /* none of the forms that are read */
+    KNOBSTREAM_YEAR_ZERO_CE = 8,          /* a year zero with an era */
+    KNOBSTREAM_RUST_PANICS = 9,           /* the ported code panics on this */
+    KNOBSTREAM_BAD_UTF8 = 10,
+    KNOBSTREAM_UNSUPPORTED_CHAR = 11,     /* a character above U+00FF */
+    KNOBSTREAM_NOT_STRICT = 12,           /* no text of the strict grammar */
+    KNOBSTREAM_NO_ROOM = 13,              /* `out` is too short */
+    KNOBSTREAM_BAD_FRAME = 14,
+    KNOBSTREAM_BAD_CHUNKS = 15,           /* the table does not fit the bytes */
+    KNOBSTREAM_TOO_LONG = 16              /* over 64 chunks or 4,096 bytes */
+};
+
+/* The name of a refusal; "" for a number that is none. */
+static inline const char *knobstream_refusal_name(unsigned refusal)
+{
+    static const char *const names[] = {
+        "",
+        "UndefinedRange",
+        "DayOutOfRange",
+        "MonthOutOfRange",
+        "InvalidNumber",
+        "MissingNumber",
+        "WrongNumberOfDigits",
+        "InvalidFormat",
+        "YearZeroCE",
+        "RustPanics",
+        "BadUtf8",
+        "UnsupportedChar",
+        "NotStrict",
+        "NoRoom",
+        "BadFrame",
+        "BadChunks",
+        "TooLong",
+    };
+    return refusal < sizeof names / sizeof *names ? names[refusal] : "";
+}
+
+/* The limits of a chunk list, and the room that every written text and all
+ * written fields have enough of. */
+enum {
+    KNOBSTREAM_MAX_CHUNKS = 64,
+    KNOBSTREAM_MAX_BYTES = 4096,
+    KNOBSTREAM_TEXT_ROOM = 40,
+    KNOBSTREAM_FIELDS_ROOM = 79
+};
+
+/* The kinds of a chunk. */
+enum { KNOBSTREAM_NORMAL = 0, KNOBSTREAM_VERBATIM = 1, KNOBSTREAM_MATH = 2 };
+
+/* The offset of a time. A number above 3 counts as KNOBSTREAM_BEHIND_UTC. */
+enum {
+    KNOBSTREAM_NO_OFFSET = 0,
+    KNOBSTREAM_UTC = 1,
+    KNOBSTREAM_AHEAD_OF_UTC = 2,
+    KNOBSTREAM_BEHIND_UTC = 3
+};
+
+/* A year, and a month, a day and a time as far as they are there. A part is
+ * absent if its `has_` is 0; what then stands in it is not looked at, and a
+ * reader puts 0 there. */
+typedef struct {
+    int32_t year; /* 1 BC is 0, 2 BC is -1 */
+    uint8_t has_month, month; /* January is 0 */
+    uint8_t has_day, day; /* the first is 0 */
+    uint8_t has_time, hour, minute, second;
+    uint8_t offset, offset_hours, offset_minutes;
+} knobstream_datetime;
+
+/* The shape of a date: a point, a range with an open end, one with an open
+ * start, one with both ends. A number above 3 counts as KNOBSTREAM_BETWEEN. */
+enum {
+    KNOBSTREAM_AT = 0,
+    KNOBSTREAM_AFTER = 1,
+    KNOBSTREAM_BEFORE = 2,
+    KNOBSTREAM_BETWEEN = 3
+};
+
+/* A date or a range of dates. Only KNOBSTREAM_BETWEEN has a `second`; in any
+ * other it is not looked at, and a reader puts zeros there. A mark is set if it
+ * is not 0. */
+typedef struct {
+    uint8_t shape, uncertain, approximate;
+    knobstream_datetime first, second;
+} knobstream_date;
+
+/* What a reader answers. If `refusal` is 0, `date` is the date and the place is
+ * 0, 0. Else `refusal` says why there is none and [start, end) where, in bytes
+ * of the file; `date` is all zeros. 9 and 12 to 16 name no place: 0, 0. */
+typedef struct {
+    uint64_t start, end;
+    knobstream_date date;
+    uint8_t refusal;
+} knobstream_answer;
+
+/* What a writer answers. If `refusal` is 0, the first `length` bytes of `out`
+ * are the text, without a NUL, and the bytes behind it are as they were. Else
+ * `length` is 0 and `out` is as it was. */
+typedef struct {
+    size_t length;
+    uint8_t refusal;
+} knobstream_written;
+
+/* A chunk list is its text, chunk behind chunk, and a table of four numbers a
+ * chunk: kind, length in bytes, and where it starts and ends in the file. So
+ * the text "2000" at 7 to 11 of a file is the bytes "2000" and the table
+ * { KNOBSTREAM_NORMAL, 4, 7, 11 }; `table_len` counts numbers, 4 here. */
+
+/* A date field, as the Rust crate biblatex reads it: "49" is 2049, "0049" is
+ * the year 49. */
+knobstream_answer knobstream_parse(
+    const uint8_t *bytes, size_t bytes_len,
+    const uint64_t *table, size_t table_len);
+
+/* A date field by the strict grammar alone: "49" is refused. */
+knobstream_answer knobstream_parse_strict(
+    const uint8_t *bytes, size_t bytes_len,
+    const uint64_t *table, size_t table_len);
+
+/* The fields year, month and day: the year field "49" is the year 49. If
+ * `has_month` or `has_day` is 0, that field is absent, and what is passed for
+ * it is not looked at; nor is a day field without a month field. */
+knobstream_answer knobstream_parse_three_fields(
+    const uint8_t *year, size_t year_len,
+    const uint64_t *year_table, size_t year_table_len,
+    uint8_t has_month,
+    const uint8_t *month, size_t month_len,
+    const uint64_t *month_table, size_t month_table_len,
+    uint8_t has_day,
+    const uint8_t *day, size_t day_len,
+    const uint64_t *day_table, size_t day_table_len);
+
+/* The text of a date, at the front of `out`: "2000-02-29", "1999/2003~". The
+ * date is passed part by part, so that it goes in registers. */
+knobstream_written knobstream_write_date(
+    knobstream_datetime first, knobstream_datetime second,
+    uint8_t *out, size_t out_len,
+    uint8_t shape, uint8_t uncertain, uint8_t approximate);
+
+/* The fields of a date, likewise: lines "year=2000", "month=02", "day=29", for
+ * a range with both ends also "endyear=2003" and so on, each with a line feed. */
+knobstream_written knobstream_write_fields(
+    knobstream_datetime first, knobstream_datetime second,
+    uint8_t *out, size_t out_len,
+    uint8_t shape, uint8_t uncertain, uint8_t approximate);
+
+/* The same of a date as it was read. */
+static inline knobstream_written knobstream_date_text(
+    const knobstream_date *date, uint8_t *out, size_t out_len)
+{
+    return knobstream_write_date(date->first, date->second, out, out_len,
+                                 date->shape, date->uncertain, date->approximate);
+}
+
+static inline knobstream_written knobstream_date_fields(
+    const knobstream_date *date, uint8_t *out, size_t out_len)
+{
+    return knobstream_write_fields(date->first, date->second, out, out_len,
+                                   date->shape, date->uncertain, date->approximate);
+}
+
+/* How the first stands to the second: -1 less, 0 equal, 1 greater, 2 none of
+ * these, as 2000 and 2000-02, or times of which one has an offset. */
+int32_t knobstream_compare(knobstream_datetime first, knobstream_datetime second);
+
+#ifdef __cplusplus
+}
+#endif
+
+#endif

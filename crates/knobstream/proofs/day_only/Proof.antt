@@ -1,0 +1,28 @@
+use Rattle.knobstream.specs.Back.{dayOnly}
+use mir.ValLaws.{toZ-ofZ}
+use mir.Syntax.{w32}
+use borrow.Author.Needs.{needs}
+use Rattle.knobstream.proofs.day_only.Statement.{statement}
+use Rattle.knobstream.proofs.day_only.Tie as tie
+
+month-of-requires : tie.Need-month-of-requires
+month-of-requires c κs = search needs
+
+day-of-requires : tie.Need-day-of-requires
+day-of-requires c κs = search needs
+
+new-requires : tie.Need-new-requires
+new-requires c κs = search needs
+
+returns : tie.Need-returns
+unfolding dayOnly
+returns c =
+    let b1 = c .before in
+    let b2 = b1 .before in
+    let b3 = b2 .before in
+    let b4 = b3 .before in
+    let e = rw (toZ-ofZ w32 (b4 .args .p .year) (record { sfits = b1 .struct-told .given .0 .1 })) at (c .new .ensures) in
+    simp (← b3 .month-of .ensures, ← b2 .day-of .ensures, ← e)
+
+pub day-only-spec : {M : Type 1} → statement M
+day-only-spec = tie.close (tie.spec month-of-requires day-of-requires new-requires returns)

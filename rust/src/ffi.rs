@@ -1,0 +1,197 @@
+//! The calls of libknobstream.a, as c/knobstream.h has them. All that is
+//! unsafe in this crate stands here.
+
+/// A Datetime as plain numbers.
+#[repr(C)]
+#[derive(Copy, Clone, Default)]
+pub struct Datetime {
+    pub year: i32,
+    pub has_month: u8,
+    pub month: u8,
+    pub has_day: u8,
+    pub day: u8,
+    pub has_time: u8,
+    pub hour: u8,
+    pub minute: u8,
+    pub second: u8,
+    pub offset: u8,
+    pub offset_hours: u8,
+    pub offset_minutes: u8,
+}
+
+/// A Date as plain numbers.
+#[repr(C)]
+#[derive(Copy, Clone)]
+pub struct Date {
+    pub shape: u8,
+    pub uncertain: u8,
+    pub approximate: u8,
+    pub first: Datetime,
+    pub second: Datetime,
+}
+
+/// What a reader answers.
+#[repr(C)]
+pub struct Answer {
+    pub start: u64,
+    pub end: u64,
+    pub date: Date,
+    pub refusal: u8,
+}
+
+/// What a writer answers.
+#[repr(C)]
+pub struct Written {
+    pub length: usize,
+    pub refusal: u8,
+}
+
+const _: () = assert!(size_of::<Datetime>() == 16 && size_of::<Date>() == 36);
+const _: () = assert!(size_of::<Answer>() == 56 && size_of::<Written>() == 16);
+
+extern "C" {
+    fn knobstream_parse(
+        bytes: *const u8,
+        bytes_len: usize,
+        table: *const u64,
+        table_len: usize,
+    ) -> Answer;
+    fn knobstream_parse_strict(
+        bytes: *const u8,
+        bytes_len: usize,
+        table: *const u64,
+        table_len: usize,
+    ) -> Answer;
+    fn knobstream_parse_three_fields(
+        year: *const u8,
+        year_len: usize,
+        year_table: *const u64,
+        year_table_len: usize,
+        has_month: u8,
+        month: *const u8,
+        month_len: usize,
+        month_table: *const u64,
+        month_table_len: usize,
+        has_day: u8,
+        day: *const u8,
+        day_len: usize,
+        day_table: *const u64,
+        day_table_len: usize,
+    ) -> Answer;
+    fn knobstream_write_date(
+        first: Datetime,
+        second: Datetime,
+        out: *mut u8,
+        out_len: usize,
+        shape: u8,
+        uncertain: u8,
+        approximate: u8,
+    ) -> Written;
+    fn knobstream_write_fields(
+        first: Datetime,
+        second: Datetime,
+        out: *mut u8,
+        out_len: usize,
+        shape: u8,
+        uncertain: u8,
+        approximate: u8,
+    ) -> Written;
+    fn knobstream_compare(first: Datetime, second: Datetime) -> i32;
+}
+
+/// The bytes of a chunk list and its table.
+#[derive(Copy, Clone)]
+pub struct List<'a> {
+    pub bytes: &'a [u8],
+    pub table: &'a [u64],
+}
+
+/// A list that is not there.
+pub const ABSENT: List = List { bytes: &[], table: &[] };
+
+pub fn parse(l: List) -> Answer {
+    // SAFETY: the slices are readable for the call, which keeps nothing of
+    // them and stores nothing there. It takes any bytes and any numbers.
+    unsafe { knobstream_parse(l.bytes.as_ptr(), l.bytes.len(), l.table.as_ptr(), l.table.len()) }
+}
+
+pub fn parse_strict(l: List) -> Answer {
+    // SAFETY: as for `parse`.
+    unsafe {
+        knobstream_parse_strict(l.bytes.as_ptr(), l.bytes.len(), l.table.as_ptr(), l.table.len())
+    }
+}
+
+pub fn parse_three_fields(year: List, month: Option<List>, day: Option<List>) -> Answer {
+    let m = month.unwrap_or(ABSENT);
+    let d = day.unwrap_or(ABSENT);
+    // SAFETY: as for `parse`.
+    unsafe {
+        knobstream_parse_three_fields(
+            year.bytes.as_ptr(),
+            year.bytes.len(),
+            year.table.as_ptr(),
+            year.table.len(),
+            month.is_some().into(),
+            m.bytes.as_ptr(),
+            m.bytes.len(),
+            m.table.as_ptr(),
+            m.table.len(),
+            day.is_some().into(),
+            d.bytes.as_ptr(),
+            d.bytes.len(),
+            d.table.as_ptr(),
+            d.table.len(),
+        )
+    }
+}
+
+pub fn write_date(d: Date, out: &mut [u8]) -> Result<&str, u8> {
+    // SAFETY: `out` is readable and writable for the call, which keeps nothing
+    // of it and stores within it alone.
+    let w = unsafe {
+        knobstream_write_date(
+            d.first,
+            d.second,
+            out.as_mut_ptr(),
+            out.len(),
+            d.shape,
+            d.uncertain,
+            d.approximate,
+        )
+    };
+    text(w, out)
+}
+
+pub fn write_fields(d: Date, out: &mut [u8]) -> Result<&str, u8> {
+    // SAFETY: as for `write_date`.
+    let w = unsafe {
+        knobstream_write_fields(
+            d.first,
+            d.second,
+            out.as_mut_ptr(),
+            out.len(),
+            d.shape,
+            d.uncertain,
+            d.approximate,
+        )
+    };
+    text(w, out)
+}
+
+/// What a writer stored.
+fn text(w: Written, out: &[u8]) -> Result<&str, u8> {
+    if w.refusal != 0 {
+        return Err(w.refusal);
+    }
+    let text = &out[..w.length];
+    debug_assert!(text.is_ascii());
+    // SAFETY: by the writers' contracts the bytes that they store are digits,
+    // letters and signs of ASCII.
+    Ok(unsafe { std::str::from_utf8_unchecked(text) })
+}
+
+pub fn compare(first: Datetime, second: Datetime) -> i32 {
+    // SAFETY: the call takes any numbers.
+    unsafe { knobstream_compare(first, second) }
+}

@@ -1,0 +1,529 @@
+//! Reads, writes and compares the dates of bibliographies as the crate
+//! biblatex does, by a static library of which every function is proved.
+//!
+//! ```
+//! use knobstream::{Chunk, Date, DateValue, Spanned};
+//!
+//! let field = [Spanned::new(Chunk::Normal("1999/2003-07~"), 7..20)];
+//! let date = Date::parse(&field)?;
+//! assert!(date.approximate);
+//! let DateValue::Between(start, end) = date.value else { panic!() };
+//! assert_eq!((start.year, end.month), (1999, Some(6)));
+//! assert!(start < end);
+//! assert_eq!(date.to_string(), "1999/2003-07~");
+//! # Ok::<(), knobstream::TypeError>(())
+//! ```
+//!
+//! No call allocates, keeps state or panics: what biblatex panics on is refused
+//! as [`TypeErrorKind::RustPanics`].
+
+#![warn(missing_docs)]
+#![deny(unsafe_code)]
+
+#[allow(unsafe_code)]
+mod ffi;
+
+use std::cmp::Ordering;
+use std::fmt::{self, Display, Formatter};
+use std::ops::Range;
+
+use ffi::List;
+
+/// A place in the file, in bytes.
+pub type Span = Range<usize>;
+
+/// A value with its place in the file.
+#[derive(Debug, Clone, Eq, PartialEq)]
+pub struct Spanned<T> {
+    /// The value.
+    pub v: T,
+    /// Where it stands.
+    pub span: Span,
+}
+
+impl<T> Spanned<T> {
+    /// A value at a place.
+    pub fn new(v: T, span: Span) -> Self {
+        Self { v, span }
+    }
+
+    /// A value that stands in no file.
+    pub fn detached(v: T) -> Self {
+        Self { v, span: usize::MAX..usize::MAX }
+    }
+}
+
+/// A part of a field's value.
+#[derive(Debug, Copy, Clone, Eq, PartialEq)]
+pub enum Chunk<'a> {
+    /// Text in quotes or single braces.
+    Normal(&'a str),
+    /// Text in further braces.
+    Verbatim(&'a str),
+    /// Text between dollar signs.
+    Math(&'a str),
+}
+
+impl<'a> Chunk<'a> {
+    /// The text.
+    pub fn get(self) -> &'a str {
+        match self {
+            Chunk::Normal(s) | Chunk::Verbatim(s) | Chunk::Math(s) => s,
+        }
+    }
+
+    fn kind(self) -> u64 {
+        match self {
+            Chunk::Normal(_) => 0,
+            Chunk::Verbatim(_) => 1,
+            Chunk::Math(_) => 2,
+        }
+    }
+}
+
+/// A field's value: at most 64 chunks with at most 4,096 bytes.
+pub type ChunksRef<'a> = &'a [Spanned<Chunk<'a>>];
+
+/// A date or a range of dates, and how sure and how exact it is.
+#[derive(Debug, Copy, Clone, Eq, PartialEq)]
+pub struct Date {
+    /// The date or the range.
+    pub value: DateValue,
+    /// Whether the sources are unsure of it, as "2000?".
+    pub uncertain: bool,
+    /// Whether it is not exact, as "2000~".
+    pub approximate: bool,
+}
+
+/// A single date or a range of dates.
+#[derive(Debug, Copy, Clone, Eq, PartialEq)]
+pub enum DateValue {
+    /// A single date.
+    At(Datetime),
+    /// A range with a known start and an open end.
+    After(Datetime),
+    /// A range with an open start and a known end.
+    Before(Datetime),
+    /// A range with a known start and a known end.
+    Between(Datetime, Datetime),
+}
+
+/// A year, and perhaps a month, a day and a time.
+#[derive(Debug, Copy, Clone, Eq, PartialEq)]
+pub struct Datetime {
+    /// The year: 1 BC is 0, 2 BC is -1.
+    pub year: i32,
+    /// The month, counted from zero.
+    pub month: Option<u8>,
+    /// The day, counted from zero.
+    pub day: Option<u8>,
+    /// The time.
+    pub time: Option<Time>,
+}
+
+/// A time, with an offset from UTC or without.
+#[derive(Debug, Copy, Clone, Eq, PartialEq)]
+pub struct Time {
+    /// The hour (0-23).
+    pub hour: u8,
+    /// The minute (0-59).
+    pub minute: u8,
+    /// The second (0-59).
+    pub second: u8,
+    /// The offset.
+    pub offset: Option<TimeOffset>,
+}
+
+/// An offset from UTC.
+#[derive(Debug, Copy, Clone, Eq, PartialEq)]
+pub enum TimeOffset {
+    /// UTC itself.
+    Utc,
+    /// Hours and minutes ahead of UTC, or behind it.
+    Offset {
+        /// Whether the time is ahead of UTC.
+        positive: bool,
+        /// The hours.
+        hours: u8,
+        /// The minutes.
+        minutes: u8,
+    },
+}
+
+/// Why a field is not read or a date is not written, and where.
+#[derive(Debug, Clone, Eq, PartialEq)]
+pub struct TypeError {
+    /// Where in the file; 0 to 0 if the kind names no place.
+    pub span: Span,
+    /// Why.
+    pub kind: TypeErrorKind,
+}
+
+/// The kinds of refusal, with their numbers.
+#[derive(Debug, Copy, Clone, Eq, PartialEq)]
+#[repr(u8)]
+#[non_exhaustive]
+pub enum TypeErrorKind {
+    /// The range is open on both sides.
+    UndefinedRange = 1,
+    /// The day is no day of a month, or not of its month.
+    DayOutOfRange = 2,
+    /// The month is not one of twelve.
+    MonthOutOfRange = 3,
+    /// What stands there is no number, or not in its range.
+    InvalidNumber = 4,
+    /// A number is missing.
+    MissingNumber = 5,
+    /// A number has the wrong number of digits.
+    WrongNumberOfDigits = 6,
+    /// The text is none of the forms that are read.
+    InvalidFormat = 7,
+    /// A year zero with an era.
+    YearZeroCE = 8,
+    /// The crate biblatex panics on this. No place.
+    RustPanics = 9,
+    /// The bytes are not UTF-8. No text of Rust is refused so.
+    BadUtf8 = 10,
+    /// A character above U+00FF. Its place is in the text, not in the file.
+    UnsupportedChar = 11,
+    /// The text is not one of the strict grammar. No place.
+    NotStrict = 12,
+    /// The buffer is too short. No place.
+    NoRoom = 13,
+    /// Refuses a frame. No call of this crate does.
+    BadFrame = 14,
+    /// Refuses a table of chunks. No list of Rust is refused so.
+    BadChunks = 15,
+    /// More than 64 chunks or 4,096 bytes. No place.
+    TooLong = 16,
+}
+
+impl TypeErrorKind {
+    fn of(number: u8) -> Self {
+        match number {
+            1 => Self::UndefinedRange,
+            2 => Self::DayOutOfRange,
+            3 => Self::MonthOutOfRange,
+            4 => Self::InvalidNumber,
+            5 => Self::MissingNumber,
+            6 => Self::WrongNumberOfDigits,
+            7 => Self::InvalidFormat,
+            8 => Self::YearZeroCE,
+            9 => Self::RustPanics,
+            10 => Self::BadUtf8,
+            11 => Self::UnsupportedChar,
+            12 => Self::NotStrict,
+            13 => Self::NoRoom,
+            14 => Self::BadFrame,
+            15 => Self::BadChunks,
+            16 => Self::TooLong,
+            _ => unreachable!("the library has no refusal {number}"),
+        }
+    }
+
+    /// The number of the refusal.
+    pub fn number(self) -> u8 {
+        self as u8
+    }
+
+    /// Whether the refusal names a place.
+    pub fn has_place(self) -> bool {
+        !matches!(
+            self,
+            Self::RustPanics
+                | Self::NotStrict
+                | Self::NoRoom
+                | Self::BadFrame
+                | Self::BadChunks
+                | Self::TooLong
+        )
+    }
+}
+
+impl Display for TypeErrorKind {
+    fn fmt(&self, f: &mut Formatter) -> fmt::Result {
+        f.write_str(match self {
+            Self::UndefinedRange => "range must not be open on both sides",
+            Self::DayOutOfRange => "day out of range (must be a day of its month)",
+            Self::MonthOutOfRange => "month out of range (must be between 1 and 12)",
+            Self::InvalidNumber => "invalid number",
+            Self::MissingNumber => "missing number",
+            Self::WrongNumberOfDigits => "wrong number of digits",
+            Self::InvalidFormat => "invalid format",
+            Self::YearZeroCE => "year 0 CE or BCE does not exist",
+            Self::RustPanics => "no date: biblatex panics on it",
+            Self::BadUtf8 => "not UTF-8",
+            Self::UnsupportedChar => "character above U+00FF",
+            Self::NotStrict => "not a date of the strict grammar",
+            Self::NoRoom => "buffer too short",
+            Self::BadFrame => "not a frame",
+            Self::BadChunks => "chunks do not fit the text",
+            Self::TooLong => "more than 64 chunks or 4,096 bytes",
+        })
+    }
+}
+
+impl Display for TypeError {
+    fn fmt(&self, f: &mut Formatter) -> fmt::Result {
+        if self.kind.has_place() {
+            return write!(f, "{}: {}-{}", self.kind, self.span.start, self.span.end);
+        }
+        self.kind.fmt(f)
+    }
+}
+
+impl std::error::Error for TypeError {}
+
+impl Date {
+    /// The room that the text of every date has enough of.
+    pub const TEXT_ROOM: usize = 40;
+
+    /// The room that the fields of every date have enough of.
+    pub const FIELDS_ROOM: usize = 79;
+
+    /// Reads a date field as biblatex does: "49" is 2049, "0049" the year 49.
+    ///
+    /// ```
+    /// # use knobstream::*;
+    /// let error = Date::parse(&[Spanned::new(Chunk::Normal("1900-02-29"), 7..17)]).unwrap_err();
+    /// assert_eq!(error.kind, TypeErrorKind::DayOutOfRange);
+    /// assert_eq!(error.span, 7..17);
+    /// assert_eq!(error.to_string(), "day out of range (must be a day of its month): 7-17");
+    /// ```
+    pub fn parse(chunks: ChunksRef) -> Result<Self, TypeError> {
+        with_list(chunks, |list| answered(ffi::parse(list)))
+    }
+
+    /// Reads a date field by the strict grammar alone: "49" is refused.
+    ///
+    /// ```
+    /// # use knobstream::*;
+    /// let field = |text| [Spanned::detached(Chunk::Normal(text))];
+    /// assert!(Date::parse_strict(&field("0049")).is_ok());
+    /// assert_eq!(Date::parse_strict(&field("49")).unwrap_err().kind, TypeErrorKind::NotStrict);
+    /// ```
+    pub fn parse_strict(chunks: ChunksRef) -> Result<Self, TypeError> {
+        with_list(chunks, |list| answered(ffi::parse_strict(list)))
+    }
+
+    /// Reads the fields `year`, `month` and `day`: the year "49" is the year 49.
+    /// A day without a month is not looked at.
+    ///
+    /// ```
+    /// # use knobstream::*;
+    /// let year = [Spanned::detached(Chunk::Normal("49 BC"))];
+    /// let month = [Spanned::detached(Chunk::Normal("jul-4"))];
+    /// let date = Date::parse_three_fields(&year, Some(&month), None)?;
+    /// assert_eq!(date.to_string(), "-0048-07-04");
+    /// # Ok::<(), TypeError>(())
+    /// ```
+    pub fn parse_three_fields(
+        year: ChunksRef,
+        month: Option<ChunksRef>,
+        day: Option<ChunksRef>,
+    ) -> Result<Self, TypeError> {
+        with_list(year, |y| match (month, day) {
+            (None, _) => answered(ffi::parse_three_fields(y, None, None)),
+            (Some(month), None) => {
+                with_list(month, |m| answered(ffi::parse_three_fields(y, Some(m), None)))
+            }
+            (Some(month), Some(day)) => with_list(month, |m| {
+                with_list(day, |d| answered(ffi::parse_three_fields(y, Some(m), Some(d))))
+            }),
+        })
+    }
+
+    /// Writes the text of the date at the front of the buffer, and gives it. The
+    /// time is not written, nor a day without a month.
+    ///
+    /// It refuses a month of 255 and a day of 255 beside a month, on which
+    /// biblatex panics, and then a buffer that is too short; the buffer is then
+    /// as it was.
+    ///
+    /// ```
+    /// # use knobstream::*;
+    /// let date = Date::parse(&[Spanned::detached(Chunk::Normal("2000-2-9T10?"))])?;
+    /// assert_eq!(date.write(&mut [0; Date::TEXT_ROOM])?, "2000-02-09?");
+    /// # Ok::<(), TypeError>(())
+    /// ```
+    pub fn write<'o>(&self, out: &'o mut [u8]) -> Result<&'o str, TypeError> {
+        ffi::write_date(plain_date(self), out).map_err(no_place)
+    }
+
+    /// Writes the fields of the date, a line each, at the front of the buffer,
+    /// and gives them. It refuses what [`Date::write`] refuses.
+    ///
+    /// ```
+    /// # use knobstream::*;
+    /// let date = Date::parse(&[Spanned::detached(Chunk::Normal("1999/2000-02"))])?;
+    /// let mut out = [0; Date::FIELDS_ROOM];
+    /// assert_eq!(date.write_fields(&mut out)?, "year=1999\nendyear=2000\nendmonth=02\n");
+    /// # Ok::<(), TypeError>(())
+    /// ```
+    pub fn write_fields<'o>(&self, out: &'o mut [u8]) -> Result<&'o str, TypeError> {
+        ffi::write_fields(plain_date(self), out).map_err(no_place)
+    }
+}
+
+/// The text of the date, as [`Date::write`] gives it; where that refuses, a
+/// formatting error.
+impl Display for Date {
+    fn fmt(&self, f: &mut Formatter) -> fmt::Result {
+        let mut out = [0; Self::TEXT_ROOM];
+        f.write_str(self.write(&mut out).map_err(|_| fmt::Error)?)
+    }
+}
+
+/// The text of the date that is this Datetime.
+impl Display for Datetime {
+    fn fmt(&self, f: &mut Formatter) -> fmt::Result {
+        Date { value: DateValue::At(*self), uncertain: false, approximate: false }.fmt(f)
+    }
+}
+
+/// Year, month, day and time in turn. A part that only one of two has, or times
+/// of which only one has an offset, give none; a part that neither has ends it.
+impl PartialOrd for Datetime {
+    fn partial_cmp(&self, other: &Self) -> Option<Ordering> {
+        match ffi::compare(plain_datetime(self), plain_datetime(other)) {
+            -1 => Some(Ordering::Less),
+            0 => Some(Ordering::Equal),
+            1 => Some(Ordering::Greater),
+            _ => None,
+        }
+    }
+}
+
+/// The table of a list that is refused as too long, wherever in their order the
+/// checks come to it: 65 chunks, all empty.
+static TOO_LONG: [u64; 260] = [0; 260];
+
+/// Calls with the bytes and the table of a chunk list: those of one chunk as
+/// they are, those of several behind each other in an array.
+fn with_list<R>(chunks: ChunksRef, call: impl FnOnce(List) -> R) -> R {
+    if let [c] = chunks {
+        let text = c.v.get().as_bytes();
+        let table = [c.v.kind(), text.len() as u64, c.span.start as u64, c.span.end as u64];
+        return call(List { bytes: text, table: &table });
+    }
+    let length = chunks.iter().map(|c| c.v.get().len()).fold(0, usize::saturating_add);
+    if chunks.len() <= 4 && length <= 56 {
+        return call(fill(chunks, &mut [0; 56], &mut [0; 16]));
+    }
+    if chunks.len() <= 64 && length <= 4096 {
+        return call(fill(chunks, &mut [0; 4096], &mut [0; 256]));
+    }
+    call(List { bytes: &[], table: &TOO_LONG })
+}
+
+/// The bytes and the table of a chunk list, in arrays with the room for them.
+fn fill<'a>(chunks: ChunksRef, bytes: &'a mut [u8], table: &'a mut [u64]) -> List<'a> {
+    let mut n = 0;
+    for (c, row) in chunks.iter().zip(table.chunks_exact_mut(4)) {
+        let text = c.v.get().as_bytes();
+        bytes[n..n + text.len()].copy_from_slice(text);
+        n += text.len();
+        row[0] = c.v.kind();
+        row[1] = text.len() as u64;
+        row[2] = c.span.start as u64;
+        row[3] = c.span.end as u64;
+    }
+    List { bytes: &bytes[..n], table: &table[..4 * chunks.len()] }
+}
+
+/// A reader's answer.
+fn answered(a: ffi::Answer) -> Result<Date, TypeError> {
+    if a.refusal != 0 {
+        return Err(TypeError {
+            span: a.start as usize..a.end as usize,
+            kind: TypeErrorKind::of(a.refusal),
+        });
+    }
+    let first = datetime(&a.date.first);
+    Ok(Date {
+        value: match a.date.shape {
+            0 => DateValue::At(first),
+            1 => DateValue::After(first),
+            2 => DateValue::Before(first),
+            _ => DateValue::Between(first, datetime(&a.date.second)),
+        },
+        uncertain: a.date.uncertain != 0,
+        approximate: a.date.approximate != 0,
+    })
+}
+
+/// A refusal that names no place.
+fn no_place(number: u8) -> TypeError {
+    TypeError { span: 0..0, kind: TypeErrorKind::of(number) }
+}
+
+fn datetime(p: &ffi::Datetime) -> Datetime {
+    Datetime {
+        year: p.year,
+        month: (p.has_month != 0).then_some(p.month),
+        day: (p.has_day != 0).then_some(p.day),
+        time: (p.has_time != 0).then(|| Time {
+            hour: p.hour,
+            minute: p.minute,
+            second: p.second,
+            offset: match p.offset {
+                0 => None,
+                1 => Some(TimeOffset::Utc),
+                sort => Some(TimeOffset::Offset {
+                    positive: sort == 2,
+                    hours: p.offset_hours,
+                    minutes: p.offset_minutes,
+                }),
+            },
+        }),
+    }
+}
+
+/// A Datetime without its time.
+fn plain_day(d: &Datetime) -> ffi::Datetime {
+    ffi::Datetime {
+        year: d.year,
+        has_month: d.month.is_some().into(),
+        month: d.month.unwrap_or(0),
+        has_day: d.day.is_some().into(),
+        day: d.day.unwrap_or(0),
+        ..ffi::Datetime::default()
+    }
+}
+
+fn plain_datetime(d: &Datetime) -> ffi::Datetime {
+    let mut p = plain_day(d);
+    if let Some(t) = d.time {
+        p.has_time = 1;
+        p.hour = t.hour;
+        p.minute = t.minute;
+        p.second = t.second;
+        match t.offset {
+            None => {}
+            Some(TimeOffset::Utc) => p.offset = 1,
+            Some(TimeOffset::Offset { positive, hours, minutes }) => {
+                p.offset = if positive { 2 } else { 3 };
+                p.offset_hours = hours;
+                p.offset_minutes = minutes;
+            }
+        }
+    }
+    p
+}
+
+/// For the writers, which look at no time, and at the second Datetime of a range with both ends only.
+fn plain_date(d: &Date) -> ffi::Date {
+    let (shape, first, second) = match &d.value {
+        DateValue::At(a) => (0, a, a),
+        DateValue::After(a) => (1, a, a),
+        DateValue::Before(a) => (2, a, a),
+        DateValue::Between(a, b) => (3, a, b),
+    };
+    ffi::Date {
+        shape,
+        uncertain: d.uncertain.into(),
+        approximate: d.approximate.into(),
+        first: plain_day(first),
+        second: plain_day(second),
+    }
+}
