@@ -9,9 +9,7 @@
  *
  * No call allocates, keeps state, takes a lock or traps: every number and
  * every byte has an answer. Calls may run at once in any number of threads, if
- * no two of them have the same `out`. A reader takes 6 KiB of stack at most, a
- * writer and a comparison 512 bytes (docs/BENCHMARKS.md says how that was
- * found).
+ * no two of them have the same `out`.
  *
  * What the caller owes: a pointer that is readable (for `out` writable) for as
  * many elements as are said, a table that is aligned as uint64_t is, and
