@@ -23,10 +23,15 @@ Point NotFound s = Unit {0}
 
 -- two points of the strict grammar with a slash between them
 pub record Halves (s : List ℕ) (a b : Datetime) : Type 0 where
+  -- the text before the slash
   pub left : List ℕ
+  -- the text behind it
   pub right : List ℕ
+  -- they are the whole text
   pub whole : s ≡ left ++ 47 ∷ right
+  -- the first is a point
   pub start : grammar.Point left a
+  -- and so is the second
   pub end : grammar.Point right b
 
 -- a range likewise
