@@ -1,6 +1,6 @@
 //! What is measured.
 
-use crate::raw;
+use crate::ffi::{self, List};
 use knobstream as ours;
 use oracle::published as theirs;
 use std::fmt::Write;
@@ -31,21 +31,17 @@ type Piece = (u8, String, usize);
 /// A chunk list, in the form that each side takes.
 struct Input {
     pieces: Vec<Piece>,
-    list: raw::List,
+    bytes: Vec<u8>,
+    table: Vec<u64>,
     chunks: Vec<theirs::Spanned<theirs::Chunk>>,
 }
 
 impl Input {
     fn new(pieces: Vec<Piece>) -> Self {
-        let list = raw::List {
-            bytes: pieces.iter().flat_map(|p| p.1.bytes()).collect(),
-            table: pieces
-                .iter()
-                .flat_map(|(k, s, at)| {
-                    [u64::from(*k), s.len() as u64, *at as u64, (at + s.len()) as u64]
-                })
-                .collect(),
-        };
+        let row =
+            |(k, s, at): &Piece| [u64::from(*k), s.len() as u64, *at as u64, (at + s.len()) as u64];
+        let bytes = pieces.iter().flat_map(|p| p.1.bytes()).collect();
+        let table = pieces.iter().flat_map(row).collect();
         let chunks = pieces
             .iter()
             .map(|(k, s, at)| {
@@ -57,11 +53,16 @@ impl Input {
                 theirs::Spanned::new(chunk, *at..at + s.len())
             })
             .collect();
-        Self { pieces, list, chunks }
+        Self { pieces, bytes, table, chunks }
     }
 
     fn text(text: &str) -> Self {
         Self::new(vec![(0, text.to_string(), 100)])
+    }
+
+    /// For the C calls.
+    fn list(&self) -> List<'_> {
+        List { bytes: &self.bytes, table: &self.table }
     }
 
     /// For the crate: chunks that borrow their text. They are made once, outside what is measured.
@@ -110,14 +111,14 @@ fn said_theirs(r: Result<theirs::Date, theirs::TypeError>) -> String {
 fn reading(group: &'static str, name: &str, input: Input) -> Case {
     let input: &'static Input = keep(input);
     let lent = keep(input.lent());
-    let counted = if input.list.bytes.len() > 1000 { 100 } else { 1000 };
+    let counted = if input.bytes.len() > 1000 { 100 } else { 1000 };
     Case {
         group,
         name: name.to_string(),
         counted,
         inputs: 1,
         sides: [
-            Some(Box::new(move |n| times(n, || raw::parse(black_box(&input.list))))),
+            Some(Box::new(move |n| times(n, || ffi::parse(black_box(input).list())))),
             Some(Box::new(move |n| times(n, || ours::Date::parse(black_box(lent))))),
             Some(Box::new(move |n| times(n, || theirs::Date::parse(black_box(&input.chunks))))),
         ],
@@ -139,7 +140,7 @@ fn strict(name: &str) -> Case {
         counted: 1000,
         inputs: 1,
         sides: [
-            Some(Box::new(move |n| times(n, || raw::parse_strict(black_box(&input.list))))),
+            Some(Box::new(move |n| times(n, || ffi::parse_strict(black_box(input).list())))),
             Some(Box::new(move |n| times(n, || ours::Date::parse_strict(black_box(lent))))),
             None,
         ],
@@ -149,9 +150,10 @@ fn strict(name: &str) -> Case {
 
 /// The fields year, month and day.
 fn fields(texts: &[&str]) -> Case {
-    let inputs = keep(texts.iter().map(|t| Input::text(t)).collect::<Vec<_>>());
-    let lists: &'static Vec<raw::List> =
-        keep(texts.iter().map(|t| Input::text(t).list).collect::<Vec<_>>());
+    let inputs: &'static Vec<Input> = keep(texts.iter().map(|t| Input::text(t)).collect());
+    let raw = |i: &[Input]| {
+        ffi::parse_three_fields(i[0].list(), i.get(1).map(Input::list), i.get(2).map(Input::list))
+    };
     let lent = keep(inputs.iter().map(|i| i.lent()).collect::<Vec<_>>());
     fn of<T>(v: &[Vec<T>], i: usize) -> Option<&[T]> {
         v.get(i).map(|x| &x[..])
@@ -169,7 +171,7 @@ fn fields(texts: &[&str]) -> Case {
         counted: 1000,
         inputs: 1,
         sides: [
-            Some(Box::new(move |n| times(n, || raw::parse_three_fields(black_box(lists))))),
+            Some(Box::new(move |n| times(n, || raw(black_box(inputs))))),
             Some(Box::new(move |n| times(n, || our(black_box(lent))))),
             Some(Box::new(move |n| times(n, || their(black_box(chunks))))),
         ],
@@ -213,7 +215,7 @@ fn mixed() -> Case {
             Some(Box::new(move |n| {
                 times(n, || {
                     for i in inputs {
-                        let r = raw::parse(black_box(&i.list));
+                        let r = ffi::parse(black_box(i).list());
                         black_box(&r);
                     }
                 })
@@ -247,7 +249,7 @@ fn mixed() -> Case {
 
 /// A date that was read, in the form of each side.
 struct Dates {
-    raw: raw::Date,
+    raw: ffi::Date,
     ours: ours::Date,
     theirs: theirs::Date,
 }
@@ -255,7 +257,7 @@ struct Dates {
 fn dates(text: &str) -> &'static Dates {
     let i = Input::text(text);
     keep(Dates {
-        raw: raw::parse(&i.list).date,
+        raw: ffi::parse(i.list()).date,
         ours: ours::Date::parse(&i.lent()).unwrap(),
         theirs: theirs::Date::parse(&i.chunks).unwrap(),
     })
@@ -288,8 +290,8 @@ fn text(of: &str) -> Case {
             Some(Box::new(move |n| {
                 let mut out = [0; 64];
                 for _ in 0..n {
-                    let r = raw::write_date(black_box(&d.raw), black_box(&mut out));
-                    black_box(&r);
+                    let r = ffi::write_date(*black_box(&d.raw), black_box(&mut out));
+                    let _ = black_box(&r);
                 }
             })),
             Some(Box::new(move |n| {
@@ -302,11 +304,7 @@ fn text(of: &str) -> Case {
             Some(Box::new(move |n| times(n, || black_box(&d.theirs).to_chunks()))),
         ],
         says: [
-            Some(Box::new(move || {
-                let mut out = [0; 64];
-                let w = raw::write_date(&d.raw, &mut out);
-                String::from_utf8(out[..w.length].to_vec()).unwrap()
-            })),
+            Some(Box::new(move || ffi::write_date(d.raw, &mut [0; 64]).unwrap().to_string())),
             Some(Box::new(move || d.ours.to_string())),
             Some(Box::new(move || d.theirs.to_chunks()[0].v.get().to_string())),
         ],
@@ -357,8 +355,8 @@ fn fieldset(of: &str) -> Case {
             Some(Box::new(move |n| {
                 let mut out = [0; 128];
                 for _ in 0..n {
-                    let r = raw::write_fields(black_box(&d.raw), black_box(&mut out));
-                    black_box(&r);
+                    let r = ffi::write_fields(*black_box(&d.raw), black_box(&mut out));
+                    let _ = black_box(&r);
                 }
             })),
             Some(Box::new(move |n| {
@@ -397,7 +395,7 @@ fn compare(a: &str, b: &str) -> Case {
         inputs: 1,
         sides: [
             Some(Box::new(move |n| {
-                times(n, || raw::compare(black_box(x.raw.first), black_box(y.raw.first)))
+                times(n, || ffi::compare(black_box(x.raw.first), black_box(y.raw.first)))
             })),
             Some(Box::new(move |n| {
                 times(n, || black_box(&p.0 .0).partial_cmp(black_box(&p.1 .0)))
@@ -408,7 +406,7 @@ fn compare(a: &str, b: &str) -> Case {
         ],
         says: [
             Some(Box::new(move || {
-                let o = raw::compare(x.raw.first, y.raw.first);
+                let o = ffi::compare(x.raw.first, y.raw.first);
                 let order = [Some(-1), Some(0), Some(1), None][(o + 1) as usize];
                 format!("{:?}", order.map(|o: i32| o.cmp(&0)))
             })),

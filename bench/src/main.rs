@@ -7,7 +7,10 @@
 //!     bench run CASE SIDE N     N calls of a side (c, crate, rust), to be counted by callgrind
 
 mod cases;
-mod raw;
+/// The C calls, as the crate declares them; what is not measured is not used.
+#[allow(dead_code)]
+#[path = "../../rust/src/ffi.rs"]
+mod ffi;
 
 use cases::{Case, SIDES};
 use std::time::{Duration, Instant};

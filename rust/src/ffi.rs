@@ -49,6 +49,12 @@ pub struct Written {
 const _: () = assert!(size_of::<Datetime>() == 16 && size_of::<Date>() == 36);
 const _: () = assert!(size_of::<Answer>() == 56 && size_of::<Written>() == 16);
 
+/// A reader of one chunk list: its bytes and its table.
+type Reader = unsafe extern "C" fn(*const u8, usize, *const u64, usize) -> Answer;
+
+/// A writer: the two Datetimes, the buffer, then shape and marks.
+type Writer = unsafe extern "C" fn(Datetime, Datetime, *mut u8, usize, u8, u8, u8) -> Written;
+
 extern "C" {
     fn knobstream_parse(
         bytes: *const u8,
@@ -109,23 +115,25 @@ pub struct List<'a> {
 /// A list that is not there.
 pub const ABSENT: List = List { bytes: &[], table: &[] };
 
-pub fn parse(l: List) -> Answer {
-    // SAFETY: the slices are readable for the call, which keeps nothing of
-    // them and stores nothing there. It takes any bytes and any numbers.
-    unsafe { knobstream_parse(l.bytes.as_ptr(), l.bytes.len(), l.table.as_ptr(), l.table.len()) }
+pub fn parse(list: List) -> Answer {
+    read(knobstream_parse, list)
 }
 
-pub fn parse_strict(l: List) -> Answer {
-    // SAFETY: as for `parse`.
-    unsafe {
-        knobstream_parse_strict(l.bytes.as_ptr(), l.bytes.len(), l.table.as_ptr(), l.table.len())
-    }
+pub fn parse_strict(list: List) -> Answer {
+    read(knobstream_parse_strict, list)
+}
+
+fn read(reader: Reader, List { bytes, table }: List) -> Answer {
+    // SAFETY: `reader` is one of the two above. The slices are readable for
+    // the call, which keeps nothing of them and stores nothing there. It takes
+    // any bytes and any numbers.
+    unsafe { reader(bytes.as_ptr(), bytes.len(), table.as_ptr(), table.len()) }
 }
 
 pub fn parse_three_fields(year: List, month: Option<List>, day: Option<List>) -> Answer {
     let m = month.unwrap_or(ABSENT);
     let d = day.unwrap_or(ABSENT);
-    // SAFETY: as for `parse`.
+    // SAFETY: as for `read`.
     unsafe {
         knobstream_parse_three_fields(
             year.bytes.as_ptr(),
@@ -147,35 +155,18 @@ pub fn parse_three_fields(year: List, month: Option<List>, day: Option<List>) ->
 }
 
 pub fn write_date(d: Date, out: &mut [u8]) -> Result<&str, u8> {
-    // SAFETY: `out` is readable and writable for the call, which keeps nothing
-    // of it and stores within it alone.
-    let w = unsafe {
-        knobstream_write_date(
-            d.first,
-            d.second,
-            out.as_mut_ptr(),
-            out.len(),
-            d.shape,
-            d.uncertain,
-            d.approximate,
-        )
-    };
-    text(w, out)
+    write(knobstream_write_date, d, out)
 }
 
 pub fn write_fields(d: Date, out: &mut [u8]) -> Result<&str, u8> {
-    // SAFETY: as for `write_date`.
-    let w = unsafe {
-        knobstream_write_fields(
-            d.first,
-            d.second,
-            out.as_mut_ptr(),
-            out.len(),
-            d.shape,
-            d.uncertain,
-            d.approximate,
-        )
-    };
+    write(knobstream_write_fields, d, out)
+}
+
+fn write(writer: Writer, d: Date, out: &mut [u8]) -> Result<&str, u8> {
+    let (bytes, room) = (out.as_mut_ptr(), out.len());
+    // SAFETY: `writer` is one of the two above. `out` is readable and writable
+    // for the call, which keeps nothing of it and stores within it alone.
+    let w = unsafe { writer(d.first, d.second, bytes, room, d.shape, d.uncertain, d.approximate) };
     text(w, out)
 }
 

@@ -462,7 +462,7 @@ fn datetime(p: &ffi::Datetime) -> Datetime {
         year: p.year,
         month: (p.has_month != 0).then_some(p.month),
         day: (p.has_day != 0).then_some(p.day),
-        time: (p.has_time != 0).then(|| Time {
+        time: (p.has_time != 0).then_some(Time {
             hour: p.hour,
             minute: p.minute,
             second: p.second,
@@ -527,3 +527,8 @@ fn plain_date(d: &Date) -> ffi::Date {
         second: plain_day(second),
     }
 }
+
+// The example of the readme is tried with the others.
+#[cfg(doctest)]
+#[doc = include_str!("../README.md")]
+struct Readme;

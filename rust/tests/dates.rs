@@ -174,7 +174,8 @@ fn every_part_survives_the_way_out_and_back() {
                 // What is equal up to an absent part is equal; so is what is equal in all.
                 assert_eq!(d.partial_cmp(&d), Some(Ordering::Equal));
                 let later = Datetime { year: -4, ..d };
-                assert!(d < later && later > d);
+                assert!(d < later);
+                assert!(later > d);
             }
         }
     }
