@@ -8,8 +8,9 @@
  * value, so there is nothing to free.
  *
  * No call allocates, keeps state, takes a lock or traps: every number and
- * every byte has an answer. Calls may run at once in any number of threads, if
- * no two of them have the same `out`.
+ * every byte has an answer. A call uses at most 8,192 bytes of stack; this is
+ * measured, not proved. Calls may run at once in any number of threads, if no
+ * two of them have the same `out`.
  *
  * What the caller owes: a pointer that is readable (for `out` writable) for as
  * many elements as are said, a table that is aligned as uint64_t is, and
@@ -71,13 +72,14 @@ static inline const char *knobstream_refusal_name(unsigned refusal)
     return refusal < sizeof names / sizeof *names ? names[refusal] : "";
 }
 
-/* The limits of a chunk list, and the room that every written text and all
- * written fields have enough of. */
+/* The limits of a chunk list, the room that every written text and all written
+ * fields have enough of, and the stack that a call uses at most. */
 enum {
     KNOBSTREAM_MAX_CHUNKS = 64,
     KNOBSTREAM_MAX_BYTES = 4096,
     KNOBSTREAM_TEXT_ROOM = 40,
-    KNOBSTREAM_FIELDS_ROOM = 79
+    KNOBSTREAM_FIELDS_ROOM = 79,
+    KNOBSTREAM_STACK = 8192
 };
 
 /* The kinds of a chunk. */

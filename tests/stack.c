@@ -1,0 +1,145 @@
+/* What each call of the library takes of the stack, measured: it is called on a thread whose stack is painted,
+ * and the paint is gone as far down as the call went. Of many inputs the most counts. It prints a line each: call,
+ * and bytes below the caller's frame, with the arguments and the return address that stand there. It ends with 0 if
+ * no call took more than the header says. */
+#define _XOPEN_SOURCE 700
+#include "../c/knobstream.h"
+
+#include <pthread.h>
+#include <stdio.h>
+#include <stdlib.h>
+#include <string.h>
+
+enum { STACK = 64 * 1024, LONG = KNOBSTREAM_MAX_BYTES, CHUNKS = KNOBSTREAM_MAX_CHUNKS };
+
+static uint8_t *stack, paint;
+static const uint8_t *top, *low; /* where the stack pointer stood before the call, and how far down the call went */
+
+/* What is passed and what comes back; not on the stack that is measured. */
+static struct list {
+    uint8_t bytes[LONG];
+    uint64_t table[4 * CHUNKS];
+    size_t length, rows;
+} field, month, day;
+static knobstream_date date;
+static knobstream_answer answer;
+static knobstream_written written;
+static int32_t order;
+static uint8_t out[KNOBSTREAM_FIELDS_ROOM];
+
+#define LENT(l) (l).bytes, (l).length, (l).table, (l).rows
+
+/* A call on a thread. It looks at the stack on the spot: what a thread does at its end goes down too. */
+#define ON_A_THREAD(name, call) \
+    static void *name(void *unused) \
+    { \
+        __asm__ volatile("mov %%rsp, %0" : "=m"(top) : : "memory"); \
+        call; \
+        for (low = stack; *low == paint; low++) { \
+        } \
+        return unused; \
+    }
+
+ON_A_THREAD(parse, answer = knobstream_parse(LENT(field)))
+ON_A_THREAD(parse_strict, answer = knobstream_parse_strict(LENT(field)))
+ON_A_THREAD(parse_three_fields, answer = knobstream_parse_three_fields(LENT(field), 1, LENT(month), 1, LENT(day)))
+ON_A_THREAD(write_date, written = knobstream_date_text(&date, out, sizeof out))
+ON_A_THREAD(write_fields, written = knobstream_date_fields(&date, out, sizeof out))
+ON_A_THREAD(compare, order = knobstream_compare(date.first, date.second))
+
+static struct {
+    const char *name;
+    void *(*on_a_thread)(void *);
+    size_t most;
+} calls[] = {
+    { "knobstream_parse", parse, 0 },
+    { "knobstream_parse_strict", parse_strict, 0 },
+    { "knobstream_parse_three_fields", parse_three_fields, 0 },
+    { "knobstream_write_date", write_date, 0 },
+    { "knobstream_write_fields", write_fields, 0 },
+    { "knobstream_compare", compare, 0 },
+};
+
+#define COUNT(array) (sizeof(array) / sizeof *(array))
+
+static size_t used(void *(*on_a_thread)(void *))
+{
+    pthread_attr_t attr;
+    pthread_t thread;
+    memset(stack, paint, STACK);
+    if (pthread_attr_init(&attr) != 0 || pthread_attr_setstack(&attr, stack, STACK) != 0
+        || pthread_create(&thread, &attr, on_a_thread, NULL) != 0 || pthread_join(thread, NULL) != 0) {
+        fputs("no thread\n", stderr);
+        exit(2);
+    }
+    pthread_attr_destroy(&attr);
+    return top - low;
+}
+
+/* Every call, with what is to be passed now. A byte may be stored that looks like paint, so there are two colours. */
+static void measure(void)
+{
+    const uint8_t colours[] = { 0x5A, 0xA5 };
+    for (size_t i = 0; i < COUNT(calls); i++)
+        for (size_t j = 0; j < COUNT(colours); j++) {
+            paint = colours[j];
+            const size_t n = used(calls[i].on_a_thread);
+            if (n > calls[i].most)
+                calls[i].most = n;
+        }
+}
+
+/* A text, filled up with spaces, in chunks of one kind. */
+static void fill(struct list *l, const char *text, size_t length, size_t chunks, uint64_t kind)
+{
+    const size_t n = strlen(text);
+    l->length = n > length ? n : length;
+    l->rows = 4 * chunks;
+    memset(l->bytes, ' ', l->length);
+    memcpy(l->bytes, text, n);
+    for (size_t i = 0, at = 0; i < chunks; i++) {
+        const size_t end = l->length * (i + 1) / chunks;
+        const uint64_t row[4] = { kind, end - at, at, end };
+        memcpy(l->table + 4 * i, row, sizeof row);
+        at = end;
+    }
+}
+
+/* Date fields, then year fields; and month fields. */
+static const char *const texts[] = {
+    "", "2000", "49", "-0049", "2000-02-29", " 2000 - 2 - 9 ~", "2000-02-29T10:20:30Z", "2000-02-29T10:20:30+02:30%",
+    "2000-2-9 T 1:2:3 - 2 : 3", "1999/2003", "1999-07-01/2003-08-31", "2000/..", "../2000", "../..",
+    "2000-02-29T10:20:30+02:30/2003-08-31T10:20:30-02:30~", "19XX", "199X", "19XX/2005", "2000-XX-XX", "2000-02-XX",
+    "1900-02-29", "2000/1900-02-29", "2000-13", "2000-02-29T10:20:30+2", "forthcoming", "\xC3\xA9", "2000\xC2\xA0",
+    "\xC2\xBD/q", "20\xE2\x80\x93", "20\xF0\x9F\x98\x80", "\xFF", "2000\n-02",
+    "1000 BC", "5 AD", "5 BCE x", "- 5", "+5 CE", "12345", "0 AD",
+};
+static const char *const months[] = { "July", "jul-4", "sept", "07", "13", "jul-999", "jul-32", "x" };
+static const size_t lengths[] = { 0, 60, 64, LONG };
+static const size_t numbers[] = { 1, 2, CHUNKS };
+
+int main(void)
+{
+    stack = aligned_alloc(4096, STACK);
+    for (size_t i = 0; i < COUNT(texts); i++)
+        for (size_t n = 0; n < COUNT(lengths); n++)
+            for (size_t m = 0; m < COUNT(numbers); m++)
+                for (uint64_t kind = 0; kind < 3; kind++) {
+                    fill(&field, texts[i], lengths[n], numbers[m], kind);
+                    fill(&month, months[i % COUNT(months)], lengths[n], numbers[m], kind);
+                    fill(&day, "31", lengths[n], numbers[m], kind);
+                    date = knobstream_parse(LENT(field)).date;
+                    measure();
+                }
+    /* the longest text that a date has */
+    memset(&date, 254, sizeof date);
+    date.first.year = date.second.year = INT32_MIN;
+    measure();
+
+    int over = 0;
+    for (size_t i = 0; i < COUNT(calls); i++) {
+        printf("%s\t%zu\n", calls[i].name, calls[i].most);
+        over |= calls[i].most > KNOBSTREAM_STACK;
+    }
+    return over;
+}
