@@ -40,6 +40,8 @@ def deepest(found, name, above=()):
     """The most that a call takes, and the largest frame in it."""
     if name in above:
         sys.exit(f'{name} calls itself, by {above}')
+    if name not in found:
+        sys.exit(f'{above[-1]} calls {name}, which is not in the library')
     frame, kept, callees = found[name]
     below = [deepest(found, callee, above + (name,)) for callee in callees]
     return frame + max([kept] + [b[0] for b in below]), max([(frame, name)] + [b[1] for b in below])

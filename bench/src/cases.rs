@@ -416,6 +416,15 @@ fn compare(a: &str, b: &str) -> Case {
     }
 }
 
+/// The lengths of a series: what grows with the text, and how.
+const LENGTHS: [usize; 4] = [64, 256, 1024, 4096];
+
+/// A text of words and spaces, of which none is an X and none a slash: a reader looks for both up to the end.
+fn words(n: usize) -> Input {
+    let words = "to be printed with the second volume of the collected letters ";
+    Input::text(&words.repeat(n / words.len() + 1)[..n])
+}
+
 pub fn all() -> Vec<Case> {
     let mut all = Vec::new();
     for t in ["2000", "2000-02", "2000-02-29", "49", "2000-02-29~", "2000-02-29T10:20:30Z"] {
@@ -443,19 +452,25 @@ pub fn all() -> Vec<Case> {
     }
     let two = vec![(0, "20".into(), 100), (1, "00".into(), 103)];
     all.push(reading("long or odd", "2000 in two chunks", Input::new(two)));
-    all.push(reading(
-        "long or odd",
-        "2000 and 4,092 spaces",
-        Input::text(&format!("{:4096}", "2000")),
-    ));
     let many = |k: u8| {
         let piece = |i| if i == 0 { format!("{:64}", "2000") } else { " ".repeat(64) };
         (0..64).map(|i| (k, piece(i), i * 66)).collect::<Vec<Piece>>()
     };
-    all.push(reading("long or odd", "the same in 64 Normal chunks", Input::new(many(0))));
+    all.push(reading(
+        "long or odd",
+        "2000 and 4,092 spaces in 64 Normal chunks",
+        Input::new(many(0)),
+    ));
     all.push(reading("long or odd", "the same in 64 Verbatim chunks", Input::new(many(1))));
     let latin = vec![(0, "é".repeat(2048), 0)];
     all.push(reading("long or odd", "2,048 times é, refused", Input::new(latin)));
+    for n in LENGTHS {
+        all.push(reading("length", &format!("{n} bytes of words, refused"), words(n)));
+    }
+    for n in LENGTHS {
+        let text = format!("{:n$}", "2000");
+        all.push(reading("length", &format!("{n} bytes: 2000 and spaces"), Input::text(&text)));
+    }
     for t in ["2000", "2000-02-29", "49", "1999/2003", "19XX"] {
         all.push(strict(t));
     }

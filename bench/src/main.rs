@@ -2,9 +2,9 @@
 //! inputs, one driver, one run.
 //!
 //!     bench check               the answers of all sides to all inputs are the same
-//!     bench list                the cases, a line each: number, group, name, calls to count
-//!     bench times               a line each: number, ns a call by C, by the crate, by the Rust
-//!     bench run CASE SIDE N     N calls of a side (c, crate, rust), to be counted by callgrind
+//!     bench list                a line each: number, group, name, calls to count, inputs of a call, sides
+//!     bench times               a line each: group, name, ns an input by C, by the crate, by the Rust
+//!     bench count CASE SIDE N   N calls of a side (c, crate, rust), to be counted by callgrind
 
 mod cases;
 /// The C calls, as the crate declares them; what is not measured is not used.
@@ -20,13 +20,9 @@ fn main() {
     let cases = cases::all();
     match args.iter().map(String::as_str).collect::<Vec<_>>()[..] {
         ["check"] => check(&cases),
-        ["list"] => {
-            for (i, c) in cases.iter().enumerate() {
-                println!("{i}\t{}\t{}\t{}", c.group, c.name, c.counted);
-            }
-        }
+        ["list"] => list(&cases),
         ["times"] => times(&cases),
-        ["run", case, side, n] => {
+        ["count", case, side, n] => {
             let side = SIDES.iter().position(|s| *s == side).expect("c, crate or rust");
             let case = &cases[case.parse::<usize>().expect("a case's number")];
             if let Some(run) = &case.sides[side] {
@@ -34,9 +30,18 @@ fn main() {
             }
         }
         _ => {
-            eprintln!("bench check | list | times | run CASE SIDE N");
+            eprintln!("bench check | list | times | count CASE SIDE N");
             std::process::exit(2);
         }
+    }
+}
+
+fn list(cases: &[Case]) {
+    for (i, c) in cases.iter().enumerate() {
+        let there = SIDES.iter().zip(&c.sides).filter(|(_, run)| run.is_some());
+        let sides: Vec<&str> = there.map(|(side, _)| *side).collect();
+        let (group, name, sides) = (c.group, &c.name, sides.join(" "));
+        println!("{i}\t{group}\t{name}\t{}\t{}\t{sides}", c.counted, c.inputs);
     }
 }
 
@@ -56,27 +61,37 @@ fn check(cases: &[Case]) {
     }
 }
 
-/// Rounds of a case, each of about this time.
+/// Rounds of a case in a pass over all cases, each of about this time.
 const ROUND: Duration = Duration::from_micros(100);
-const ROUNDS: usize = 400;
+const ROUNDS: usize = 100;
+const PASSES: usize = 8;
 
-/// The least time of a call, over many short rounds in which the sides take turns.
+/// The least time of a call, over many short rounds in which the sides take turns. What disturbs the
+/// machine for a while falls on a pass, and not on all rounds of a case.
 fn times(cases: &[Case]) {
-    for (i, c) in cases.iter().enumerate() {
-        let calls = c.sides.each_ref().map(|s| s.as_ref().map_or(0, |run| calls_a_round(run)));
-        let mut least = [f64::INFINITY; 3];
-        for _ in 0..ROUNDS {
-            for (side, run) in c.sides.iter().enumerate() {
-                if let Some(run) = run {
-                    let start = Instant::now();
-                    run(calls[side]);
-                    let ns = start.elapsed().as_nanos() as f64 / calls[side] as f64;
-                    least[side] = least[side].min(ns / c.inputs as f64);
-                }
+    let mut least = vec![[f64::INFINITY; 3]; cases.len()];
+    for _ in 0..PASSES {
+        for (c, least) in cases.iter().zip(&mut least) {
+            pass(c, least);
+        }
+    }
+    for (c, least) in cases.iter().zip(&least) {
+        let cells = least.map(|ns| if ns.is_finite() { format!("{ns:.1}") } else { "-".into() });
+        println!("{}\t{}\t{}", c.group, c.name, cells.join("\t"));
+    }
+}
+
+fn pass(c: &Case, least: &mut [f64; 3]) {
+    let calls = c.sides.each_ref().map(|s| s.as_ref().map_or(0, |run| calls_a_round(run)));
+    for _ in 0..ROUNDS {
+        for (side, run) in c.sides.iter().enumerate() {
+            if let Some(run) = run {
+                let start = Instant::now();
+                run(calls[side]);
+                let ns = start.elapsed().as_nanos() as f64 / calls[side] as f64;
+                least[side] = least[side].min(ns / c.inputs as f64);
             }
         }
-        let cells = least.map(|ns| if ns.is_finite() { format!("{ns:.1}") } else { "-".into() });
-        println!("{i}\t{}", cells.join("\t"));
     }
 }
 
