@@ -3,3 +3,4 @@ pub mod Utf8
 pub mod Table
 pub mod Classes
 pub mod Upper
+pub mod Ascii

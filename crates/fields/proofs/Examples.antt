@@ -18,7 +18,7 @@ use Rattle.dates.specs.declared.OptionMonth.{OptionMonth}
 use Rattle.dates.specs.declared.OptionMonth.the-variants.{NoMonth}
 use Rattle.dates.specs.declared.OptionDay.the-variants.{NoDay}
 use Rattle.dates.specs.Value.{day}
-use Rattle.strs.specs.Ascii.{ascii}
+use Rattle.chars.specs.Ascii.{ascii}
 use Rattle.strs.specs.Trim.{stepBy, stepOver, trimStep, trimFrom, trimEnd, trim}
 use Rattle.strs.specs.Parse.{digitOf, valueOf, digitsFrom, parse}
 use Rattle.fields.specs.declared.ReadYear.{ReadYear}

@@ -23,7 +23,7 @@ use Rattle.fields.specs.declared.ReadEra.{ReadEra}
 use Rattle.fields.specs.declared.ReadEra.the-variants.{Era, NoEra, BadEra}
 use Rattle.fields.specs.declared.ReadYear.{ReadYear}
 use Rattle.fields.specs.declared.ReadYear.the-variants.{Year, NoYear}
-use Rattle.strs.specs.Ascii.{ascii}
+use Rattle.chars.specs.Ascii.{ascii}
 
 -- a refusal of what stands from a place to another
 abbrev pub refused : Kind → ℕ → ℕ → TextRefusal

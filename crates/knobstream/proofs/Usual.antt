@@ -21,7 +21,7 @@ use Rattle.dates.specs.declared.DateValue.the-variants.{At, Between}
 use Rattle.dates.specs.Calendar.{monthLength}
 use Rattle.dates.specs.Value.{date, month, day}
 use Rattle.datefield.specs.declared.ReadDate.the-variants.{Accepted}
-use Rattle.strict.specs.Ascii.{digits}
+use Rattle.strict.specs.Digits.{digits}
 use Rattle.strict.specs.Grammar.{Point, point, dddd, no-month, -mm, no-day, -dd, field, no-time, plain, Value, alone, between, no-mark, text, Text}
 use Rattle.strict.specs.declared.Matched.the-variants.{Strict}
 use Rattle.strict.specs.Matcher.{strict}

@@ -7,7 +7,7 @@ ghost use Prim.Native.Nat.{_<_};
 ghost use lib.ListN.{length, getD};
 ghost use lib.IntN.{pos};
 ghost use Rattle.chars.specs.Classes.{isAsciiDigit};
-ghost use Rattle.strict.specs.Ascii.{digits};
+ghost use Rattle.strict.specs.Digits.{digits};
 ghost use Rattle.reader.specs.Field.{parsed, parsedStrict};
 ghost use Rattle.reader.specs.Fields.{threeFields};
 ghost use Rattle.order.specs.Order.{order};

@@ -8,7 +8,7 @@ use Rattle.chars.specs.Pick.{pick}
 use Rattle.dates.specs.declared.OptionMonth.{OptionMonth}
 use Rattle.dates.specs.declared.OptionMonth.the-variants.{NoMonth, SomeMonth}
 use Rattle.dates.specs.Value.{month}
-use Rattle.strs.specs.Ascii.{ascii}
+use Rattle.chars.specs.Ascii.{ascii}
 
 -- an ASCII letter in lower case; any other byte as it is
 unfoldable pub lower : ℕ → ℕ

@@ -30,7 +30,7 @@ use Rattle.points.specs.Time.{time, shiftAt, offsetBy, offsetFrom, offse
 use Rattle.points.specs.Point.{windowed, windowedInt, shortYear, longOf, longYear, shortOr, yearAt, onYear, withTime, timeOr, behindDay, behindMonth, behindYear, point}
 use Rattle.points.specs.declared.ReadPoint.{ReadPoint}
 use Rattle.points.specs.declared.ReadPoint.the-variants.{Point, Refused}
-use Rattle.points.proofs.Ascii.{ascii}
+use Rattle.chars.specs.Ascii.{ascii}
 
 -- a text, and what reading it says
 pub record Example : Type 0 where

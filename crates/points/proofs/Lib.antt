@@ -2,5 +2,4 @@ pub mod Ranges
 pub mod Back
 pub mod Times
 pub mod Accepted
-pub mod Ascii
 pub mod Examples

@@ -22,7 +22,7 @@ use Rattle.datefield.specs.declared.ReadDate.the-variants.{Accepted}
 use Rattle.datefield.specs.Value.{moved, onHalf, value, marked, dateText}
 use Rattle.strict.specs.declared.Matched.{Matched}
 use Rattle.strict.specs.declared.Matched.the-variants.{Strict, NotStrict}
-use Rattle.strict.specs.Ascii.{digits}
+use Rattle.strict.specs.Digits.{digits}
 use Rattle.strict.specs.Grammar.{field, Point, Unknown, ddXX, dddX, dddd-XX, dddd-XX-XX, dddd-mm-XX, Value, alone, between, after, before, unknown, Text, text}
 use Rattle.strict.specs.Matcher.{strict}
 use Rattle.strict.proofs.Exact.{exact}

@@ -9,7 +9,7 @@ use Rattle.dates.specs.declared.OptionDay.the-variants.{NoDay, SomeDay}
 use Rattle.dates.specs.declared.Datetime.{Datetime}
 use Rattle.datefield.specs.declared.ReadDate.{ReadDate}
 use Rattle.reader.specs.Fields.{threeFields}
-use Rattle.writer.specs.Ascii.{ascii}
+use Rattle.chars.specs.Ascii.{ascii}
 use Rattle.writer.specs.Texts.{yearText, partText}
 use Rattle.writer.specs.Fields.{line}
 use Rattle.roundtrip.specs.Domain.{oneChunk}

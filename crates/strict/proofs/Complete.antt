@@ -19,7 +19,7 @@ use Rattle.dates.specs.declared.Datetime.{Datetime}
 use Rattle.dates.specs.Value.{datetime, month}
 use Rattle.dates.specs.Calendar.{leapYear, february, monthLengths, monthLength}
 use Rattle.strict.specs.declared.ReadPoint.the-variants.{Upto}
-use Rattle.strict.specs.Ascii.{digits}
+use Rattle.strict.specs.Digits.{digits}
 use Rattle.strict.specs.Grammar.{dddd, -dddd, Zone, no-zone, z, ahead, behind, Clock, no-time, hh:mm:ss, InMonth, no-day, -dd, InYear, no-month, -mm, Point}
 use Rattle.strict.specs.Grammar
 use Rattle.strict.specs.Matcher.{is, on, onFour, four, signed, shiftAt, offsetAt, timeAt, behindMonth, behindYear, pointAt, point}

@@ -15,7 +15,7 @@ use Rattle.strict.specs.declared.OptionTwo.{OptionTwo}
 use Rattle.strict.specs.declared.OptionTwo.the-variants.{NoTwo, SomeTwo}
 use Rattle.strict.specs.declared.OptionFour.{OptionFour}
 use Rattle.strict.specs.declared.OptionFour.the-variants.{NoFour, SomeFour}
-use Rattle.strict.specs.Ascii.{digits}
+use Rattle.strict.specs.Digits.{digits}
 use Rattle.strict.specs.Grammar.{Field}
 use Rattle.strict.specs.Grammar
 use Rattle.strict.specs.Matcher.{two, on, onFour, four, counted, field, is}

@@ -21,7 +21,7 @@ use Rattle.strict.specs.declared.ReadUnknown.{ReadUnknown}
 use Rattle.strict.specs.declared.ReadUnknown.the-variants.{Within, NoUnknown}
 use Rattle.strict.specs.declared.OptionTwo.the-variants.{NoTwo, SomeTwo}
 use Rattle.strict.specs.declared.OptionFour.the-variants.{SomeFour}
-use Rattle.strict.specs.Ascii.{digits}
+use Rattle.strict.specs.Digits.{digits}
 use Rattle.strict.specs.Grammar.{Field, dddd, -dddd, InMonth, no-day, -dd, InYear, no-month, -mm, Point, Unknown, ddXX, dddX, dddd-XX, dddd-XX-XX, dddd-mm-XX}
 use Rattle.strict.specs.Grammar
 use Rattle.strict.specs.Matcher.{is, two, four, field, on, onFour, dashXX, years, months, days, unknownYears, unknownParts, unknown}

@@ -21,7 +21,7 @@ use Rattle.strict.specs.declared.ReadOffset.{ReadOffset}
 use Rattle.strict.specs.declared.ReadTime.{ReadTime}
 use Rattle.strict.specs.declared.ReadPoint.{ReadPoint}
 use Rattle.strict.specs.declared.ReadPoint.the-variants.{Upto}
-use Rattle.strict.specs.Ascii.{digits}
+use Rattle.strict.specs.Digits.{digits}
 use Rattle.strict.specs.Grammar.{Field, Year, dddd, -dddd, Zone, no-zone, z, ahead, behind, Clock, no-time, hh:mm:ss, InMonth, no-day, -dd, InYear, no-month, -mm, Point}
 use Rattle.strict.specs.Grammar
 use Rattle.strict.specs.Matcher.{is, field, four, signed, noOffset, noTime, shiftAt, offsetAt, timeAt, behindMonth, behindYear, pointAt, point}

@@ -11,7 +11,7 @@ use Rattle.dates.specs.declared.OptionDay.the-variants.{NoDay, SomeDay}
 use Rattle.dates.specs.declared.OptionTime.the-variants.{NoTime}
 use Rattle.dates.specs.declared.Datetime.{Datetime}
 use Rattle.dates.specs.Calendar.{monthLength}
-use Rattle.strict.specs.Ascii.{digits}
+use Rattle.strict.specs.Digits.{digits}
 
 -- a year with four digits, behind a minus if it is negative
 unfoldable pub yearText : ℤ → List ℕ

@@ -1,4 +1,4 @@
-pub mod Ascii
+pub mod Digits
 pub mod Grammar
 pub mod Matcher
 pub mod Canonical

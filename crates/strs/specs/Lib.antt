@@ -1,3 +1,2 @@
 pub mod Trim
 pub mod Parse
-pub mod Ascii

@@ -16,7 +16,7 @@ use Rattle.dates.specs.declared.DateValue.the-variants.{At, After, Before, Betw
 use Rattle.dates.specs.declared.Date.{Date}
 use Rattle.dates.specs.Value.{month, day, datetime, date}
 use Rattle.dates.specs.Time.{time}
-use Rattle.writer.specs.Ascii.{ascii}
+use Rattle.chars.specs.Ascii.{ascii}
 use Rattle.writer.specs.Numbers.{count, digitCount, width, decimal}
 use Rattle.writer.specs.Texts.{minus, yearText, writtenMonth, writtenDay, dayParts, monthParts, partsOf, partText, hyphenPart, partsText, datetimeText, valueText, markText, dateText}
 use Rattle.writer.specs.Fields.{prefix, line, partLines, endLines, valueLines, fieldsText}

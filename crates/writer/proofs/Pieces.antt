@@ -13,7 +13,7 @@ use mir.ValLaws.{toZ-ofZ}
 use borrow.Author.Tests.{ltb-true}
 use Rattle.dates.specs.declared.Datetime.{Datetime}
 use Rattle.writer.specs.declared.Parts.{Parts}
-use Rattle.writer.specs.Ascii.{ascii}
+use Rattle.chars.specs.Ascii.{ascii}
 use Rattle.writer.specs.Numbers.{width, decimal}
 use Rattle.writer.specs.Texts.{minus, yearText, partsOf, partText, hyphenPart, partsText, datetimeText, markText}
 use Rattle.writer.specs.Fields.{prefix, line, partLines, endLines}

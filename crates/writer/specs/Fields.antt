@@ -8,7 +8,7 @@ use Rattle.dates.specs.declared.DateValue.the-variants.{At, After, Before, Betw
 use Rattle.dates.specs.declared.Date.{Date}
 use Rattle.writer.specs.declared.Parts.{Parts}
 use Rattle.writer.specs.declared.Parts.the-variants.{NoParts, WithMonth, WithDay, TooLarge}
-use Rattle.writer.specs.Ascii.{ascii}
+use Rattle.chars.specs.Ascii.{ascii}
 use Rattle.writer.specs.Texts.{yearText, partText, partsOf}
 
 -- what the names of the second end of a range begin with

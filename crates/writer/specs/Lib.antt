@@ -1,4 +1,3 @@
-pub mod Ascii
 pub mod Numbers
 pub mod Texts
 pub mod Fields

@@ -6,7 +6,7 @@ ghost use mathlib.Core.List.{[], _∷_, _++_};
 ghost use Prim.Native.Nat.{_+_, _≤_, _<_};
 ghost use lib.IntN.{natAbs};
 ghost use lib.ListN.{length};
-ghost use Rattle.writer.specs.Ascii.{ascii};
+ghost use Rattle.chars.specs.Ascii.{ascii};
 ghost use Rattle.writer.specs.Numbers as numbers;
 ghost use Rattle.writer.specs.Texts as text;
 ghost use Rattle.writer.specs.Fields as field;

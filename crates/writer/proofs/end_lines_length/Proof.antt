@@ -1,6 +1,6 @@
 use Rattle.writer.specs.Texts.{yearText}
 use Rattle.writer.specs.Fields.{partLines, line}
-use Rattle.writer.specs.Ascii.{ascii}
+use Rattle.chars.specs.Ascii.{ascii}
 use Rattle.writer.proofs.Pieces.{added, end-pieces, line-length}
 use lib.ListN.{length}
 use native.Mathlib.Omega.{arith}

@@ -1,7 +1,7 @@
 use Rattle.writer.specs.Texts.{partText}
 use Rattle.writer.proofs.Pieces.{line-length}
 use Rattle.writer.specs.Fields.{partLines, line}
-use Rattle.writer.specs.Ascii.{ascii}
+use Rattle.chars.specs.Ascii.{ascii}
 use mathlib.Core.List.{_++_}
 use lib.ListN.{length, length-append}
 use native.Mathlib.Omega.{arith}

@@ -1,6 +1,6 @@
 use Rattle.writer.specs.Texts.{yearText, partsOf}
 use Rattle.writer.proofs.Pieces.{end-pieces}
-use Rattle.writer.specs.Ascii.{ascii}
+use Rattle.chars.specs.Ascii.{ascii}
 use Rattle.chars.specs.Utf8.{first}
 use Rattle.writer.specs.Fields.{partLines, endLines, line}
 use Rattle.writer.proofs.Puts.{room, as-text, both, fits-as, first-fits}

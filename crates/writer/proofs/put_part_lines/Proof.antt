@@ -1,6 +1,6 @@
 use Rattle.writer.specs.Texts.{partText}
 use Rattle.writer.specs.Fields.{partLines, line}
-use Rattle.writer.specs.Ascii.{ascii}
+use Rattle.chars.specs.Ascii.{ascii}
 use Rattle.writer.proofs.Puts.{both, first-fits, fits-as, room, as-text, nothing}
 use mathlib.Core.Path.{ap}
 use borrow.Author.Needs.{needs}

@@ -1,4 +1,4 @@
-use Rattle.writer.specs.Ascii.{ascii}
+use Rattle.chars.specs.Ascii.{ascii}
 use Rattle.writer.proofs.Puts.{room, front-as, first-fits, as-text, both}
 use Rattle.writer.specs.Texts.{valueText, datetimeText}
 use mathlib.Core.List.{_++_}

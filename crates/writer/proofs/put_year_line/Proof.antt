@@ -1,6 +1,6 @@
 use Rattle.writer.specs.Texts.{yearText}
 use Rattle.writer.specs.Fields.{line, prefix}
-use Rattle.writer.specs.Ascii.{ascii}
+use Rattle.chars.specs.Ascii.{ascii}
 use Rattle.writer.proofs.Puts.{both, first-fits, room}
 use mathlib.Core.List.{[], _∷_, _++_}
 use mir.Syntax.{w32}

@@ -1,5 +1,5 @@
 use Rattle.writer.specs.Texts.{valueText, datetimeText}
-use Rattle.writer.specs.Ascii.{ascii}
+use Rattle.chars.specs.Ascii.{ascii}
 use Rattle.writer.proofs.Pieces.{added}
 use mathlib.Core.List.{_++_}
 use lib.ListN.{length}
