@@ -10,6 +10,7 @@ use borrow.Author.Tests.{lt-ltb, le-ltb, ltb-true, ltb-false, leb-true, le-leb}
 use lib.Dec.{ltb, leb, eqb, lit<}
 use lib.ListN.{length, getD, take, drop, length-take, length-drop, drop-of-length-le}
 use lib.Seq.{drop-cons, getD-drop}
+use Rattle.chars.specs.Ascii.{digitOf}
 use Rattle.chars.specs.Pick.{pick}
 use Rattle.chars.specs.Utf8.{lenOf, isCont, isSurrogate, code2, code3, code4, two, three, four, decode, first, decodeAt, lenD, encode}
 use Rattle.chars.specs.declared.Decoded.{Decoded}
@@ -308,3 +309,8 @@ ascii s at h l = rw (drop-cons s at 0 h) (first-ascii _ _ l)
 pub decode-same : (s t : List ℕ) (i j : ℕ) → drop i s ≡ drop j t → decodeAt s i ≡ decodeAt t j
 unfolding decodeAt
 decode-same s t i j e = ap first e
+
+-- a digit's byte says the digit
+pub digit-is : (d : ℕ) → d < 10 → digitOf (48 + d) ≡ d
+unfolding digitOf pick
+digit-is d h = simp (le-ltb (48 + d) 0x30 (omega arith), lt-ltb (48 + d) 0x3A (omega arith)) (omega arith)

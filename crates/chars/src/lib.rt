@@ -3,6 +3,7 @@
 ghost use mathlib.Core.Path.{_≡_};
 ghost use Prim.Native.Nat.{_+_, _*_, _<_, _%_};
 ghost use lib.ListN.{getD};
+ghost use Rattle.chars.specs.Ascii as ascii_;
 ghost use Rattle.chars.specs.Utf8 as utf8;
 ghost use Rattle.chars.specs.Classes as classes;
 ghost use Rattle.chars.specs.Upper as case;
@@ -38,7 +39,8 @@ pub fn char_len(first: u8) -> usize
     }
 }
 
-fn wide(b: u8) -> u32
+// A byte as a code, so that a byte of ASCII can be asked for its class.
+pub fn wide(b: u8) -> u32
     ensures { λ r. ⌜ r ≡ b ⌝ }
 {
     b as u32
@@ -226,6 +228,26 @@ pub fn is_ascii_digit(code: u32) -> bool
     ensures { λ r. ⌜ r ≡ classes.isAsciiDigit code ⌝ }
 {
     within(0x30, 0x39, code)
+}
+
+// The same of a byte: one that is no character by itself is no digit.
+pub fn is_digit(b: u8) -> bool
+    ensures { λ r. ⌜ r ≡ classes.isAsciiDigit b ⌝ }
+{
+    is_ascii_digit(wide(b))
+}
+
+// What a byte says as a decimal digit, and 10 for any other byte.
+pub fn digit(b: u8) -> u32
+    ensures { λ r. ⌜ r ≡ ascii_.digitOf b ⌝ }
+{
+    if b < 0x30 {
+        return 10;
+    }
+    if b < 0x3A {
+        return wide(b - 0x30);
+    }
+    10
 }
 
 pub fn is_numeric(code: u32) -> bool

@@ -18,6 +18,7 @@ ghost use Rattle.chunks.specs.Plain as plain_;
 ghost use Rattle.chunks.specs.Answer as answer_;
 use chars::Decoded;
 use chars::Upper;
+use chars::wide;
 use refusals::FileSpan;
 use refusals::Kind;
 use refusals::Refusal;
@@ -383,12 +384,6 @@ fn is_plain(bytes: &[u8], table: &[u64]) -> bool
         }
     }
     false
-}
-
-fn wide(b: u8) -> u32
-    ensures { λ r. ⌜ r ≡ b ⌝ }
-{
-    b as u32
 }
 
 // An ASCII byte in upper case, where that is asked.

@@ -13,14 +13,14 @@ use Rattle.scanner.specs.Scan.{lenIn, matchLen, walk, eatWhile, eatIf, begins, 
 use Rattle.refusals.specs.declared.Kind.the-variants.{DayOutOfRange, InvalidNumber, MissingNumber, WrongNumberOfDigits, InvalidFormat, YearZeroCE}
 use Rattle.refusals.specs.declared.FileSpan.{FileSpan}
 use Rattle.refusals.specs.Refusal.{fileSpan, refusal}
-use Rattle.numbers.specs.Number.{admits, runOf, runAt, parseUnsignedInt, digitOf as digitIn, valueOf as valueIn}
+use Rattle.numbers.specs.Number.{admits, runOf, runAt, parseUnsignedInt, valueOf as valueIn}
 use Rattle.dates.specs.declared.OptionMonth.{OptionMonth}
 use Rattle.dates.specs.declared.OptionMonth.the-variants.{NoMonth}
 use Rattle.dates.specs.declared.OptionDay.the-variants.{NoDay}
 use Rattle.dates.specs.Value.{day}
-use Rattle.chars.specs.Ascii.{ascii}
+use Rattle.chars.specs.Ascii.{ascii, digitOf}
 use Rattle.strs.specs.Trim.{stepBy, stepOver, trimStep, trimFrom, trimEnd, trim}
-use Rattle.strs.specs.Parse.{digitOf, valueOf, digitsFrom, parse}
+use Rattle.strs.specs.Parse.{valueOf, digitsFrom, parse}
 use Rattle.fields.specs.declared.ReadYear.{ReadYear}
 use Rattle.fields.specs.declared.ReadYear.the-variants.{Year, NoYear}
 use Rattle.fields.specs.declared.ReadMonth.the-variants.{MonthRead, NoMonthRead}
@@ -97,7 +97,7 @@ months =
     ∷ []
 
 pub month-examples : map (λ (e : MonthExample). monthField (e .text)) months ≡ map (λ (e : MonthExample). MonthRead (e .month) (record { 0 = e .next })) months
-unfolding pick within isWhitespace isAsciiDigit isNumeric isAsciiAlphabetic lenOf isCont two decode first decodeAt inClass lenIn matchLen walk eatWhile part admits runOf runAt parseUnsignedInt digitIn valueIn lower sameLetters monthIn getMonthForName getMonthForAbbr orElse monthFor named monthOf monthField
+unfolding pick within isWhitespace isAsciiDigit isNumeric isAsciiAlphabetic lenOf isCont two decode first decodeAt inClass lenIn matchLen walk eatWhile part admits runOf runAt parseUnsignedInt digitOf valueIn lower sameLetters monthIn getMonthForName getMonthForAbbr orElse monthFor named monthOf monthField
 month-examples = refl
 
 pub day-examples : map (λ (e : MonthExample). dayInMonthField (e .text) (e .next)) months ≡ map (λ (e : MonthExample). e .holds) months
@@ -109,7 +109,7 @@ abbrev pub panicking : List (List ℕ)
 panicking = ascii "0" ∷ ascii " 00" ∷ (0xC2 ∷ 0xBD ∷ []) ∷ []
 
 pub panic-examples : map monthField panicking ≡ map (λ (t : List ℕ). NoMonthRead panics) panicking
-unfolding pick within isWhitespace isAsciiDigit isNumeric lenOf isCont two decode first decodeAt inClass lenIn matchLen walk eatWhile part admits runOf runAt parseUnsignedInt digitIn valueIn monthOf monthField
+unfolding pick within isWhitespace isAsciiDigit isNumeric lenOf isCont two decode first decodeAt inClass lenIn matchLen walk eatWhile part admits runOf runAt parseUnsignedInt digitOf valueIn monthOf monthField
 panic-examples = refl
 
 -- a day field with the span of its list, and what it is read as

@@ -11,11 +11,12 @@ use lib.Dec.{lit<, lit≤, eqb}
 use lib.IntN.{ℤ, pos, negsuc, natAbs}
 use lib.ListN.{length}
 use lib.Signed.{mag}
+use Rattle.chars.specs.Ascii.{digitOf}
 use Rattle.chars.proofs.Cases.{by-test}
 use Rattle.scanner.specs.declared.Class.the-variants.{Whitespace, Numeric, Is}
 use Rattle.scanner.specs.declared.Cursor.{Cursor}
 use Rattle.scanner.specs.Scan.{eatWhile, peekAt, part}
-use Rattle.numbers.specs.Number.{admits, cursor, digitOf, valueOf, runOf, runAt, parseUnsignedInt, behindSign, signed, withSign, intAt, parseInt}
+use Rattle.numbers.specs.Number.{admits, cursor, valueOf, runOf, runAt, parseUnsignedInt, behindSign, signed, withSign, intAt, parseInt}
 use Rattle.numbers.specs.declared.Digits.{Digits}
 use Rattle.numbers.specs.declared.Digits.the-variants.{OneOrTwo, Two, Four}
 use Rattle.numbers.specs.declared.Parsed.{Parsed}

@@ -6,11 +6,12 @@ use mathlib.Core.List.{List, [], _∷_, _++_}
 use Prim.Native.Nat.{ℕ, suc, _+_, _*_, _<_}
 use native.Mathlib.Nat.{add-zero, add-sub-cancel-left}
 use native.Mathlib.Omega.{arith}
-use borrow.Author.Tests.{lt-ltb, le-ltb, le-leb, ne-eqb}
+use borrow.Author.Tests.{lt-ltb, le-leb, ne-eqb}
 use lib.Dec.{lit<}
 use lib.IntN.{pos, negℤ}
 use lib.ListN.{length, take}
 use Rattle.chars.specs.Pick.{pick}
+use Rattle.chars.proofs.Laws.{digit-is}
 use Rattle.chars.specs.Classes.{within, isWhitespace, isAsciiDigit, isNumeric}
 use Rattle.scanner.specs.declared.Class.{Class}
 use Rattle.scanner.specs.declared.Class.the-variants.{Whitespace, Numeric, Sign, Is}
@@ -20,7 +21,7 @@ use Rattle.scanner.specs.Class.{inClass}
 use Rattle.scanner.specs.Scan.{matchLen, eatWhile, eatIf, peekAt, part}
 use Rattle.scanner.proofs.Front.{From, front-rest, front-match, front-go, front-stop, front-end}
 use Rattle.scanner.proofs.Laws.{not-white}
-use Rattle.numbers.specs.Number.{admits, cursor, digitOf, valueOf, runOf, runAt, parseUnsignedInt, orKept, behindSign, signed, withSign, intAt, parseInt}
+use Rattle.numbers.specs.Number.{admits, cursor, valueOf, runOf, runAt, parseUnsignedInt, orKept, behindSign, signed, withSign, intAt, parseInt}
 use Rattle.numbers.specs.declared.Digits.{Digits}
 use Rattle.numbers.specs.declared.Parsed.the-variants.{Number, Wrong}
 use Rattle.numbers.specs.declared.ReadInt.the-variants.{Int, NoInt}
@@ -69,10 +70,6 @@ pub hyphen-sign : inClass Sign 0x2D ≡ true
 unfolding inClass
 hyphen-sign = refl
 
-digit-value : (d : ℕ) → d < 10 → digitOf (48 + d) ≡ d
-unfolding digitOf pick
-digit-value d h = simp (le-ltb (48 + d) 48 (omega arith), lt-ltb (48 + d) 58 (omega arith)) (omega arith)
-
 -- no white space, and no digits, stand behind
 pub behind-white : {s t : List ℕ} {i : ℕ} → Behind t → From s i t → eatWhile Whitespace s i ≡ i
 behind-white end f = front-end f Whitespace
@@ -91,7 +88,7 @@ run-digits (d ∷ ds) {s} {t} {i} h b f =
 value-digits : (ds : List ℕ) (c : Cursor) (acc : ℕ) → AreDigits ds → valueOf c acc (bytes ds) ≡ Number (value acc ds) c
 unfolding valueOf pick
 value-digits [] c acc h = refl
-value-digits (d ∷ ds) c acc h = simp (digit-value d (h .0), lt-ltb d 10 (h .0)) (value-digits ds c (acc * 10 + d) (h .1))
+value-digits (d ∷ ds) c acc h = simp (digit-is d (h .0), lt-ltb d 10 (h .0)) (value-digits ds c (acc * 10 + d) (h .1))
 
 pub length-bytes : (ds : List ℕ) → length (bytes ds) ≡ length ds
 length-bytes [] = refl

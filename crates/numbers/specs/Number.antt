@@ -1,10 +1,11 @@
 -- The number that a run of numeric characters is, and how white space and a sign stand before it.
-use Prim.Native.Nat.{ℕ, _+_, _*_, _-_}
+use Prim.Native.Nat.{ℕ, _+_, _*_}
 use mathlib.Core.Bool.{Bool, true, false, _||_}
 use mathlib.Core.List.{List, [], _∷_}
 use lib.Dec.{ltb, eqb}
 use lib.IntN.{ℤ, pos, negℤ}
 use lib.ListN.{length}
+use Rattle.chars.specs.Ascii.{digitOf}
 use Rattle.chars.specs.Pick.{pick}
 use Rattle.scanner.specs.declared.Class.the-variants.{Whitespace, Numeric, Sign, Is}
 use Rattle.scanner.specs.declared.Cursor.{Cursor}
@@ -27,10 +28,6 @@ admits Four n = eqb n 4
 -- a place as a cursor
 abbrev pub cursor : ℕ → Cursor
 cursor at = record { 0 = at }
-
--- what a byte says as an ASCII digit, and 10 for any other byte
-unfoldable pub digitOf : ℕ → ℕ
-digitOf b = pick (ltb b 48) 10 (pick (ltb b 58) (b - 48) 10)
 
 -- the decimal number that bytes are, behind the digits read so far; a byte that is no ASCII digit panics
 unfoldable pub valueOf : Cursor → ℕ → List ℕ → Parsed

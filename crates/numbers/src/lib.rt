@@ -3,6 +3,7 @@ ghost use mathlib.Core.Path.{_≡_};
 ghost use Prim.Native.Nat.{_<_, _≤_};
 ghost use lib.ListN.{length};
 ghost use Rattle.numbers.specs.Number as spec;
+use chars::digit;
 use scanner::Class;
 use scanner::Cursor;
 use scanner::EatIf;
@@ -43,19 +44,6 @@ fn contains(digits: Digits, n: usize) -> bool
         Digits::Two => n == 2,
         Digits::Four => n == 4,
     }
-}
-
-// What a byte says as a decimal digit, and 10 for any other byte.
-fn digit(b: u8) -> u32
-    ensures { λ r. ⌜ r ≡ spec.digitOf b ⌝ }
-{
-    if b < 48 {
-        return 10;
-    }
-    if b < 58 {
-        return (b - 48) as u32;
-    }
-    10
 }
 
 // The number that the bytes of a run are. At most four bytes are asked for, so it fits.

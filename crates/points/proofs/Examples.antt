@@ -14,7 +14,7 @@ use Rattle.scanner.specs.Scan.{lenIn, matchLen, walk, eatWhile, eatIf, eaten, e
 use Rattle.refusals.specs.Offset.{textRefusal}
 use Rattle.refusals.specs.declared.Kind.{Kind}
 use Rattle.refusals.specs.declared.Kind.the-variants.{InvalidFormat, MonthOutOfRange, DayOutOfRange, InvalidNumber, RustPanics}
-use Rattle.numbers.specs.Number.{admits, digitOf, valueOf, runOf, runAt, parseUnsignedInt, orKept, behindSign, signed, withSign, intAt, parseInt}
+use Rattle.numbers.specs.Number.{admits, valueOf, runOf, runAt, parseUnsignedInt, orKept, behindSign, signed, withSign, intAt, parseInt}
 use Rattle.dates.specs.Calendar.{multiple, leapYear, february, monthLengths, monthLength}
 use Rattle.dates.specs.Value.{month, day, datetime}
 use Rattle.dates.specs.declared.TimeOffset.the-variants.{Utc, Offset}
@@ -30,7 +30,7 @@ use Rattle.points.specs.Time.{time, shiftAt, offsetBy, offsetFrom, offse
 use Rattle.points.specs.Point.{windowed, windowedInt, shortYear, longOf, longYear, shortOr, yearAt, onYear, withTime, timeOr, behindDay, behindMonth, behindYear, point}
 use Rattle.points.specs.declared.ReadPoint.{ReadPoint}
 use Rattle.points.specs.declared.ReadPoint.the-variants.{Point, Refused}
-use Rattle.chars.specs.Ascii.{ascii}
+use Rattle.chars.specs.Ascii.{ascii, digitOf}
 
 -- a text, and what reading it says
 pub record Example : Type 0 where

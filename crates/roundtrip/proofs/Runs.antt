@@ -6,10 +6,11 @@ use mathlib.Core.List.{List, [], _∷_, _++_}
 use Prim.Native.Nat.{ℕ, _+_, _*_, _≤_, _<_}
 use native.Mathlib.Nat.{add-zero, add-sub-cancel-left}
 use native.Mathlib.Omega.{arith}
-use borrow.Author.Tests.{ne-eqb, lt-ltb, le-ltb, lt-leb, le-leb}
+use borrow.Author.Tests.{ne-eqb, le-ltb, lt-leb, le-leb}
 use lib.ListN.{length}
 use lib.Seq.{take-at}
 use Rattle.chars.specs.Pick.{pick}
+use Rattle.chars.proofs.Laws.{digit-is}
 use Rattle.chars.specs.Classes.{isAsciiDigit, within}
 use Rattle.scanner.specs.declared.Class.{Class}
 use Rattle.scanner.specs.declared.Class.the-variants.{AsciiDigit}
@@ -18,7 +19,7 @@ use Rattle.scanner.specs.Scan.{eatWhile, part}
 use Rattle.scanner.proofs.Front.{From, front-rest, front-go, front-stop, front-end}
 use Rattle.numbers.proofs.Reading.{bytes, value, AreDigits, length-bytes}
 use Rattle.strs.specs.declared.ParsedNumber.the-variants.{Value}
-use Rattle.strs.specs.Parse.{digitOf, valueOf, digitsFrom, parse}
+use Rattle.strs.specs.Parse.{valueOf, digitsFrom, parse}
 
 -- what may stand behind a run of a class: nothing, or an ASCII character that is not of it
 pub data Stops (k : Class) : List ℕ → Type 0 where
@@ -43,10 +44,6 @@ unfolding part
 ascii-part ds t f = rw (add-sub-cancel-left, f .is) (take-at (bytes ds) t (length ds) (length-bytes ds))
 
 -- the number that they are
-digit-is : (d : ℕ) → d < 10 → digitOf (48 + d) ≡ d
-unfolding digitOf pick
-digit-is d h = simp (le-ltb (48 + d) 0x30 (omega arith), lt-ltb (48 + d) 0x3A (omega arith)) (omega arith)
-
 value-grows : (acc : ℕ) (ds : List ℕ) → acc ≤ value acc ds
 value-grows acc [] = omega arith
 value-grows acc (d ∷ ds) = let g = value-grows (acc * 10 + d) ds in omega arith

@@ -7,6 +7,7 @@ ghost use Rattle.scanner.specs.Quick.{Quick};
 ghost use Rattle.scanner.specs.declared.Class.{Class};
 ghost use Rattle.scanner.specs.declared.Class.the-variants.{Whitespace, Is};
 use chars::Decoded;
+use chars::wide;
 
 // A place in the formatted text, in bytes. It is no place in the file: only the offset rule of `refusals` makes one of it.
 pub struct Cursor(pub usize);
@@ -72,12 +73,6 @@ fn match_far(s: &[u8], at: usize, class: Class) -> usize
         Decoded::Bad => 0,
         Decoded::End => 0,
     }
-}
-
-fn wide(b: u8) -> u32
-    ensures { λ r. ⌜ r ≡ b ⌝ }
-{
-    b as u32
 }
 
 // The same, with a look at an ASCII byte first.

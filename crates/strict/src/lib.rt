@@ -2,6 +2,7 @@
 // Every piece of the grammar has a fixed length, so a reader looks at fixed places behind where a point starts. A reader takes as much
 // as the grammar lets it, and what may not follow is refused by the one that looks at what is left.
 use chars::byte_at;
+use chars::is_digit;
 use dates::Date;
 use dates::DateValue;
 use dates::Datetime;
@@ -17,7 +18,6 @@ use dates::days_in_month;
 ghost use mathlib.Core.Path.{_≡_};
 ghost use Prim.Native.Nat.{_<_};
 ghost use lib.ListN.{drop};
-ghost use Rattle.chars.specs.Classes.{isAsciiDigit};
 ghost use Rattle.strict.specs.Grammar as grammar;
 ghost use Rattle.strict.specs.Matcher as spec;
 
@@ -61,12 +61,6 @@ enum ReadPoint {
 enum ReadUnknown {
     Within { value: DateValue, next: usize },
     NoUnknown,
-}
-
-fn is_digit(b: u8) -> bool
-    ensures { λ r. ⌜ r ≡ isAsciiDigit b ⌝ }
-{
-    b'0' <= b && b <= b'9'
 }
 
 // The number that two digits at a place write.

@@ -11,11 +11,12 @@ use borrow.Author.Tests.{lt-ltb, le-ltb, ltb-false}
 use lib.Dec.{lit<}
 use lib.ListN.{length, getD, drop, drop-of-length-le, length-drop}
 use lib.Seq.{drop-cons}
+use Rattle.chars.specs.Ascii.{digitOf}
 use Rattle.chars.specs.Pick.{pick}
 use Rattle.chars.proofs.Cases.{by-test}
 use Rattle.strs.specs.declared.ParsedNumber.{ParsedNumber}
 use Rattle.strs.specs.declared.ParsedNumber.the-variants.{Value, NoValue}
-use Rattle.strs.specs.Parse.{digitOf, valueOf, digitsFrom, parse}
+use Rattle.strs.specs.Parse.{valueOf, digitsFrom, parse}
 
 module _ (top acc d i : ℕ) (s : List ℕ) (h : i < length s) (e : d ≡ digitOf (getD s i 0)) where
   -- no digit stands there

@@ -1,15 +1,12 @@
 -- A whole text as a number, as Rust's `str::parse` reads it for a type of unsigned numbers.
-use Prim.Native.Nat.{ℕ, _+_, _*_, _-_}
+use Prim.Native.Nat.{ℕ, _+_, _*_}
 use mathlib.Core.List.{List, [], _∷_}
 use lib.Dec.{ltb, leb, eqb}
 use lib.ListN.{length, getD, drop}
+use Rattle.chars.specs.Ascii.{digitOf}
 use Rattle.chars.specs.Pick.{pick}
 use Rattle.strs.specs.declared.ParsedNumber.{ParsedNumber}
 use Rattle.strs.specs.declared.ParsedNumber.the-variants.{Value, NoValue}
-
--- what a byte says as an ASCII digit, and 10 for any other byte
-unfoldable pub digitOf : ℕ → ℕ
-digitOf b = pick (ltb b 0x30) 10 (pick (ltb b 0x3A) (b - 0x30) 10)
 
 -- the decimal number that ASCII digits say, behind those read so far; none if another byte stands there, or the number is above top
 unfoldable pub valueOf : ℕ → ℕ → List ℕ → ParsedNumber

@@ -4,6 +4,7 @@ ghost use Prim.Native.Nat.{_≤_, _-_};
 ghost use Rattle.strs.specs.Trim as spec;
 ghost use Rattle.strs.specs.Parse as number;
 use chars::Decoded;
+use chars::digit;
 use scanner::Cursor;
 
 // A whole text as a number: the number, or that it is none.
@@ -47,19 +48,6 @@ pub fn trim(s: &[u8]) -> &[u8]
     scanner::from(s, a, e)
 }
 
-// What a byte says as a decimal digit, and 10 for any other byte.
-fn digit(b: u8) -> u64
-    ensures { λ r. ⌜ r ≡ number.digitOf b ⌝ }
-{
-    if b < 0x30 {
-        return 10;
-    }
-    if b < 0x3A {
-        return (b - 0x30) as u64;
-    }
-    10
-}
-
 // The number that digits from a place on say, unless it is above the largest one.
 fn parse_digits(s: &[u8], at: usize, top: u32) -> ParsedNumber
     ensures { λ r. ⌜ r ≡ number.digitsFrom top (now (s .entry)) at ⌝ }
@@ -74,7 +62,7 @@ fn parse_digits(s: &[u8], at: usize, top: u32) -> ParsedNumber
         if 9 < d {
             return ParsedNumber::NoValue;
         }
-        let more = (value as u64) * 10 + d;
+        let more = (value as u64) * 10 + d as u64;
         if (top as u64) < more {
             return ParsedNumber::NoValue;
         }

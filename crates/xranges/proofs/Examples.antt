@@ -14,8 +14,8 @@ use Rattle.dates.specs.declared.OptionMonth.the-variants.{NoMonth}
 use Rattle.dates.specs.declared.OptionDay.the-variants.{NoDay}
 use Rattle.dates.specs.declared.OptionTime.the-variants.{NoTime}
 use Rattle.dates.specs.Value.{datetime, month as stored, day}
-use Rattle.chars.specs.Ascii.{ascii}
-use Rattle.strs.specs.Parse.{digitOf, valueOf, digitsFrom, parse}
+use Rattle.chars.specs.Ascii.{ascii, digitOf}
+use Rattle.strs.specs.Parse.{valueOf, digitsFrom, parse}
 use Rattle.xranges.specs.declared.ReadRange.{ReadRange}
 use Rattle.xranges.specs.declared.ReadRange.the-variants.{Range, NoRange}
 use Rattle.xranges.specs.Range.{refused, panics, hyphenRun, hyphenFrom, getHyphen, onHyphen, onValue, years, months, days, secondRun, secondAt, behindMonths, endOfDays, dayRun, behindMonth, monthRun, month, monthsRun, behindYear, yearRun, digitRun, rangeFrom, rangeDates}

@@ -1,6 +1,7 @@
+use Rattle.chars.specs.Ascii.{digitOf}
 use Rattle.chars.specs.Pick.{pick}
 use Rattle.scanner.specs.declared.Cursor.{Cursor}
-use Rattle.numbers.specs.Number.{valueOf, digitOf}
+use Rattle.numbers.specs.Number.{valueOf}
 use Rattle.numbers.proofs.Reading.{value}
 use borrow.Author.Tests.{lt-ltb, le-ltb}
 use lib.Dec.{lit<}

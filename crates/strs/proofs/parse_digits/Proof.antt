@@ -39,6 +39,9 @@ cast-more c = search needs
 mul-more : tie.Need-mul-more Inv-loop μ-loop
 mul-more c = search needs
 
+cast-more-2 : tie.Need-cast-more-2 Inv-loop μ-loop
+cast-more-2 c = search needs
+
 add-more : tie.Need-add-more Inv-loop μ-loop
 add-more c = search needs
 
@@ -73,6 +76,7 @@ parse-digits-spec =
     returns-2
     cast-more
     mul-more
+    cast-more-2
     add-more
     returns-3
     cast-value
