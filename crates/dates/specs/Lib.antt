@@ -1,3 +1,4 @@
 pub mod Calendar
 pub mod Value
 pub mod Time
+pub mod Domain

@@ -18,6 +18,7 @@ use Rattle.numbers.specs.declared.Digits.the-variants.{Two, Four}
 use Rattle.numbers.specs.declared.ReadInt.{ReadInt}
 use Rattle.numbers.proofs.Laws.{IntIn, int, noint, panic, int-in}
 use Rattle.dates.specs.Calendar.{monthLength}
+use Rattle.dates.specs.Domain.{PartsIn, EndIn}
 use Rattle.dates.specs.Value.{day}
 use Rattle.dates.specs.declared.Month.{Month}
 use Rattle.dates.specs.declared.OptionMonth.{OptionMonth}
@@ -38,7 +39,6 @@ use Rattle.points.specs.declared.ReadSeparator.{ReadSeparator}
 use Rattle.points.specs.declared.ReadSeparator.the-variants.{Passed, Missing}
 use Rattle.points.specs.declared.ReadPart.{ReadPart}
 use Rattle.points.proofs.Ranges.{PartIn, part, nopart, part-in, windowed-in}
-use Rattle.points.proofs.Back.{PartsIn, Written}
 
 -- what is known of an accepted Datetime, whatever its time
 pub record Dated (d : Datetime) : Type 0 where
@@ -135,5 +135,5 @@ unfolding point
 accepted-date s e = of-good (subst Good e (on-year (year-in s 0) λ y next h. year-good s next y h))
 
 -- every Datetime that the reader gives can be written and read back, if it has no time
-pub accepted : (s : List ℕ) {d : Datetime} → point s ≡ Point d → d .time ≡ NoTime → Written d
+pub accepted : (s : List ℕ) {d : Datetime} → point s ≡ Point d → d .time ≡ NoTime → EndIn d
 accepted s e t = let g = accepted-date s e in record { year-in = g .year-in; parts-in = g .parts-in; untimed = t }

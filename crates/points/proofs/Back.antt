@@ -20,6 +20,7 @@ use Rattle.numbers.specs.Number.{admits, cursor}
 use Rattle.numbers.specs.declared.Digits.the-variants.{OneOrTwo, Two, Four}
 use Rattle.numbers.proofs.Reading.{bytes, value, AreDigits, Behind, end, digit-hyphen, hyphen, hyphen-hyphen, behind-white, front-ate, number-read, int-read, int-wrong, minus-read, minus-wrong}
 use Rattle.dates.specs.Calendar.{leapYear, february, monthLengths, monthLength}
+use Rattle.dates.specs.Domain.{PartsIn, EndIn}
 use Rattle.dates.specs.Value.{day, datetime}
 use Rattle.dates.specs.declared.Month.{Month}
 use Rattle.dates.specs.declared.OptionMonth.{OptionMonth}
@@ -83,19 +84,6 @@ tailBytes (SomeMonth m) d = partBytes (m .0) ++ dayBytes d
 -- the text of a Datetime without its time
 abbrev pub written : Datetime → List ℕ
 written d = yearBytes (d .year) ++ tailBytes (d .month) (d .day)
-
--- the months and days that are read back: a day stands beside a month, and within it
-abbrev pub PartsIn : ℤ → OptionMonth → OptionDay → Type 0
-PartsIn y NoMonth NoDay = Unit {0}
-PartsIn y NoMonth (SomeDay d) = ⊥
-PartsIn y (SomeMonth m) NoDay = m .0 < 12
-PartsIn y (SomeMonth m) (SomeDay d) = (m .0 < 12) × (d .0 < monthLength (m .0) y)
-
--- the Datetimes that have a text to be read back
-pub record Written (d : Datetime) : Type 0 where
-  pub year-in : natAbs (d .year) < 10000
-  pub parts-in : PartsIn (d .year) (d .month) (d .day)
-  pub untimed : d .time ≡ NoTime
 
 -- the lengths that are admitted
 two-admitted : admits OneOrTwo 2 ≡ true
@@ -234,7 +222,7 @@ behind-tail NoMonth d = end
 behind-tail (SomeMonth m) d = hyphen
 
 -- a written point, read, is the point
-pub point-back : (d : Datetime) → Written d → point (written d) ≡ Point d
+pub point-back : (d : Datetime) → EndIn d → point (written d) ≡ Point d
 point-back d w =
     let y = d .year in
     let f = from-start (written d) in

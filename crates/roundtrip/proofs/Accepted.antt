@@ -9,7 +9,7 @@ use native.Mathlib.Omega.{arith}
 use native.Mathlib.Decide.{decLt}
 use lib.Dec.{lit<}
 use lib.ListN.{take, drop}
-use lib.IntN.{ℤ, pos}
+use lib.IntN.{pos}
 use Rattle.chars.proofs.Cases.{by-test}
 use Rattle.refusals.specs.declared.FileSpan.{FileSpan}
 use Rattle.refusals.specs.declared.Refusal.{Refusal}
@@ -19,9 +19,9 @@ use Rattle.chunks.specs.declared.Checked.the-variants.{Clean, Faulty}
 use Rattle.chunks.specs.Chunks.{chunksOf, spanOf}
 use Rattle.chunks.specs.Check.{checked}
 use Rattle.dates.specs.declared.OptionMonth.{OptionMonth}
-use Rattle.dates.specs.declared.OptionMonth.the-variants.{NoMonth, SomeMonth}
+use Rattle.dates.specs.declared.OptionMonth.the-variants.{NoMonth}
 use Rattle.dates.specs.declared.OptionDay.{OptionDay}
-use Rattle.dates.specs.declared.OptionDay.the-variants.{NoDay, SomeDay}
+use Rattle.dates.specs.declared.OptionDay.the-variants.{NoDay}
 use Rattle.dates.specs.declared.OptionTime.the-variants.{NoTime}
 use Rattle.dates.specs.declared.Datetime.{Datetime}
 use Rattle.dates.specs.declared.DateValue.{DateValue}
@@ -33,7 +33,6 @@ use Rattle.dates.proofs.Months.{some-day}
 use Rattle.points.specs.declared.ReadPoint.{ReadPoint}
 use Rattle.points.specs.declared.ReadPoint.the-variants.{Point, Refused as NoPoint}
 use Rattle.points.specs.Point.{point}
-use Rattle.points.proofs.Back.{PartsIn as Parts}
 use Rattle.points.proofs.Accepted.{Dated, accepted-date}
 use Rattle.xranges.specs.declared.ReadRange.{ReadRange}
 use Rattle.xranges.specs.declared.ReadRange.the-variants.{Range, NoRange}
@@ -46,7 +45,8 @@ use Rattle.datefield.specs.declared.ReadDate.the-variants.{Accepted, Refused}
 use Rattle.datefield.specs.Text.{firstOf, isOpen}
 use Rattle.datefield.specs.Value.{moved, firstHalf, secondHalf, onHalf, bothHalves, halves, xRange, value, marked, trimmedDate, dateText}
 use Rattle.reader.specs.Field.{onClean, parsed}
-use Rattle.roundtrip.specs.Domain.{PartsIn, EndIn, InDomain, Untimed, ShortMonthRange, days-xx}
+use Rattle.dates.specs.Domain.{PartsIn, EndIn}
+use Rattle.roundtrip.specs.Domain.{InDomain, Untimed, ShortMonthRange, days-xx}
 
 -- every end is a date of the calendar, whatever its time
 abbrev AllDated : DateValue → Type 0
@@ -81,7 +81,7 @@ halves-good span s slash =
     (λ _. by-test Holds (isOpen v) (λ _. half-good u _ λ a h. holds {v = After a} (inl h)) λ _. half-good u _ λ a h. half-good v _ λ b k. holds {v = Between a b} (inl (h, k)))
 
 -- an X range
-dated : (y : ℕ) (m : OptionMonth) (d : OptionDay) → y < 10000 → Parts (pos y) m d → Dated (datetime (pos y) m d NoTime)
+dated : (y : ℕ) (m : OptionMonth) (d : OptionDay) → y < 10000 → PartsIn (pos y) m d → Dated (datetime (pos y) m d NoTime)
 dated y m d h p = record { year-in = h; parts-in = p }
 
 range-known : {a b : Datetime} → XRange a b → Known (Between a b)
@@ -125,14 +125,8 @@ clean-fine (Faulty e) f = refused
 of-fine : {d : Date} → Fine (Accepted d) → Known (d .value)
 of-fine (fine h) = h
 
-parts-of : (y : ℤ) (m : OptionMonth) (d : OptionDay) → Parts y m d → PartsIn y m d
-parts-of y NoMonth NoDay h = h
-parts-of y NoMonth (SomeDay d) h = absurd h
-parts-of y (SomeMonth m) NoDay h = h
-parts-of y (SomeMonth m) (SomeDay d) h = h
-
 end-in : {d : Datetime} → Dated d → d .time ≡ NoTime → EndIn d
-end-in {d} w t = record { year-in = w .year-in; parts-in = parts-of (d .year) (d .month) (d .day) (w .parts-in); untimed = t }
+end-in w t = record { year-in = w .year-in; parts-in = w .parts-in; untimed = t }
 
 in-domain : (v : DateValue) → AllDated v → Untimed v → InDomain v
 in-domain (At a) h t = end-in h t

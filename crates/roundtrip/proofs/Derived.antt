@@ -14,18 +14,18 @@ use Rattle.dates.specs.declared.Datetime.{Datetime}
 use Rattle.dates.specs.declared.DateValue.{DateValue}
 use Rattle.dates.specs.declared.DateValue.the-variants.{At, After, Before, Between}
 use Rattle.dates.specs.declared.Date.{Date}
+use Rattle.dates.specs.Domain.{EndIn}
 use Rattle.numbers.proofs.Reading.{bytes}
-use Rattle.points.proofs.Back.{two, yearBytes, partBytes, dayBytes, tailBytes, written}
+use Rattle.points.proofs.Back.{two, yearBytes, partBytes, dayBytes, tailBytes}
 use Rattle.strict.specs.declared.Matched.the-variants.{Strict}
-use Rattle.strict.specs.Canonical.{yearText, partText, dayText, monthText, canonical, InCalendar, Plain}
+use Rattle.strict.specs.Canonical.{yearText, partText, dayText, monthText, canonical}
 use Rattle.strict.specs.Grammar.{Point, Value, alone, between, after, before, Mark, no-mark, uncertain, approximate, both, text}
 use Rattle.strict.specs.Matcher.{strict}
 use Rattle.strict.proofs.Written.{derived}
 use Rattle.strict.proofs.Exact.{exact}
 use Rattle.writer.specs.Texts.{datetimeText, valueText, markText, dateText}
-use Rattle.roundtrip.specs.Domain.{PartsIn, EndIn, InDomain}
+use Rattle.roundtrip.specs.Domain.{InDomain}
 use Rattle.roundtrip.proofs.Texts.{text-is}
-use Rattle.roundtrip.proofs.Whole.{end-of}
 
 -- the writer's text of an end is the grammar's
 year-same : (y : ℤ) → yearBytes y ≡ yearText y
@@ -52,19 +52,10 @@ tail-same (SomeMonth m) d = ap (λ (u : List ℕ). u ++ dayBytes d) (part-same (
 
 canonical-is : (d : Datetime) → EndIn d → datetimeText d ≡ canonical d
 unfolding canonical
-canonical-is d w = text-is d (end-of w) ∙ rw (year-same (d .year), tail-same (d .month) (d .day))
-
-calendar-of : (y : ℤ) (m : OptionMonth) (d : OptionDay) → PartsIn y m d → InCalendar y m d
-unfolding InCalendar
-calendar-of y NoMonth NoDay h = h
-calendar-of y NoMonth (SomeDay d) h = absurd h
-calendar-of y (SomeMonth m) NoDay h = h
-calendar-of y (SomeMonth m) (SomeDay d) h = h
+canonical-is d w = text-is d w ∙ rw (year-same (d .year), tail-same (d .month) (d .day))
 
 end-derived : (d : Datetime) → EndIn d → Point (datetimeText d) d
-end-derived d w =
-    subst (λ (s : List ℕ). Point s d) (sym (canonical-is d w))
-    (derived d (record { year-in = w .year-in; parts-in = calendar-of (d .year) (d .month) (d .day) (w .parts-in); no-time = w .untimed }))
+end-derived d w = subst (λ (s : List ℕ). Point s d) (sym (canonical-is d w)) (derived d w)
 
 value-derived : (v : DateValue) → InDomain v → Value Point (valueText v) v
 unfolding valueText

@@ -14,7 +14,8 @@ use Rattle.dates.specs.declared.OptionMonth.the-variants.{NoMonth, SomeMonth}
 use Rattle.dates.specs.declared.OptionDay.{OptionDay}
 use Rattle.dates.specs.declared.OptionDay.the-variants.{NoDay, SomeDay}
 use Rattle.dates.specs.declared.Datetime.{Datetime}
-use Rattle.points.proofs.Back.{two, four, two-digits, four-digits, yearBytes, partBytes, dayBytes, tailBytes, written, PartsIn, Written, length-most}
+use Rattle.dates.specs.Domain.{PartsIn, EndIn}
+use Rattle.points.proofs.Back.{two, four, two-digits, four-digits, yearBytes, partBytes, dayBytes, tailBytes, written, length-most}
 use Rattle.writer.specs.Numbers.{digits, decimal, width, digitCount}
 use Rattle.writer.specs.Texts.{minus, yearText, writtenMonth, writtenDay, dayParts, monthParts, partsOf, partText, hyphenPart, partsText, datetimeText}
 use Rattle.writer.proofs.Counts.{few, padded, unpadded}
@@ -67,7 +68,7 @@ short-of y NoMonth d h = tt
 short-of y (SomeMonth m) NoDay h = h
 short-of y (SomeMonth m) (SomeDay d) h = let l = length-most (m .0) y in (h .0, omega (arith, h .1))
 
-pub text-is : (d : Datetime) → Written d → datetimeText d ≡ written d
+pub text-is : (d : Datetime) → EndIn d → datetimeText d ≡ written d
 text-is d w = text-short d (w .year-in) (short-of (d .year) (d .month) (d .day) (w .parts-in))
 
 -- what bytes stand in it, and how long it is

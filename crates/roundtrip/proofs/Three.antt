@@ -28,7 +28,8 @@ use Rattle.reader.specs.Field.{onClean}
 use Rattle.reader.specs.Fields.{partsChecked, fieldsChecked, movedYear, yearOf, onMonth, insideDay, monthText, monthAlone, fieldDay, monthAndDay, partsOf, dated, onYear, readFields, threeFields}
 use Rattle.writer.specs.Texts.{partText, writtenMonth, writtenDay, dayParts, monthParts, partsOf as writtenParts}
 use Rattle.writer.specs.Fields.{partLines, endLines}
-use Rattle.roundtrip.specs.Domain.{PartsIn, EndIn, oneChunk}
+use Rattle.dates.specs.Domain.{PartsIn, EndIn}
+use Rattle.roundtrip.specs.Domain.{oneChunk}
 use Rattle.roundtrip.specs.Fields.{hasMonth, hasDay, monthValue, dayValue, lineIf, linesOf, readBack}
 use Rattle.roundtrip.proofs.Bytes.{Piece, bytes-piece, point-clear, clear-text, clear-ascii}
 use Rattle.roundtrip.proofs.Texts.{decimal-is, year-is, year-piece}

@@ -1,36 +1,15 @@
--- The Dates whose written text is read back: years -9999 to 9999, each month absent or one of twelve, each day beside a month and within its
--- length, no time.
+-- The Dates whose written text is read back, those that are read and not so, and how a text is lent for that.
 use Prim.Native.Nat.{ℕ, _<_}
 use mathlib.Core.Path.{_≡_}
 use mathlib.Core.List.{List, [], _∷_}
-use lib.IntN.{ℤ, pos, natAbs}
+use lib.IntN.{pos}
 use lib.ListN.{length}
-use Rattle.dates.specs.declared.OptionMonth.{OptionMonth}
-use Rattle.dates.specs.declared.OptionMonth.the-variants.{NoMonth, SomeMonth}
-use Rattle.dates.specs.declared.OptionDay.{OptionDay}
-use Rattle.dates.specs.declared.OptionDay.the-variants.{NoDay, SomeDay}
 use Rattle.dates.specs.declared.OptionTime.the-variants.{NoTime}
-use Rattle.dates.specs.declared.Datetime.{Datetime}
 use Rattle.dates.specs.declared.DateValue.{DateValue}
 use Rattle.dates.specs.declared.DateValue.the-variants.{At, After, Before, Between}
 use Rattle.dates.specs.Calendar.{monthLength}
+use Rattle.dates.specs.Domain.{EndIn}
 use Rattle.dates.specs.Value.{datetime, month, day}
-
--- month and day, both counted from 0: a day stands beside a month, and within its length in that year
-abbrev pub PartsIn : ℤ → OptionMonth → OptionDay → Type 0
-PartsIn y NoMonth NoDay = Unit {0}
-PartsIn y NoMonth (SomeDay d) = ⊥
-PartsIn y (SomeMonth m) NoDay = m .0 < 12
-PartsIn y (SomeMonth m) (SomeDay d) = (m .0 < 12) × (d .0 < monthLength (m .0) y)
-
--- one end of a Date, or its only one
-pub record EndIn (d : Datetime) : Type 0 where
-  -- a year of four digits
-  pub year-in : natAbs (d .year) < 10000
-  -- a month and a day of the calendar
-  pub parts-in : PartsIn (d .year) (d .month) (d .day)
-  -- no time
-  pub untimed : d .time ≡ NoTime
 
 -- every end of a Date
 abbrev pub InDomain : DateValue → Type 0
