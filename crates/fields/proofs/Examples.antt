@@ -28,7 +28,8 @@ use Rattle.fields.specs.declared.ReadDay.{ReadDay}
 use Rattle.fields.specs.declared.ReadDay.the-variants.{DayRead, NoDayRead}
 use Rattle.fields.specs.declared.ReadDayField.{ReadDayField}
 use Rattle.fields.specs.declared.ReadDayField.the-variants.{Given}
-use Rattle.fields.specs.Year.{refused, panics, onPast, eraEnd, negativeEra, eraAt, parseEraMarker, ended, withEra, behindDigits, onNumber, yearDigits, yearFrom, behindSign, yearAt, getYear}
+use Rattle.refusals.specs.Offset.{textRefusal as refused, panics}
+use Rattle.fields.specs.Year.{onPast, eraEnd, negativeEra, eraAt, parseEraMarker, ended, withEra, behindDigits, onNumber, yearDigits, yearFrom, behindSign, yearAt, getYear}
 use Rattle.months.specs.Names.{stored, lower, sameLetters, monthIn, getMonthForName, getMonthForAbbr, orElse, monthFor}
 use Rattle.fields.specs.Month.{named, monthOf, monthField}
 use Rattle.fields.specs.Day.{notGiven, isDay, dayOf, dayDigits, dayBehind, dayAt, dayFrom, dayInMonthField, dayGiven, dayField}

@@ -11,6 +11,7 @@ use Rattle.refusals.specs.declared.Kind.{Kind}
 use Rattle.refusals.specs.declared.Kind.the-variants.{DayOutOfRange, InvalidNumber, MissingNumber}
 use Rattle.refusals.specs.declared.FileSpan.{FileSpan}
 use Rattle.refusals.specs.Refusal.{refusal}
+use Rattle.refusals.specs.Offset.{textRefusal, panics}
 use Rattle.dates.specs.declared.OptionDay.the-variants.{NoDay}
 use Rattle.dates.specs.Value.{day}
 use Rattle.strs.specs.declared.ParsedNumber.{ParsedNumber}
@@ -21,7 +22,6 @@ use Rattle.fields.specs.declared.ReadDay.{ReadDay}
 use Rattle.fields.specs.declared.ReadDay.the-variants.{DayRead, NoDayRead}
 use Rattle.fields.specs.declared.ReadDayField.{ReadDayField}
 use Rattle.fields.specs.declared.ReadDayField.the-variants.{Given, NotGiven}
-use Rattle.fields.specs.Year.{refused, panics}
 
 -- a day of some month is 1 to 31: the month's length is not looked at
 unfoldable pub isDay : ℕ → Bool
@@ -29,7 +29,7 @@ isDay d = leb 1 d && leb d 31
 
 -- the number that digits from a place to another are, as a stored day; above 255 the ported code panics
 unfoldable pub dayOf : ℕ → ℕ → ParsedNumber → ReadDay
-dayOf start end (Value d) = pick (isDay d) (DayRead (day (d - 1))) (NoDayRead (refused DayOutOfRange start end))
+dayOf start end (Value d) = pick (isDay d) (DayRead (day (d - 1))) (NoDayRead (textRefusal DayOutOfRange start end))
 dayOf start end NoValue = NoDayRead panics
 
 -- the digits from a place to another
@@ -41,7 +41,7 @@ dayDigits s start end = dayOf start end (parse 255 (part s start end))
 unfoldable pub dayBehind : List ℕ → ℕ → ℕ → ℕ → ReadDay
 dayBehind s a start end =
     pick (eqb (length (part s start end)) 0)
-    (pick (eqb a start) (DayRead NoDay) (NoDayRead (refused MissingNumber start end)))
+    (pick (eqb a start) (DayRead NoDay) (NoDayRead (textRefusal MissingNumber start end)))
     (dayDigits s start end)
 
 -- the digits at a place

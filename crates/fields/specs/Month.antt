@@ -5,13 +5,13 @@ use lib.Dec.{eqb}
 use Rattle.chars.specs.Pick.{pick}
 use Rattle.scanner.specs.declared.Class.the-variants.{AsciiAlphabetic}
 use Rattle.scanner.specs.Scan.{eatWhile, part}
+use Rattle.refusals.specs.Offset.{panics}
 use Rattle.numbers.specs.declared.Digits.the-variants.{OneOrTwo}
 use Rattle.numbers.specs.declared.Parsed.{Parsed}
 use Rattle.numbers.specs.declared.Parsed.the-variants.{Number, Wrong, Panics}
 use Rattle.numbers.specs.Number.{parseUnsignedInt}
 use Rattle.fields.specs.declared.ReadMonth.{ReadMonth}
 use Rattle.fields.specs.declared.ReadMonth.the-variants.{MonthRead, NoMonthRead}
-use Rattle.fields.specs.Year.{panics}
 use Rattle.months.specs.Names.{stored, monthFor}
 
 -- the letters from a place to another: the month that they name, if they name one

@@ -10,10 +10,8 @@ use Rattle.scanner.specs.declared.Class.the-variants.{Whitespace, AsciiDigit, A
 use Rattle.scanner.specs.declared.EatIf.{EatIf}
 use Rattle.scanner.specs.declared.EatIf.the-variants.{Past, Kept}
 use Rattle.scanner.specs.Scan.{eatWhile, eatIf, eatText, peekAt, doneAt, part}
-use Rattle.refusals.specs.declared.Kind.{Kind}
-use Rattle.refusals.specs.declared.Kind.the-variants.{WrongNumberOfDigits, InvalidFormat, YearZeroCE, RustPanics}
-use Rattle.refusals.specs.declared.TextRefusal.{TextRefusal}
-use Rattle.refusals.specs.Offset.{textRefusal}
+use Rattle.refusals.specs.declared.Kind.the-variants.{WrongNumberOfDigits, InvalidFormat, YearZeroCE}
+use Rattle.refusals.specs.Offset.{textRefusal, panics}
 use Rattle.strs.specs.declared.ParsedNumber.{ParsedNumber}
 use Rattle.strs.specs.declared.ParsedNumber.the-variants.{Value, NoValue}
 use Rattle.strs.specs.Parse.{parse}
@@ -24,14 +22,6 @@ use Rattle.fields.specs.declared.ReadEra.the-variants.{Era, NoEra, BadEr
 use Rattle.fields.specs.declared.ReadYear.{ReadYear}
 use Rattle.fields.specs.declared.ReadYear.the-variants.{Year, NoYear}
 use Rattle.chars.specs.Ascii.{ascii}
-
--- a refusal of what stands from a place to another
-abbrev pub refused : Kind → ℕ → ℕ → TextRefusal
-refused k start end = textRefusal k start end
-
--- the ported code panics
-abbrev pub panics : TextRefusal
-panics = refused RustPanics 0 0
 
 -- a plus or a minus stands before the year
 abbrev pub hasSign : Sign → Bool
@@ -57,7 +47,7 @@ onPast Kept go else = else
 -- an era from a place to another, AD or not: a letter or a digit behind it is refused, at the era alone
 unfoldable pub eraEnd : List ℕ → ℕ → Bool → ℕ → ReadEra
 eraEnd s start positive end =
-    pick (peekAt Alphanumeric s end) (BadEra (refused InvalidFormat start end)) (Era positive (record { 0 = end }))
+    pick (peekAt Alphanumeric s end) (BadEra (textRefusal InvalidFormat start end)) (Era positive (record { 0 = end }))
 
 -- BC or BCE at a place, or no era
 unfoldable pub negativeEra : List ℕ → ℕ → ReadEra
@@ -78,14 +68,14 @@ parseEraMarker s at = eraAt s (eatWhile Whitespace s at)
 
 -- a year that nothing may follow
 unfoldable pub ended : List ℕ → ℕ → ℕ → ℤ → ReadYear
-ended s idx at year = pick (doneAt s at) (Year year) (NoYear (refused InvalidFormat idx at))
+ended s idx at year = pick (doneAt s at) (Year year) (NoYear (textRefusal InvalidFormat idx at))
 
 -- with an era: a sign is refused first, then a zero; behind AD nothing may follow, behind BC nothing more is read.
 -- With no era nothing may follow the digits
 unfoldable pub withEra : List ℕ → ℕ → Sign → ℕ → ReadEra → ReadYear
 withEra s idx sign n (Era positive c) =
-    pick (hasSign sign) (NoYear (refused InvalidFormat idx (c .0)))
-    (pick (eqb n 0) (NoYear (refused YearZeroCE idx (c .0)))
+    pick (hasSign sign) (NoYear (textRefusal InvalidFormat idx (c .0)))
+    (pick (eqb n 0) (NoYear (textRefusal YearZeroCE idx (c .0)))
     (pick positive (ended s idx (c .0) (pos n)) (Year (beforeChrist n))))
 withEra s idx sign n (NoEra c) = ended s idx (c .0) (signed sign n)
 withEra s idx sign n (BadEra e) = NoYear e
@@ -102,8 +92,8 @@ onNumber NoValue go = NoYear panics
 -- the digits from a place to another, the sign ending at `at`: none and more than four are refused; then white space behind the sign panics
 unfoldable pub yearDigits : List ℕ → ℕ → ℕ → Sign → ℕ → ℕ → ReadYear
 yearDigits s idx at sign start end =
-    pick (eqb (length (part s start end)) 0) (NoYear (refused InvalidFormat idx end))
-    (pick (ltb 4 (length (part s start end))) (NoYear (refused WrongNumberOfDigits idx end))
+    pick (eqb (length (part s start end)) 0) (NoYear (textRefusal InvalidFormat idx end))
+    (pick (ltb 4 (length (part s start end))) (NoYear (textRefusal WrongNumberOfDigits idx end))
     (pick (eqb start at) (onNumber (parse 9999 (part s start end)) (behindDigits s idx end sign)) (NoYear panics)))
 
 -- the digits at a place

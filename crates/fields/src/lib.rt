@@ -15,7 +15,8 @@ use refusals::FileSpan;
 use refusals::Kind;
 use refusals::Refusal;
 use refusals::TextRefusal;
-use refusals::TextSpan;
+use refusals::panics;
+use refusals::refuse_text;
 use scanner::Class;
 use scanner::Cursor;
 use scanner::EatIf;
@@ -61,23 +62,6 @@ pub enum ReadDayField {
     NotGiven(Refusal),
 }
 
-// A refusal of what stands from a cursor to another.
-fn refused(kind: Kind, start: Cursor, c: Cursor) -> TextRefusal
-    ensures { λ r. ⌜ r ≡ spec.refused kind (start .0) (c .0) ⌝ }
-{
-    TextRefusal {
-        kind,
-        place: TextSpan(start.0, c.0),
-    }
-}
-
-// What the ported code panics at.
-fn panics() -> TextRefusal
-    ensures { λ r. ⌜ r ≡ spec.panics ⌝ }
-{
-    refused(Kind::RustPanics, Cursor(0), Cursor(0))
-}
-
 fn has_sign(sign: Sign) -> bool
     ensures { λ r. ⌜ r ≡ spec.hasSign sign ⌝ }
 {
@@ -114,7 +98,7 @@ fn era_end(s: &[u8], start: Cursor, c: Cursor, positive: bool) -> ReadEra
     ensures { λ r. ⌜ r ≡ spec.eraEnd (now (s .entry)) (start .0) positive (c .0) ⌝ }
 {
     if scanner::peek(s, c, Class::Alphanumeric) {
-        return ReadEra::BadEra(refused(Kind::InvalidFormat, start, c));
+        return ReadEra::BadEra(refuse_text(Kind::InvalidFormat, start, c));
     }
     ReadEra::Era { positive, next: c }
 }
@@ -157,7 +141,7 @@ fn ended(s: &[u8], idx: Cursor, c: Cursor, year: i32) -> ReadYear
     if scanner::done(s, c) {
         return ReadYear::Year(year);
     }
-    ReadYear::NoYear(refused(Kind::InvalidFormat, idx, c))
+    ReadYear::NoYear(refuse_text(Kind::InvalidFormat, idx, c))
 }
 
 // A year and the era behind it, if there is one.
@@ -168,10 +152,10 @@ fn behind_digits(s: &[u8], idx: Cursor, c: Cursor, sign: Sign, n: u32) -> ReadYe
     match parse_era_marker(s, c) {
         ReadEra::Era { positive, next } => {
             if has_sign(sign) {
-                return ReadYear::NoYear(refused(Kind::InvalidFormat, idx, next));
+                return ReadYear::NoYear(refuse_text(Kind::InvalidFormat, idx, next));
             }
             if n == 0 {
-                return ReadYear::NoYear(refused(Kind::YearZeroCE, idx, next));
+                return ReadYear::NoYear(refuse_text(Kind::YearZeroCE, idx, next));
             }
             if positive {
                 return ended(s, idx, next, signed(Sign::Plus, n));
@@ -192,10 +176,10 @@ fn behind_sign(s: &[u8], idx: Cursor, c: Cursor, sign: Sign) -> ReadYear
     let next = run.end;
     let digits = scanner::from(s, start, next);
     if digits.len() == 0 {
-        return ReadYear::NoYear(refused(Kind::InvalidFormat, idx, next));
+        return ReadYear::NoYear(refuse_text(Kind::InvalidFormat, idx, next));
     }
     if 4 < digits.len() {
-        return ReadYear::NoYear(refused(Kind::WrongNumberOfDigits, idx, next));
+        return ReadYear::NoYear(refuse_text(Kind::WrongNumberOfDigits, idx, next));
     }
     if start.0 != c.0 {
         return ReadYear::NoYear(panics());
@@ -270,7 +254,7 @@ fn day_digits(s: &[u8], start: Cursor, c: Cursor) -> ReadDay
             if is_day(d) {
                 return ReadDay::DayRead(OptionDay::SomeDay(Day((d - 1) as u8)));
             }
-            ReadDay::NoDayRead(refused(Kind::DayOutOfRange, start, c))
+            ReadDay::NoDayRead(refuse_text(Kind::DayOutOfRange, start, c))
         }
         ParsedNumber::NoValue => ReadDay::NoDayRead(panics()),
     }
@@ -289,7 +273,7 @@ pub fn day_in_month_field(s: &[u8], c: Cursor) -> ReadDay
         if a.0 == start.0 {
             return ReadDay::DayRead(OptionDay::NoDay);
         }
-        return ReadDay::NoDayRead(refused(Kind::MissingNumber, start, next));
+        return ReadDay::NoDayRead(refuse_text(Kind::MissingNumber, start, next));
     }
     day_digits(s, start, next)
 }

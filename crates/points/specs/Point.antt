@@ -9,7 +9,7 @@ use Rattle.scanner.specs.declared.Class.the-variants.{Is}
 use Rattle.scanner.specs.declared.EatIf.{EatIf}
 use Rattle.scanner.specs.declared.EatIf.the-variants.{Past, Kept}
 use Rattle.scanner.specs.Scan.{eatIf}
-use Rattle.refusals.specs.Offset.{textRefusal}
+use Rattle.refusals.specs.Offset.{textRefusal, panics}
 use Rattle.refusals.specs.declared.Kind.the-variants.{InvalidFormat, DayOutOfRange}
 use Rattle.numbers.specs.Number.{parseInt}
 use Rattle.numbers.specs.declared.Digits.the-variants.{Two, Four}
@@ -29,7 +29,7 @@ use Rattle.points.specs.declared.ReadTime.{ReadTime}
 use Rattle.points.specs.declared.ReadTime.the-variants.{Clock, NoClock}
 use Rattle.points.specs.declared.ReadYear.{ReadYear}
 use Rattle.points.specs.declared.ReadYear.the-variants.{Year, NoYear}
-use Rattle.points.specs.Step.{panics, monthAt, dayAt, hyphenAt, onPart, onSeparator, orEnd}
+use Rattle.points.specs.Step.{monthAt, dayAt, hyphenAt, onPart, onSeparator, orEnd}
 use Rattle.points.specs.Time.{timeAt}
 
 -- a year of two bytes with its sign: below 50 adds 2000, else 1900, so that -12 is 1988

@@ -8,9 +8,9 @@ use Rattle.scanner.specs.declared.Class.the-variants.{Whitespace, Is}
 use Rattle.scanner.specs.declared.EatIf.{EatIf}
 use Rattle.scanner.specs.declared.EatIf.the-variants.{Past, Kept}
 use Rattle.scanner.specs.Scan.{eatWhile, eatIf, doneAt}
-use Rattle.refusals.specs.Offset.{textRefusal}
+use Rattle.refusals.specs.Offset.{textRefusal, panics}
 use Rattle.refusals.specs.declared.Kind.{Kind}
-use Rattle.refusals.specs.declared.Kind.the-variants.{InvalidFormat, MonthOutOfRange, DayOutOfRange, InvalidNumber, RustPanics}
+use Rattle.refusals.specs.declared.Kind.the-variants.{InvalidFormat, MonthOutOfRange, DayOutOfRange, InvalidNumber}
 use Rattle.refusals.specs.declared.TextRefusal.{TextRefusal}
 use Rattle.numbers.specs.Number.{cursor, parseUnsignedInt}
 use Rattle.numbers.specs.declared.Digits.the-variants.{OneOrTwo}
@@ -20,10 +20,6 @@ use Rattle.points.specs.declared.ReadPart.{ReadPart}
 use Rattle.points.specs.declared.ReadPart.the-variants.{Stored, NoPart}
 use Rattle.points.specs.declared.ReadSeparator.{ReadSeparator}
 use Rattle.points.specs.declared.ReadSeparator.the-variants.{Passed, Missing}
-
--- what the ported code panics at has no place
-abbrev pub panics : TextRefusal
-panics = textRefusal RustPanics 0 0
 
 -- a number from a lowest one to a highest, counted from the lowest. The place of a refusal is from where reading began, which is behind
 -- the separator and before white space, to the end of the run

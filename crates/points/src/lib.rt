@@ -3,7 +3,6 @@
 ghost use mathlib.Core.Path.{_≡_};
 ghost use Prim.Native.Nat.{_<_};
 ghost use lib.Signed.{mag};
-ghost use Rattle.refusals.specs.Offset.{textRefusal};
 ghost use Rattle.points.specs.Step as step;
 ghost use Rattle.points.specs.Time as time;
 ghost use Rattle.points.specs.Point as spec;
@@ -21,7 +20,8 @@ use numbers::Parsed;
 use numbers::ReadInt;
 use refusals::Kind;
 use refusals::TextRefusal;
-use refusals::TextSpan;
+use refusals::panics;
+use refusals::refuse_text;
 use scanner::Class;
 use scanner::Cursor;
 use scanner::EatIf;
@@ -59,26 +59,6 @@ pub enum ReadOffset {
     NoShift(TextRefusal),
 }
 
-// A refusal at a place of the text, from a cursor to another.
-fn refusal(kind: Kind, start: Cursor, end: Cursor) -> TextRefusal
-    ensures { λ r. ⌜ r ≡ textRefusal kind (start .0) (end .0) ⌝ }
-{
-    TextRefusal {
-        kind,
-        place: TextSpan(start.0, end.0),
-    }
-}
-
-// What stands for a panic of the ported code. It has no place.
-fn panics() -> TextRefusal
-    ensures { λ r. ⌜ r ≡ step.panics ⌝ }
-{
-    TextRefusal {
-        kind: Kind::RustPanics,
-        place: TextSpan(0, 0),
-    }
-}
-
 // A year of two digits, or one behind a minus: it is near to the year 2000.
 fn window(year: i32) -> i32
     requires { ⌜ mag year < 100 ⌝ }
@@ -107,7 +87,7 @@ fn parse_year(s: &[u8], c: Cursor) -> ReadYear
 {
     match numbers::parse_int(s, c, Digits::Four) {
         ReadInt::Int { value, next } => ReadYear::Year { year: value, next },
-        ReadInt::NoInt { next } => ReadYear::NoYear(refusal(Kind::InvalidFormat, c, next)),
+        ReadInt::NoInt { next } => ReadYear::NoYear(refuse_text(Kind::InvalidFormat, c, next)),
         ReadInt::IntPanics => ReadYear::NoYear(panics()),
     }
 }
@@ -130,17 +110,17 @@ fn parse_part(s: &[u8], c: Cursor, low: u8, high: u8, kind: Kind) -> ReadPart
     match numbers::parse_unsigned_int(s, c, Digits::OneOrTwo) {
         Parsed::Number { value, next } => {
             if value < (low as u32) {
-                return ReadPart::NoPart(refusal(kind, c, next));
+                return ReadPart::NoPart(refuse_text(kind, c, next));
             }
             if (high as u32) < value {
-                return ReadPart::NoPart(refusal(kind, c, next));
+                return ReadPart::NoPart(refuse_text(kind, c, next));
             }
             ReadPart::Stored {
                 value: (value - (low as u32)) as u8,
                 next,
             }
         }
-        Parsed::Wrong { next } => ReadPart::NoPart(refusal(Kind::InvalidFormat, c, next)),
+        Parsed::Wrong { next } => ReadPart::NoPart(refuse_text(Kind::InvalidFormat, c, next)),
         Parsed::Panics => ReadPart::NoPart(panics()),
     }
 }
@@ -180,7 +160,7 @@ fn parse_hyphen(s: &[u8], c: Cursor) -> ReadSeparator
     let a = scanner::eat_whitespace(s, c);
     match scanner::eat_if(s, a, Class::Is(0x2D)) {
         EatIf::Past(next) => ReadSeparator::Passed(scanner::eat_while(s, next, Class::Is(0x2D))),
-        EatIf::Kept => ReadSeparator::Missing(refusal(Kind::InvalidFormat, c, a)),
+        EatIf::Kept => ReadSeparator::Missing(refuse_text(Kind::InvalidFormat, c, a)),
     }
 }
 
@@ -191,7 +171,7 @@ fn parse_colon(s: &[u8], c: Cursor) -> ReadSeparator
     let a = scanner::eat_whitespace(s, c);
     match scanner::eat_if(s, a, Class::Is(0x3A)) {
         EatIf::Past(next) => ReadSeparator::Passed(next),
-        EatIf::Kept => ReadSeparator::Missing(refusal(Kind::InvalidFormat, c, a)),
+        EatIf::Kept => ReadSeparator::Missing(refuse_text(Kind::InvalidFormat, c, a)),
     }
 }
 
@@ -244,9 +224,9 @@ fn parse_offset(s: &[u8], c: Cursor) -> ReadOffset
             if code == 0x2D {
                 return parse_shift(s, next, false);
             }
-            ReadOffset::NoShift(refusal(Kind::InvalidFormat, a, next))
+            ReadOffset::NoShift(refuse_text(Kind::InvalidFormat, a, next))
         }
-        Next::Nothing => ReadOffset::NoShift(refusal(Kind::InvalidFormat, a, a)),
+        Next::Nothing => ReadOffset::NoShift(refuse_text(Kind::InvalidFormat, a, a)),
     }
 }
 
@@ -346,7 +326,7 @@ fn behind_day(s: &[u8], c: Cursor, year: i32, month: OptionMonth, day: OptionDay
             }
             ReadTime::NoClock(e) => ReadPoint::Refused(e),
         },
-        EatIf::Kept => ReadPoint::Refused(refusal(Kind::InvalidFormat, Cursor(0), a)),
+        EatIf::Kept => ReadPoint::Refused(refuse_text(Kind::InvalidFormat, Cursor(0), a)),
     }
 }
 
@@ -370,7 +350,7 @@ fn behind_month(s: &[u8], c: Cursor, year: i32, month: Month) -> ReadPoint
                 if day < dates::days_in_month(month, year) {
                     return behind_day(s, next, year, some_month, OptionDay::SomeDay(Day(day)));
                 }
-                ReadPoint::Refused(refusal(Kind::DayOutOfRange, Cursor(0), next))
+                ReadPoint::Refused(refuse_text(Kind::DayOutOfRange, Cursor(0), next))
             }
             ReadPart::NoPart(e) => ReadPoint::Refused(e),
         },

@@ -26,6 +26,10 @@ textSpan start end = record { 0 = start; 1 = end }
 abbrev pub textRefusal : Kind → ℕ → ℕ → TextRefusal
 textRefusal k start end = record { kind = k; place = textSpan start end }
 
+-- what stands for a panic of the ported code has no place
+abbrev pub panics : TextRefusal
+panics = textRefusal RustPanics 0 0
+
 -- the place moved by an amount, as the Rust's `offset` does: a sum that is too large becomes the largest number
 unfoldable pub offset : TextRefusal → ℕ → Refusal
 offset e amount = refusal (e .kind) (fileSpan (saturatingAdd (e .place .0) amount) (saturatingAdd (e .place .1) amount))

@@ -3,6 +3,7 @@
 ghost use mathlib.Core.Path.{_≡_};
 ghost use Rattle.refusals.specs.Refusal as spec;
 ghost use Rattle.refusals.specs.Offset as move_;
+use scanner::Cursor;
 
 // Why a call refuses.
 pub enum Kind {
@@ -56,6 +57,23 @@ pub struct Refusal {
 pub struct TextRefusal {
     pub kind: Kind,
     pub place: TextSpan,
+}
+
+// The refusal of what stands from a cursor to another.
+pub fn refuse_text(kind: Kind, start: Cursor, end: Cursor) -> TextRefusal
+    ensures { λ r. ⌜ r ≡ move_.textRefusal kind (start .0) (end .0) ⌝ }
+{
+    TextRefusal {
+        kind,
+        place: TextSpan(start.0, end.0),
+    }
+}
+
+// What stands for a panic of the ported code. It has no place.
+pub fn panics() -> TextRefusal
+    ensures { λ r. ⌜ r ≡ move_.panics ⌝ }
+{
+    refuse_text(Kind::RustPanics, Cursor(0), Cursor(0))
 }
 
 // The number of a refusal.

@@ -18,7 +18,8 @@ use Rattle.chars.specs.Ascii.{ascii, digitOf}
 use Rattle.strs.specs.Parse.{valueOf, digitsFrom, parse}
 use Rattle.xranges.specs.declared.ReadRange.{ReadRange}
 use Rattle.xranges.specs.declared.ReadRange.the-variants.{Range, NoRange}
-use Rattle.xranges.specs.Range.{refused, panics, hyphenRun, hyphenFrom, getHyphen, onHyphen, onValue, years, months, days, secondRun, secondAt, behindMonths, endOfDays, dayRun, behindMonth, monthRun, month, monthsRun, behindYear, yearRun, digitRun, rangeFrom, rangeDates}
+use Rattle.refusals.specs.Offset.{textRefusal as refused, panics}
+use Rattle.xranges.specs.Range.{hyphenRun, hyphenFrom, getHyphen, onHyphen, onValue, years, months, days, secondRun, secondAt, behindMonths, endOfDays, dayRun, behindMonth, monthRun, month, monthsRun, behindYear, yearRun, digitRun, rangeFrom, rangeDates}
 
 -- a text, and what it is read as
 pub record Example : Type 0 where
@@ -43,12 +44,12 @@ table =
     ∷ record { text = ascii "1XXX"; says = NoRange (refused WrongNumberOfDigits 0 1) }
     ∷ record { text = ascii "19XXX"; says = NoRange (refused WrongNumberOfDigits 0 5) }
     ∷ record { text = ascii "2000X"; says = NoRange (refused WrongNumberOfDigits 0 5) }
-    ∷ record { text = ascii "12345X"; says = panics }
+    ∷ record { text = ascii "12345X"; says = NoRange panics }
     ∷ record { text = ascii "2000-X"; says = NoRange (refused WrongNumberOfDigits 5 6) }
     ∷ record { text = ascii "2000- X"; says = NoRange (refused WrongNumberOfDigits 6 7) }
     ∷ record { text = ascii "2000- 1-XX"; says = NoRange (refused WrongNumberOfDigits 6 7) }
     ∷ record { text = ascii "2000- 13-XX"; says = NoRange (refused MonthOutOfRange 6 8) }
-    ∷ record { text = ascii "2000-00-XX"; says = panics }
+    ∷ record { text = ascii "2000-00-XX"; says = NoRange panics }
     ∷ record { text = ascii "2000-XX/2001"; says = NoRange (refused InvalidFormat 7 7) }
     ∷ record { text = ascii "2000-XX q"; says = NoRange (refused InvalidFormat 8 8) }
     ∷ record { text = ascii "2000-XX- q"; says = NoRange (refused InvalidFormat 9 9) }

@@ -7,9 +7,8 @@ use Rattle.chars.specs.Pick.{pick}
 use Rattle.scanner.specs.declared.Class.the-variants.{Whitespace, AsciiDigit, Is}
 use Rattle.scanner.specs.Scan.{eatWhile, doneAt, part}
 use Rattle.refusals.specs.declared.Kind.{Kind}
-use Rattle.refusals.specs.declared.Kind.the-variants.{MonthOutOfRange, WrongNumberOfDigits, InvalidFormat, RustPanics}
-use Rattle.refusals.specs.declared.TextRefusal.{TextRefusal}
-use Rattle.refusals.specs.Offset.{textRefusal}
+use Rattle.refusals.specs.declared.Kind.the-variants.{MonthOutOfRange, WrongNumberOfDigits, InvalidFormat}
+use Rattle.refusals.specs.Offset.{textRefusal, panics}
 use Rattle.dates.specs.declared.OptionMonth.the-variants.{NoMonth}
 use Rattle.dates.specs.declared.OptionDay.the-variants.{NoDay}
 use Rattle.dates.specs.declared.OptionTime.the-variants.{NoTime}
@@ -22,22 +21,14 @@ use Rattle.xranges.specs.declared.ReadHyphen.the-variants.{Behind, NoHyp
 use Rattle.xranges.specs.declared.ReadRange.{ReadRange}
 use Rattle.xranges.specs.declared.ReadRange.the-variants.{Range, NoRange}
 
--- a refusal of what stands from a place to another
-abbrev pub refused : Kind → ℕ → ℕ → TextRefusal
-refused k start end = textRefusal k start end
-
--- the ported code panics
-abbrev pub panics : ReadRange
-panics = NoRange (refused RustPanics 0 0)
-
 -- no range, refused at an empty place
 abbrev pub noneHere : Kind → ℕ → ReadRange
-noneHere k at = NoRange (refused k at at)
+noneHere k at = NoRange (textRefusal k at at)
 
 -- the run of hyphens from a place to another, and the white space behind it; an empty run is refused there
 unfoldable pub hyphenRun : List ℕ → ℕ → ℕ → ReadHyphen
 hyphenRun s start end =
-    pick (eqb (end - start) 0) (NoHyphen (refused InvalidFormat end end)) (Behind (record { 0 = eatWhile Whitespace s end }))
+    pick (eqb (end - start) 0) (NoHyphen (textRefusal InvalidFormat end end)) (Behind (record { 0 = eatWhile Whitespace s end }))
 
 -- the run of hyphens at a place
 unfoldable pub hyphenFrom : List ℕ → ℕ → ReadHyphen
@@ -55,7 +46,7 @@ onHyphen (NoHyphen e) go = NoRange e
 -- with the number that digits are on; digits that are none panic
 unfoldable pub onValue : ParsedNumber → (ℕ → ReadRange) → ReadRange
 onValue (Value v) go = go v
-onValue NoValue go = panics
+onValue NoValue go = NoRange panics
 
 -- the years that begin with the digits, as many as the others leave open
 unfoldable pub years : ℕ → ℕ → ReadRange
@@ -101,10 +92,10 @@ unfoldable pub monthRun : List ℕ → ℕ → ℕ → ℕ → ReadRange
 monthRun s start end year =
     pick (eqb (end - start) 2)
     (onValue (parse 255 (part s start end)) λ written.
-    pick (eqb written 0) panics
-    (pick (ltb 12 written) (NoRange (refused MonthOutOfRange start end))
+    pick (eqb written 0) (NoRange panics)
+    (pick (ltb 12 written) (NoRange (textRefusal MonthOutOfRange start end))
     (behindMonth s end year (written - 1))))
-    (NoRange (refused WrongNumberOfDigits start end))
+    (NoRange (textRefusal WrongNumberOfDigits start end))
 
 -- a month at a place
 unfoldable pub month : List ℕ → ℕ → ℕ → ReadRange
@@ -115,7 +106,7 @@ unfoldable pub monthsRun : List ℕ → ℕ → ℕ → ℕ → ReadRange
 monthsRun s start end year =
     pick (eqb (end - start) 0) (month s start year)
     (pick (eqb (end - start) 2) (behindMonths s end year)
-    (NoRange (refused WrongNumberOfDigits start end)))
+    (NoRange (textRefusal WrongNumberOfDigits start end)))
 
 -- behind a year of four digits: a hyphen, then XX or a month
 unfoldable pub behindYear : List ℕ → ℕ → ℕ → ReadRange
@@ -127,13 +118,13 @@ yearRun s start c end =
     pick (eqb (end - c) (4 - (c - start)))
     (onValue (parse 9999 (part s start c)) λ digits.
     pick (eqb (c - start) 4) (behindYear s end digits) (years digits (10 ^ (4 - (c - start)))))
-    (NoRange (refused WrongNumberOfDigits 0 end))
+    (NoRange (textRefusal WrongNumberOfDigits 0 end))
 
 -- the sure digits from a place to another: above four the ported code panics, below two are too few
 unfoldable pub digitRun : List ℕ → ℕ → ℕ → ReadRange
 digitRun s start c =
-    pick (ltb 4 (c - start)) panics
-    (pick (ltb (c - start) 2) (NoRange (refused WrongNumberOfDigits 0 c))
+    pick (ltb 4 (c - start)) (NoRange panics)
+    (pick (ltb (c - start) 2) (NoRange (textRefusal WrongNumberOfDigits 0 c))
     (yearRun s start c (eatWhile (Is 0x58) s c)))
 
 -- the digits at a place

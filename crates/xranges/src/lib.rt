@@ -2,6 +2,7 @@
 ghost use mathlib.Core.Path.{_≡_};
 ghost use Prim.Native.Nat.{_-_, _+_, _^_, _<_, _≤_};
 ghost use lib.IntN.{pos};
+ghost use Rattle.refusals.specs.Offset.{textRefusal};
 ghost use Rattle.xranges.specs.Range as spec;
 ghost use Rattle.dates.specs.Value.{datetime};
 ghost use Rattle.dates.specs.declared.OptionTime.the-variants.{NoTime};
@@ -13,7 +14,8 @@ use dates::OptionMonth;
 use dates::OptionTime;
 use refusals::Kind;
 use refusals::TextRefusal;
-use refusals::TextSpan;
+use refusals::panics;
+use refusals::refuse_text;
 use scanner::Class;
 use scanner::Cursor;
 use strs::ParsedNumber;
@@ -30,28 +32,11 @@ enum ReadHyphen {
     NoHyphen(TextRefusal),
 }
 
-// A refusal of what stands from a cursor to another.
-fn refused(kind: Kind, start: Cursor, c: Cursor) -> TextRefusal
-    ensures { λ r. ⌜ r ≡ spec.refused kind (start .0) (c .0) ⌝ }
-{
-    TextRefusal {
-        kind,
-        place: TextSpan(start.0, c.0),
-    }
-}
-
-// The same, where nothing is taken.
+// A refusal where nothing is taken.
 fn here(kind: Kind, c: Cursor) -> TextRefusal
-    ensures { λ r. ⌜ r ≡ spec.refused kind (c .0) (c .0) ⌝ }
+    ensures { λ r. ⌜ r ≡ textRefusal kind (c .0) (c .0) ⌝ }
 {
-    refused(kind, c, c)
-}
-
-// What the ported code panics at.
-fn panics() -> ReadRange
-    ensures { λ r. ⌜ r ≡ spec.panics ⌝ }
-{
-    ReadRange::NoRange(refused(Kind::RustPanics, Cursor(0), Cursor(0)))
+    refuse_text(kind, c, c)
 }
 
 // How many bytes stand from a cursor to another.
@@ -189,19 +174,19 @@ fn month(s: &[u8], start: Cursor, year: u32) -> ReadRange
 {
     let c = scanner::eat_while(s, start, Class::AsciiDigit);
     if len(start, c) != 2 {
-        return ReadRange::NoRange(refused(Kind::WrongNumberOfDigits, start, c));
+        return ReadRange::NoRange(refuse_text(Kind::WrongNumberOfDigits, start, c));
     }
     match strs::parse(scanner::from(s, start, c), 255) {
         ParsedNumber::Value(written) => {
             if written == 0 {
-                return panics();
+                return ReadRange::NoRange(panics());
             }
             if 12 < written {
-                return ReadRange::NoRange(refused(Kind::MonthOutOfRange, start, c));
+                return ReadRange::NoRange(refuse_text(Kind::MonthOutOfRange, start, c));
             }
             behind_month(s, c, year, Month((written - 1) as u8))
         }
-        ParsedNumber::NoValue => panics(),
+        ParsedNumber::NoValue => ReadRange::NoRange(panics()),
     }
 }
 
@@ -216,7 +201,7 @@ fn behind_year(s: &[u8], c: Cursor, year: u32) -> ReadRange
             match len(idx, c1) {
                 0 => month(s, idx, year),
                 2 => behind_months(s, c1, year),
-                _ => ReadRange::NoRange(refused(Kind::WrongNumberOfDigits, idx, c1)),
+                _ => ReadRange::NoRange(refuse_text(Kind::WrongNumberOfDigits, idx, c1)),
             }
         }
         ReadHyphen::NoHyphen(e) => ReadRange::NoRange(e),
@@ -233,15 +218,15 @@ pub fn range_dates(s: &[u8]) -> ReadRange
     let sure_digits = len(start, c);
     // 10_i32.pow(4 - sure_digits)
     if 4 < sure_digits {
-        return panics();
+        return ReadRange::NoRange(panics());
     }
     // The run of X is taken only behind two digits or more.
     if sure_digits < 2 {
-        return ReadRange::NoRange(refused(Kind::WrongNumberOfDigits, Cursor(0), c));
+        return ReadRange::NoRange(refuse_text(Kind::WrongNumberOfDigits, Cursor(0), c));
     }
     let c1 = scanner::eat_while(s, c, Class::Is(0x58));
     if len(c, c1) != 4 - sure_digits {
-        return ReadRange::NoRange(refused(Kind::WrongNumberOfDigits, Cursor(0), c1));
+        return ReadRange::NoRange(refuse_text(Kind::WrongNumberOfDigits, Cursor(0), c1));
     }
     match strs::parse(scanner::from(s, start, c), 9999) {
         ParsedNumber::Value(year_part) => {
@@ -250,6 +235,6 @@ pub fn range_dates(s: &[u8]) -> ReadRange
             }
             years(year_part, variable(sure_digits))
         }
-        ParsedNumber::NoValue => panics(),
+        ParsedNumber::NoValue => ReadRange::NoRange(panics()),
     }
 }

@@ -17,8 +17,8 @@ enum-known-positive c = search needs
 has-sign-requires : tie.Need-has-sign-requires
 has-sign-requires c κs = search needs
 
-refused-requires : tie.Need-refused-requires
-refused-requires c κs = search needs
+refuse-text-requires : tie.Need-refuse-text-requires
+refuse-text-requires c κs = search needs
 
 returns : tie.Need-returns
 unfolding behindDigits withEra pick
@@ -27,10 +27,10 @@ returns c =
     let b2 = b1 .before in
     let b4 = b2 .before .before in
     let b6 = b4 .before .before in
-    simp (← b6 .parse-era-marker .ensures, b4 .positive .given .1, ← b2 .has-sign .ensures, b1 .if1 .taken, ← c .refused .ensures)
+    simp (← b6 .parse-era-marker .ensures, b4 .positive .given .1, ← b2 .has-sign .ensures, b1 .if1 .taken, ← c .refuse-text .ensures)
 
-refused-requires-2 : tie.Need-refused-requires-2
-refused-requires-2 c κs = search needs
+refuse-text-requires-2 : tie.Need-refuse-text-requires-2
+refuse-text-requires-2 c κs = search needs
 
 returns-2 : tie.Need-returns-2
 unfolding behindDigits withEra pick
@@ -40,7 +40,7 @@ returns-2 c =
     let b3 = b2 .before in
     let b5 = b3 .before .before in
     let b7 = b5 .before .before in
-    simp (← b7 .parse-era-marker .ensures, b5 .positive .given .1, ← b3 .has-sign .ensures, b2 .if1 .left, eq-eqb _ _ (b1 .if2 .taken), ← c .refused2 .ensures)
+    simp (← b7 .parse-era-marker .ensures, b5 .positive .given .1, ← b3 .has-sign .ensures, b2 .if1 .left, eq-eqb _ _ (b1 .if2 .taken), ← c .refuse-text2 .ensures)
 
 signed-requires : tie.Need-signed-requires
 signed-requires c κs = search needs
@@ -110,9 +110,9 @@ behind-digits-spec =
     parse-era-marker-requires
     enum-known-positive
     has-sign-requires
-    refused-requires
+    refuse-text-requires
     returns
-    refused-requires-2
+    refuse-text-requires-2
     returns-2
     signed-requires
     ended-requires

@@ -15,8 +15,8 @@ next-run-requires c κs = search needs
 from-requires : tie.Need-from-requires
 from-requires c κs = search needs
 
-refused-requires : tie.Need-refused-requires
-refused-requires c κs = search needs
+refuse-text-requires : tie.Need-refuse-text-requires
+refuse-text-requires c κs = search needs
 
 returns : tie.Need-returns
 unfolding behindSign yearFrom yearDigits onNumber pick
@@ -26,10 +26,10 @@ returns c =
     let b3 = b2 .before in
     let b4 = b3 .before in
     let e = b4 .before .next-run .ensures in
-    simp (← run-start _ _ _ _ e, ← run-end _ _ _ _ e, ← b2 .from .ensures, eq-eqb _ _ (b1 .if1 .taken), ← c .refused .ensures)
+    simp (← run-start _ _ _ _ e, ← run-end _ _ _ _ e, ← b2 .from .ensures, eq-eqb _ _ (b1 .if1 .taken), ← c .refuse-text .ensures)
 
-refused-requires-2 : tie.Need-refused-requires-2
-refused-requires-2 c κs = search needs
+refuse-text-requires-2 : tie.Need-refuse-text-requires-2
+refuse-text-requires-2 c κs = search needs
 
 returns-2 : tie.Need-returns-2
 unfolding behindSign yearFrom yearDigits onNumber pick
@@ -40,7 +40,7 @@ returns-2 c =
     let b4 = b3 .before in
     let b5 = b4 .before in
     let e = b5 .before .next-run .ensures in
-    simp (← run-start _ _ _ _ e, ← run-end _ _ _ _ e, ← b3 .from .ensures, ne-eqb _ _ (b2 .if1 .left), lt-ltb _ _ (b1 .if2 .taken), ← c .refused2 .ensures)
+    simp (← run-start _ _ _ _ e, ← run-end _ _ _ _ e, ← b3 .from .ensures, ne-eqb _ _ (b2 .if1 .left), lt-ltb _ _ (b1 .if2 .taken), ← c .refuse-text2 .ensures)
 
 panics-requires : tie.Need-panics-requires
 panics-requires c κs = search needs
@@ -106,9 +106,9 @@ behind-sign-spec =
     (tie.spec
     next-run-requires
     from-requires
-    refused-requires
+    refuse-text-requires
     returns
-    refused-requires-2
+    refuse-text-requires-2
     returns-2
     panics-requires
     returns-3

@@ -34,8 +34,8 @@ returns c =
     let b6 = b5 .before in
     simp (← b6 .from .ensures, ← b5 .parse .ensures, b3 .d .given .1, ← b1 .is-day .ensures, c .if1 .taken)
 
-refused-requires : tie.Need-refused-requires
-refused-requires c κs = search needs
+refuse-text-requires : tie.Need-refuse-text-requires
+refuse-text-requires c κs = search needs
 
 enum-told : tie.Need-enum-told
 enum-told c = search needs
@@ -51,7 +51,7 @@ returns-2 c =
     let b4 = b2 .before .before in
     let b6 = b4 .before .before in
     let b7 = b6 .before in
-    simp (← b7 .from .ensures, ← b6 .parse .ensures, b4 .d .given .1, ← b2 .is-day .ensures, b1 .if1 .left, ← c .refused .ensures)
+    simp (← b7 .from .ensures, ← b6 .parse .ensures, b4 .d .given .1, ← b2 .is-day .ensures, b1 .if1 .left, ← c .refuse-text .ensures)
 
 returns-3 : tie.Need-returns-3
 unfolding dayDigits dayOf pick
@@ -72,7 +72,7 @@ day-digits-spec =
     sub-t9
     cast-t10
     returns
-    refused-requires
+    refuse-text-requires
     enum-told
     panics-requires
     returns-2

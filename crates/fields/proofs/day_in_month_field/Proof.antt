@@ -27,8 +27,8 @@ returns c =
     let b7 = b6 .before in
     simp (← b7 .eat-while .ensures, ← b6 .eat-while2 .ensures, ← b5 .eat-while3 .ensures, ← b4 .from .ensures, eq-eqb _ _ (b3 .if1 .taken), eq-eqb _ _ (c .if2 .taken))
 
-refused-requires : tie.Need-refused-requires
-refused-requires c κs = search needs
+refuse-text-requires : tie.Need-refuse-text-requires
+refuse-text-requires c κs = search needs
 
 returns-2 : tie.Need-returns-2
 unfolding dayInMonthField dayFrom dayAt dayBehind pick
@@ -39,7 +39,7 @@ returns-2 c =
     let b6 = b5 .before in
     let b7 = b6 .before in
     let b8 = b7 .before in
-    simp (← b8 .eat-while .ensures, ← b7 .eat-while2 .ensures, ← b6 .eat-while3 .ensures, ← b5 .from .ensures, eq-eqb _ _ (b4 .if1 .taken), ne-eqb _ _ (b1 .if2 .left), ← c .refused .ensures)
+    simp (← b8 .eat-while .ensures, ← b7 .eat-while2 .ensures, ← b6 .eat-while3 .ensures, ← b5 .from .ensures, eq-eqb _ _ (b4 .if1 .taken), ne-eqb _ _ (b1 .if2 .left), ← c .refuse-text .ensures)
 
 day-digits-requires : tie.Need-day-digits-requires
 day-digits-requires c κs = search needs
@@ -63,7 +63,7 @@ day-in-month-field-spec =
     eat-while-requires-3
     from-requires
     returns
-    refused-requires
+    refuse-text-requires
     returns-2
     day-digits-requires
     returns-3)

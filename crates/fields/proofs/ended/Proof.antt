@@ -15,15 +15,15 @@ returns c =
     let b1 = c .before in
     simp (← b1 .done .ensures, c .if1 .taken, toZ-ofZ w32 (b1 .before .before .args .year) (b1 .before .before .fits .year))
 
-refused-requires : tie.Need-refused-requires
-refused-requires c κs = search needs
+refuse-text-requires : tie.Need-refuse-text-requires
+refuse-text-requires c κs = search needs
 
 returns-2 : tie.Need-returns-2
 unfolding ended pick
 returns-2 c =
     let b1 = c .before in
     let b2 = b1 .before in
-    simp (← b2 .done .ensures, b1 .if1 .left, ← c .refused .ensures)
+    simp (← b2 .done .ensures, b1 .if1 .left, ← c .refuse-text .ensures)
 
 pub ended-spec : {M : Type 1} → statement M
-ended-spec = tie.close (tie.spec done-requires returns refused-requires returns-2)
+ended-spec = tie.close (tie.spec done-requires returns refuse-text-requires returns-2)

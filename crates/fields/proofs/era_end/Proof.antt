@@ -7,15 +7,15 @@ use Rattle.fields.proofs.era_end.Tie as tie
 peek-requires : tie.Need-peek-requires
 peek-requires c κs = search needs
 
-refused-requires : tie.Need-refused-requires
-refused-requires c κs = search needs
+refuse-text-requires : tie.Need-refuse-text-requires
+refuse-text-requires c κs = search needs
 
 returns : tie.Need-returns
 unfolding eraEnd pick
 returns c =
     let b1 = c .before in
     let b2 = b1 .before in
-    simp (← b2 .peek .ensures, b1 .if1 .taken, ← c .refused .ensures)
+    simp (← b2 .peek .ensures, b1 .if1 .taken, ← c .refuse-text .ensures)
 
 returns-2 : tie.Need-returns-2
 unfolding eraEnd pick
@@ -24,4 +24,4 @@ returns-2 c =
     simp (← b1 .peek .ensures, c .if1 .left)
 
 pub era-end-spec : {M : Type 1} → statement M
-era-end-spec = tie.close (tie.spec peek-requires refused-requires returns returns-2)
+era-end-spec = tie.close (tie.spec peek-requires refuse-text-requires returns returns-2)

@@ -47,8 +47,8 @@ enum-known-e c = search needs
 enum-told : tie.Need-enum-told
 enum-told c = search needs
 
-refusal-requires : tie.Need-refusal-requires
-refusal-requires c κs = search needs
+refuse-text-requires : tie.Need-refuse-text-requires
+refuse-text-requires c κs = search needs
 
 returns-2 : tie.Need-returns-2
 unfolding behindDay orEnd timeOr withTime pick
@@ -84,7 +84,7 @@ returns-4 c =
     let b4 = b3 .before in
     let b5 = b4 .before in
     let b6 = b5 .before in
-    simp (← b6 .eat-whitespace .ensures, ← b5 .done .ensures, b4 .if1 .left, ← b3 .eat-if .ensures, b1 .enum-told .given .1, c .refusal .ensures)
+    simp (← b6 .eat-whitespace .ensures, ← b5 .done .ensures, b4 .if1 .left, ← b3 .eat-if .ensures, b1 .enum-told .given .1, c .refuse-text .ensures)
 
 pub behind-day-spec : {M : Type 1} → statement M
-behind-day-spec = tie.close (tie.spec eat-whitespace-requires done-requires new-requires returns eat-if-requires enum-known-next parse-time-requires enum-known-t new-requires-2 enum-known-e enum-told refusal-requires returns-2 returns-3 returns-4)
+behind-day-spec = tie.close (tie.spec eat-whitespace-requires done-requires new-requires returns eat-if-requires enum-known-next parse-time-requires enum-known-t new-requires-2 enum-known-e enum-told refuse-text-requires returns-2 returns-3 returns-4)

@@ -63,8 +63,8 @@ returns-2 c =
     let e = rw y at (c .behind-day .ensures) in
     simp (← b13 .eat-whitespace .ensures, ← b12 .done .ensures, b11 .if1 .left, ← b10 .parse-hyphen .ensures, b8 .b .given .1, ← b6 .parse-day .ensures, b4 .day .given .1, ← l, lt-ltb _ _ (b1 .if2 .taken), ← e)
 
-refusal-requires : tie.Need-refusal-requires
-refusal-requires c κs = search needs
+refuse-text-requires : tie.Need-refuse-text-requires
+refuse-text-requires c κs = search needs
 
 enum-known-e : tie.Need-enum-known-e
 enum-known-e c = search needs
@@ -87,7 +87,7 @@ returns-3 c =
     let p = b13 .before .before in
     let y = toZ-ofZ w32 (p .args .year) (p .fits .year) in
     let l = rw y at (b2 .days-in-month .ensures) in
-    simp (← b13 .eat-whitespace .ensures, ← b12 .done .ensures, b11 .if1 .left, ← b10 .parse-hyphen .ensures, b8 .b .given .1, ← b6 .parse-day .ensures, b4 .day .given .1, ← l, le-ltb _ _ (b1 .if2 .left), c .refusal .ensures)
+    simp (← b13 .eat-whitespace .ensures, ← b12 .done .ensures, b11 .if1 .left, ← b10 .parse-hyphen .ensures, b8 .b .given .1, ← b6 .parse-day .ensures, b4 .day .given .1, ← l, le-ltb _ _ (b1 .if2 .left), c .refuse-text .ensures)
 
 returns-4 : tie.Need-returns-4
 unfolding behindMonth orEnd onSeparator onPart pick
@@ -112,4 +112,4 @@ returns-5 c =
     simp (← b6 .eat-whitespace .ensures, ← b5 .done .ensures, b4 .if1 .left, ← b3 .parse-hyphen .ensures, b1 .e2 .given .1)
 
 pub behind-month-spec : {M : Type 1} → statement M
-behind-month-spec = tie.close (tie.spec eat-whitespace-requires done-requires new-requires returns parse-hyphen-requires enum-known-b parse-day-requires enum-known-day days-in-month-requires behind-day-requires returns-2 refusal-requires enum-known-e enum-known-e-2 returns-3 returns-4 returns-5)
+behind-month-spec = tie.close (tie.spec eat-whitespace-requires done-requires new-requires returns parse-hyphen-requires enum-known-b parse-day-requires enum-known-day days-in-month-requires behind-day-requires returns-2 refuse-text-requires enum-known-e enum-known-e-2 returns-3 returns-4 returns-5)

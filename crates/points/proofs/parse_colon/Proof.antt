@@ -15,8 +15,8 @@ enum-known-next c = search needs
 enum-told : tie.Need-enum-told
 enum-told c = search needs
 
-refusal-requires : tie.Need-refusal-requires
-refusal-requires c κs = search needs
+refuse-text-requires : tie.Need-refuse-text-requires
+refuse-text-requires c κs = search needs
 
 returns : tie.Need-returns
 unfolding colonAt colonFrom colonOr
@@ -32,7 +32,7 @@ returns-2 c =
     let b1 = c .before in
     let b3 = b1 .before .before in
     let b4 = b3 .before in
-    simp (← b4 .eat-whitespace .ensures, ← b3 .eat-if .ensures, b1 .enum-told .given .1, c .refusal .ensures)
+    simp (← b4 .eat-whitespace .ensures, ← b3 .eat-if .ensures, b1 .enum-told .given .1, c .refuse-text .ensures)
 
 pub parse-colon-spec : {M : Type 1} → statement M
-parse-colon-spec = tie.close (tie.spec eat-whitespace-requires eat-if-requires enum-known-next enum-told refusal-requires returns returns-2)
+parse-colon-spec = tie.close (tie.spec eat-whitespace-requires eat-if-requires enum-known-next enum-told refuse-text-requires returns returns-2)

@@ -18,8 +18,8 @@ eat-while-requires c κs = search needs
 enum-told : tie.Need-enum-told
 enum-told c = search needs
 
-refusal-requires : tie.Need-refusal-requires
-refusal-requires c κs = search needs
+refuse-text-requires : tie.Need-refuse-text-requires
+refuse-text-requires c κs = search needs
 
 returns : tie.Need-returns
 unfolding hyphenAt hyphenFrom hyphenOr
@@ -35,7 +35,7 @@ returns-2 c =
     let b1 = c .before in
     let b3 = b1 .before .before in
     let b4 = b3 .before in
-    simp (← b4 .eat-whitespace .ensures, ← b3 .eat-if .ensures, b1 .enum-told .given .1, c .refusal .ensures)
+    simp (← b4 .eat-whitespace .ensures, ← b3 .eat-if .ensures, b1 .enum-told .given .1, c .refuse-text .ensures)
 
 pub parse-hyphen-spec : {M : Type 1} → statement M
-parse-hyphen-spec = tie.close (tie.spec eat-whitespace-requires eat-if-requires enum-known-next eat-while-requires enum-told refusal-requires returns returns-2)
+parse-hyphen-spec = tie.close (tie.spec eat-whitespace-requires eat-if-requires enum-known-next eat-while-requires enum-told refuse-text-requires returns returns-2)

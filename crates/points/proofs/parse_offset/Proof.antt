@@ -49,14 +49,14 @@ returns-3 c =
     let b8 = b7 .before in
     simp (← b8 .eat-whitespace .ensures, ← b7 .eat .ensures, b5 .code .given .1, ne-eqb _ _ (b3 .if1 .left), ne-eqb _ _ (b2 .if2 .left), eq-eqb _ _ (b1 .if3 .taken), ← c .parse-shift2 .ensures)
 
-refusal-requires : tie.Need-refusal-requires
-refusal-requires c κs = search needs
+refuse-text-requires : tie.Need-refuse-text-requires
+refuse-text-requires c κs = search needs
 
 enum-told : tie.Need-enum-told
 enum-told c = search needs
 
-refusal-requires-2 : tie.Need-refusal-requires-2
-refusal-requires-2 c κs = search needs
+refuse-text-requires-2 : tie.Need-refuse-text-requires-2
+refuse-text-requires-2 c κs = search needs
 
 returns-4 : tie.Need-returns-4
 unfolding offsetAt offsetFrom offsetBy pick
@@ -67,7 +67,7 @@ returns-4 c =
     let b5 = b3 .before .before in
     let b7 = b5 .before .before in
     let b8 = b7 .before in
-    simp (← b8 .eat-whitespace .ensures, ← b7 .eat .ensures, b5 .code .given .1, ne-eqb _ _ (b3 .if1 .left), ne-eqb _ _ (b2 .if2 .left), ne-eqb _ _ (b1 .if3 .left), c .refusal .ensures)
+    simp (← b8 .eat-whitespace .ensures, ← b7 .eat .ensures, b5 .code .given .1, ne-eqb _ _ (b3 .if1 .left), ne-eqb _ _ (b2 .if2 .left), ne-eqb _ _ (b1 .if3 .left), c .refuse-text .ensures)
 
 returns-5 : tie.Need-returns-5
 unfolding offsetAt offsetFrom offsetBy pick
@@ -75,7 +75,7 @@ returns-5 c =
     let b1 = c .before in
     let b3 = b1 .before .before in
     let b4 = b3 .before in
-    simp (← b4 .eat-whitespace .ensures, ← b3 .eat .ensures, b1 .enum-told .given .1, c .refusal2 .ensures)
+    simp (← b4 .eat-whitespace .ensures, ← b3 .eat .ensures, b1 .enum-told .given .1, c .refuse-text2 .ensures)
 
 pub parse-offset-spec : {M : Type 1} → statement M
-parse-offset-spec = tie.close (tie.spec eat-whitespace-requires eat-requires enum-known-code returns parse-shift-requires returns-2 parse-shift-requires-2 returns-3 refusal-requires enum-told refusal-requires-2 returns-4 returns-5)
+parse-offset-spec = tie.close (tie.spec eat-whitespace-requires eat-requires enum-known-code returns parse-shift-requires returns-2 parse-shift-requires-2 returns-3 refuse-text-requires enum-told refuse-text-requires-2 returns-4 returns-5)

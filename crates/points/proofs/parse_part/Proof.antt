@@ -11,8 +11,8 @@ parse-unsigned-int-requires c κs = search needs
 enum-known-value : tie.Need-enum-known-value
 enum-known-value c = search needs
 
-refusal-requires : tie.Need-refusal-requires
-refusal-requires c κs = search needs
+refuse-text-requires : tie.Need-refuse-text-requires
+refuse-text-requires c κs = search needs
 
 returns : tie.Need-returns
 unfolding partAt stored pick
@@ -20,10 +20,10 @@ returns c =
     let b1 = c .before in
     let b3 = b1 .before .before in
     let b5 = b3 .before .before in
-    simp (← b5 .parse-unsigned-int .ensures, b3 .value .given .1, lt-ltb _ _ (b1 .if1 .taken), c .refusal .ensures)
+    simp (← b5 .parse-unsigned-int .ensures, b3 .value .given .1, lt-ltb _ _ (b1 .if1 .taken), c .refuse-text .ensures)
 
-refusal-requires-2 : tie.Need-refusal-requires-2
-refusal-requires-2 c κs = search needs
+refuse-text-requires-2 : tie.Need-refuse-text-requires-2
+refuse-text-requires-2 c κs = search needs
 
 returns-2 : tie.Need-returns-2
 unfolding partAt stored pick
@@ -32,7 +32,7 @@ returns-2 c =
     let b2 = b1 .before in
     let b4 = b2 .before .before in
     let b6 = b4 .before .before in
-    simp (← b6 .parse-unsigned-int .ensures, b4 .value .given .1, le-ltb _ _ (b2 .if1 .left), lt-ltb _ _ (b1 .if2 .taken), c .refusal2 .ensures)
+    simp (← b6 .parse-unsigned-int .ensures, b4 .value .given .1, le-ltb _ _ (b2 .if1 .left), lt-ltb _ _ (b1 .if2 .taken), c .refuse-text2 .ensures)
 
 sub-t16 : tie.Need-sub-t16
 sub-t16 c = search needs
@@ -43,8 +43,8 @@ cast-t17 c = search needs
 enum-known-next : tie.Need-enum-known-next
 enum-known-next c = search needs
 
-refusal-requires-3 : tie.Need-refusal-requires-3
-refusal-requires-3 c κs = search needs
+refuse-text-requires-3 : tie.Need-refuse-text-requires-3
+refuse-text-requires-3 c κs = search needs
 
 enum-told : tie.Need-enum-told
 enum-told c = search needs
@@ -65,7 +65,7 @@ unfolding partAt stored pick
 returns-4 c =
     let b2 = c .before .before in
     let b4 = b2 .before .before in
-    simp (← b4 .parse-unsigned-int .ensures, b2 .next .given .1, c .refusal3 .ensures)
+    simp (← b4 .parse-unsigned-int .ensures, b2 .next .given .1, c .refuse-text3 .ensures)
 
 returns-5 : tie.Need-returns-5
 unfolding partAt stored pick
@@ -75,4 +75,4 @@ returns-5 c =
     simp (← b3 .parse-unsigned-int .ensures, b1 .enum-told .given .1, c .panics .ensures)
 
 pub parse-part-spec : {M : Type 1} → statement M
-parse-part-spec = tie.close (tie.spec parse-unsigned-int-requires enum-known-value refusal-requires returns refusal-requires-2 returns-2 sub-t16 cast-t17 enum-known-next refusal-requires-3 enum-told panics-requires returns-3 returns-4 returns-5)
+parse-part-spec = tie.close (tie.spec parse-unsigned-int-requires enum-known-value refuse-text-requires returns refuse-text-requires-2 returns-2 sub-t16 cast-t17 enum-known-next refuse-text-requires-3 enum-told panics-requires returns-3 returns-4 returns-5)

@@ -14,8 +14,8 @@ enum-known-value c = search needs
 enum-known-next : tie.Need-enum-known-next
 enum-known-next c = search needs
 
-refusal-requires : tie.Need-refusal-requires
-refusal-requires c κs = search needs
+refuse-text-requires : tie.Need-refuse-text-requires
+refuse-text-requires c κs = search needs
 
 enum-told : tie.Need-enum-told
 enum-told c = search needs
@@ -35,7 +35,7 @@ unfolding longYear longOf
 returns-2 c =
     let b2 = c .before .before in
     let b4 = b2 .before .before in
-    simp (← b4 .parse-int .ensures, b2 .next .given .1, c .refusal .ensures)
+    simp (← b4 .parse-int .ensures, b2 .next .given .1, c .refuse-text .ensures)
 
 returns-3 : tie.Need-returns-3
 unfolding longYear longOf
@@ -45,4 +45,4 @@ returns-3 c =
     simp (← b3 .parse-int .ensures, b1 .enum-told .given .1, c .panics .ensures)
 
 pub parse-year-spec : {M : Type 1} → statement M
-parse-year-spec = tie.close (tie.spec parse-int-requires enum-known-value enum-known-next refusal-requires enum-told panics-requires returns returns-2 returns-3)
+parse-year-spec = tie.close (tie.spec parse-int-requires enum-known-value enum-known-next refuse-text-requires enum-told panics-requires returns returns-2 returns-3)

@@ -23,8 +23,8 @@ month-requires c κs = search needs
 behind-months-requires : tie.Need-behind-months-requires
 behind-months-requires c κs = search needs
 
-refused-requires : tie.Need-refused-requires
-refused-requires c κs = search needs
+refuse-text-requires : tie.Need-refuse-text-requires
+refuse-text-requires c κs = search needs
 
 enum-known-e : tie.Need-enum-known-e
 enum-known-e c = search needs
@@ -55,7 +55,7 @@ returns-3 c =
     let b3 = b2 .before in
     let b5 = b3 .before .before in
     let b7 = b5 .before .before in
-    simp (← b7 .get-hyphen .ensures, b5 .idx .given .1, ← b3 .eat-while .ensures, ← b2 .len .ensures, ne-eqb _ _ (b1 .match2 .rest .1), ne-eqb _ _ (b1 .match2 .rest .0 .1), ← c .refused .ensures)
+    simp (← b7 .get-hyphen .ensures, b5 .idx .given .1, ← b3 .eat-while .ensures, ← b2 .len .ensures, ne-eqb _ _ (b1 .match2 .rest .1), ne-eqb _ _ (b1 .match2 .rest .0 .1), ← c .refuse-text .ensures)
 
 returns-4 : tie.Need-returns-4
 unfolding behindYear onHyphen monthsRun pick
@@ -74,7 +74,7 @@ behind-year-spec =
     len-requires
     month-requires
     behind-months-requires
-    refused-requires
+    refuse-text-requires
     enum-known-e
     returns
     returns-2

@@ -11,8 +11,8 @@ eat-while-requires c κs = search needs
 len-requires : tie.Need-len-requires
 len-requires c κs = search needs
 
-refused-requires : tie.Need-refused-requires
-refused-requires c κs = search needs
+refuse-text-requires : tie.Need-refuse-text-requires
+refuse-text-requires c κs = search needs
 
 returns : tie.Need-returns
 unfolding month monthRun onValue pick
@@ -20,7 +20,7 @@ returns c =
     let b1 = c .before in
     let b2 = b1 .before in
     let b3 = b2 .before in
-    simp (← b3 .eat-while .ensures, ← b2 .len .ensures, ne-eqb _ _ (b1 .if1 .taken), ← c .refused .ensures)
+    simp (← b3 .eat-while .ensures, ← b2 .len .ensures, ne-eqb _ _ (b1 .if1 .taken), ← c .refuse-text .ensures)
 
 from-requires : tie.Need-from-requires
 from-requires c κs = search needs
@@ -46,8 +46,8 @@ returns-2 c =
     let b9 = b8 .before in
     simp (← b9 .eat-while .ensures, ← b8 .len .ensures, eq-eqb _ _ (b7 .if1 .left), ← b6 .from .ensures, ← b5 .parse .ensures, b3 .written .given .1, eq-eqb _ _ (b1 .if2 .taken), ← c .panics .ensures)
 
-refused-requires-2 : tie.Need-refused-requires-2
-refused-requires-2 c κs = search needs
+refuse-text-requires-2 : tie.Need-refuse-text-requires-2
+refuse-text-requires-2 c κs = search needs
 
 returns-3 : tie.Need-returns-3
 unfolding month monthRun onValue pick
@@ -60,13 +60,13 @@ returns-3 c =
     let b8 = b7 .before in
     let b9 = b8 .before in
     let b10 = b9 .before in
-    simp (← b10 .eat-while .ensures, ← b9 .len .ensures, eq-eqb _ _ (b8 .if1 .left), ← b7 .from .ensures, ← b6 .parse .ensures, b4 .written .given .1, ne-eqb _ _ (b2 .if2 .left), lt-ltb _ _ (b1 .if3 .taken), ← c .refused2 .ensures)
+    simp (← b10 .eat-while .ensures, ← b9 .len .ensures, eq-eqb _ _ (b8 .if1 .left), ← b7 .from .ensures, ← b6 .parse .ensures, b4 .written .given .1, ne-eqb _ _ (b2 .if2 .left), lt-ltb _ _ (b1 .if3 .taken), ← c .refuse-text2 .ensures)
 
-sub-t17 : tie.Need-sub-t17
-sub-t17 c = search needs
+sub-t18 : tie.Need-sub-t18
+sub-t18 c = search needs
 
-cast-t18 : tie.Need-cast-t18
-cast-t18 c = search needs
+cast-t19 : tie.Need-cast-t19
+cast-t19 c = search needs
 
 behind-month-requires : tie.Need-behind-month-requires
 behind-month-requires c κs = search needs
@@ -107,17 +107,17 @@ month-spec =
     (tie.spec
     eat-while-requires
     len-requires
-    refused-requires
+    refuse-text-requires
     returns
     from-requires
     parse-requires
     enum-known-written
     panics-requires
     returns-2
-    refused-requires-2
+    refuse-text-requires-2
     returns-3
-    sub-t17
-    cast-t18
+    sub-t18
+    cast-t19
     behind-month-requires
     enum-told
     panics-requires-2

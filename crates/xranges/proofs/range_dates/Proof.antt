@@ -29,8 +29,8 @@ returns c =
     let e = b4 .before .next-run .ensures in
     simp (← run-start _ _ _ _ e, ← run-end _ _ _ _ e, ← b2 .len .ensures, lt-ltb _ _ (b1 .if1 .taken), ← c .panics .ensures)
 
-refused-requires : tie.Need-refused-requires
-refused-requires c κs = search needs
+refuse-text-requires : tie.Need-refuse-text-requires
+refuse-text-requires c κs = search needs
 
 returns-2 : tie.Need-returns-2
 unfolding rangeDates rangeFrom digitRun yearRun onValue pick
@@ -41,7 +41,7 @@ returns-2 c =
     let b4 = b3 .before in
     let b5 = b4 .before in
     let e = b5 .before .next-run .ensures in
-    simp (← run-start _ _ _ _ e, ← run-end _ _ _ _ e, ← b3 .len .ensures, le-ltb _ _ (b2 .if1 .left), lt-ltb _ _ (b1 .if2 .taken), ← c .refused .ensures)
+    simp (← run-start _ _ _ _ e, ← run-end _ _ _ _ e, ← b3 .len .ensures, le-ltb _ _ (b2 .if1 .left), lt-ltb _ _ (b1 .if2 .taken), ← c .refuse-text .ensures)
 
 eat-while-requires : tie.Need-eat-while-requires
 eat-while-requires c κs = search needs
@@ -49,8 +49,8 @@ eat-while-requires c κs = search needs
 len-requires-2 : tie.Need-len-requires-2
 len-requires-2 c κs = search needs
 
-refused-requires-2 : tie.Need-refused-requires-2
-refused-requires-2 c κs = search needs
+refuse-text-requires-2 : tie.Need-refuse-text-requires-2
+refuse-text-requires-2 c κs = search needs
 
 returns-3 : tie.Need-returns-3
 unfolding rangeDates rangeFrom digitRun yearRun onValue pick
@@ -64,7 +64,7 @@ returns-3 c =
     let b7 = b6 .before in
     let b8 = b7 .before in
     let e = b8 .before .next-run .ensures in
-    simp (← run-start _ _ _ _ e, ← run-end _ _ _ _ e, ← b6 .len .ensures, le-ltb _ _ (b5 .if1 .left), le-ltb _ _ (b4 .if2 .left), ← b3 .eat-while .ensures, ← b2 .len2 .ensures, ne-eqb _ _ (b1 .if3 .taken), ← c .refused2 .ensures)
+    simp (← run-start _ _ _ _ e, ← run-end _ _ _ _ e, ← b6 .len .ensures, le-ltb _ _ (b5 .if1 .left), le-ltb _ _ (b4 .if2 .left), ← b3 .eat-while .ensures, ← b2 .len2 .ensures, ne-eqb _ _ (b1 .if3 .taken), ← c .refuse-text2 .ensures)
 
 from-requires : tie.Need-from-requires
 from-requires c κs = search needs
@@ -152,11 +152,11 @@ range-dates-spec =
     len-requires
     panics-requires
     returns
-    refused-requires
+    refuse-text-requires
     returns-2
     eat-while-requires
     len-requires-2
-    refused-requires-2
+    refuse-text-requires-2
     returns-3
     from-requires
     parse-requires
