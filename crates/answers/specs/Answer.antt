@@ -39,7 +39,7 @@ hexText (b ∷ l) = glyph (b / 16) ∷ glyph (b % 16) ∷ hexText l
 abbrev pub wordBytes : ℕ → List ℕ
 wordBytes n = (n / 16777216 % 256) ∷ (n / 65536 % 256) ∷ (n / 256 % 256) ∷ (n % 256) ∷ []
 
--- in eight bytes
+-- in eight bytes, as a place in a file needs them
 abbrev pub longBytes : ℕ → List ℕ
 longBytes n = wordBytes (n / 4294967296) ++ wordBytes (n % 4294967296)
 
@@ -92,7 +92,7 @@ endsBytes (After a) = datetimeBytes a
 endsBytes (Before a) = datetimeBytes a
 endsBytes (Between a b) = datetimeBytes a ++ datetimeBytes b
 
--- a bit
+-- a mark is 1 where it stands
 unfoldable pub bit : Bool → ℕ
 bit true = 1
 bit false = 0
@@ -113,11 +113,11 @@ refusedBytes e = (number (e .kind) ∷ []) ++ (longBytes (e .place .0) ++ longBy
 abbrev pub lineOf : List ℕ → List ℕ
 lineOf bytes = hexText bytes ++ (0x0A ∷ [])
 
--- the line of a Date
+-- the line of a Date, whose written text is given: a Date that cannot be written has none
 abbrev pub acceptedLine : Date → List ℕ → List ℕ
 acceptedLine d text = lineOf (acceptedBytes d text)
 
--- the line of a refusal
+-- the line of a refusal: always 17 bytes, so 35 characters
 abbrev pub refusedLine : Refusal → List ℕ
 refusedLine e = lineOf (refusedBytes e)
 

@@ -110,7 +110,7 @@ fn shape(v: DateValue) -> u8
     }
 }
 
-// A bit.
+// A mark is 1 where it stands.
 fn bit(b: bool) -> u8
     ensures { λ r. ⌜ r ≡ spec.bit b ⌝ }
 {
@@ -147,7 +147,7 @@ fn high(b: u8) -> u8
     glyph(b / 16)
 }
 
-// The low one.
+// The digit behind it.
 fn low(b: u8) -> u8
     ensures { λ r. ⌜ r ≡ spec.glyph (b % 16) ⌝ }
 {
@@ -183,7 +183,7 @@ fn put_time(t: OptionTime, out: &mut [u8], at: usize) -> usize
     }
 }
 
-// A Datetime.
+// A Datetime, in 13 bytes whatever it has: what is absent is ff or zeros.
 fn put_datetime(d: Datetime, out: &mut [u8], at: usize) -> usize
     requires { ⌜ at + 26 ≤ length (now out) ⌝ }
     ensures { λ r. ⌜ Put (spec.hexText (spec.datetimeBytes d)) (now (out .entry)) at (now (out .exit)) r ⌝ }
@@ -224,7 +224,7 @@ fn ends_length(v: DateValue) -> usize
     }
 }
 
-// The line feed.
+// Each answer ends its line, so that an answer can be read as soon as it is written.
 fn end_line(out: &mut [u8], at: usize) -> usize
     requires { ⌜ at + 1 ≤ length (now out) ⌝ }
     ensures { λ r. ⌜ Put (10 ∷ []) (now (out .entry)) at (now (out .exit)) r ⌝ }
@@ -254,7 +254,7 @@ fn put_long(n: u64, out: &mut [u8], at: usize) -> usize
     put_hex(&word((n % 4294967296) as u32), out, k)
 }
 
-// The line of a refusal.
+// The line of a refusal, which is always as long.
 fn put_refused(e: Refusal, out: &mut [u8]) -> usize
     requires { ⌜ 35 ≤ length (now out) ⌝ }
     ensures { λ r. ⌜ Put (spec.refusedLine e) (now (out .entry)) 0 (now (out .exit)) r ⌝ }

@@ -18,7 +18,7 @@ upperOf c =
     pick (loses32 c) (One (c - 32))
     (pick (eqb c 0xFF) (One 0x178) (pick (eqb c 0xB5) (One 0x39C) (pick (eqb c 0xDF) (Two 0x53 0x53) (One c))))
 
--- the codes of an upper case
+-- the one or two characters of an upper case, as a text has them
 unfoldable pub codesOf : Upper → List ℕ
 codesOf (One a) = a ∷ []
 codesOf (Two a b) = a ∷ b ∷ []

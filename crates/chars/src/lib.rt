@@ -195,7 +195,7 @@ pub fn decode_at(s: &[u8], at: usize) -> Decoded
     Decoded::End
 }
 
-// Whether the code is one from lo to hi.
+// A class is a few ranges of codes, both ends included.
 fn within(lo: u32, hi: u32, code: u32) -> bool
     ensures { λ r. ⌜ r ≡ classes.within lo hi code ⌝ }
 {

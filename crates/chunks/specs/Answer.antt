@@ -29,7 +29,7 @@ unfoldable pub answered : Checked → Bool → ℕ → Formatted
 answered (Faulty e) room n = Refused e
 answered Clean room n = pick room (Text n) (Refused (refusal NoRoom (fileSpan 0 0)))
 
--- the answer for a list and a buffer
+-- faults come before NoRoom, and room is judged by what a list may need, not by its text
 unfoldable pub answer : Bool → List ℕ → List ℕ → List ℕ → Formatted
 answer upper b table buf = answered (checked b table) (leb (roomOf b table) (length buf)) (length (textOf upper b table))
 

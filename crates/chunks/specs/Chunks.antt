@@ -7,7 +7,7 @@ use lib.ListN.{length}
 use Rattle.refusals.specs.declared.FileSpan.{FileSpan}
 use Rattle.refusals.specs.Refusal.{fileSpan}
 
--- a chunk
+-- a part of a field with one kind of markup, as four numbers of the lent table say it
 pub record Chunk : Type 0 where
   -- 0 Normal, 1 Verbatim, 2 Math
   pub kind : ℕ

@@ -51,6 +51,6 @@ chunksOut white b [] = []
 chunksOut white b (c ∷ cs) =
     chunkOut white (c .kind) (take (c .len) b) ++ chunksOut (chunkFlag white (c .kind) (take (c .len) b)) (drop (c .len) b) cs
 
--- the formatted text of a list
+-- a list starts with the flag clear: a line break at its front becomes a space
 unfoldable pub formatted : List ℕ → List ℕ → List ℕ
 formatted b table = chunksOut false b (chunksOf table)

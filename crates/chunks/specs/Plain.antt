@@ -8,7 +8,7 @@ use lib.ListN.{length, getD}
 use Rattle.chars.specs.Pick.{pick}
 use Rattle.chunks.specs.Format.{isBreak, oneFlag}
 
--- whether all bytes are ASCII
+-- each byte is then a character by itself, and one that is read
 unfoldable pub allAscii : List ℕ → Bool
 allAscii [] = true
 allAscii (b ∷ t) = ltb b 0x80 && allAscii t

@@ -38,7 +38,7 @@ pub enum Formatted {
 // How far a buffer is filled, and whether what was put last was white space.
 struct Put {
     n: usize,
-    white: bool,
+    prev_was_whitespace: bool,
 }
 
 // Whether the kinds of a table are known and its lengths sum to a number of bytes. What is left of the bytes is counted down, so
@@ -64,7 +64,7 @@ fn lengths_fit(table: &[u64], bytes: usize) -> bool
     left == 0
 }
 
-// Whether the table fits the bytes.
+// Four numbers a chunk, known kinds, and lengths that make up the bytes: else BadChunks.
 fn fits(bytes: &[u8], table: &[u64]) -> bool
     ensures { λ r. ⌜ r ≡ chunks_.fits (now (bytes .entry)) (now (table .entry)) ⌝ }
 {
@@ -204,24 +204,33 @@ fn is_break(code: u32) -> bool
 // Puts one character of a Normal chunk: a line break as a space, or not at all behind white space.
 fn put_one(buf: &mut [u8], n: usize, white: bool, code: u32) -> Put
     requires { ⌜ (code < 0x110000) × (n + length (format_.oneOut white code) ≤ length (now buf)) ⌝ }
-    ensures { λ r. ⌜ (r .n ≡ n + length (format_.oneOut white code)) × (r .white ≡ format_.oneFlag code) × (now (buf .exit) ≡ sets (now (buf .entry)) n (format_.oneOut white code)) ⌝ }
+    ensures { λ r. ⌜ (r .n ≡ n + length (format_.oneOut white code)) × (r .«prev_was_whitespace» ≡ format_.oneFlag code) × (now (buf .exit) ≡ sets (now (buf .entry)) n (format_.oneOut white code)) ⌝ }
 {
     if is_break(code) {
         if white {
-            return Put { n, white: true };
+            return Put {
+                n,
+                prev_was_whitespace: true,
+            };
         }
         let m = put_char(buf, n, 0x20);
-        return Put { n: m, white: true };
+        return Put {
+            n: m,
+            prev_was_whitespace: true,
+        };
     }
     let m = put_char(buf, n, code);
     let w = chars::is_whitespace(code);
-    Put { n: m, white: w }
+    Put {
+        n: m,
+        prev_was_whitespace: w,
+    }
 }
 
-// Puts a Normal chunk.
+// Puts a Normal chunk, a character at a time, as a line break goes by what came before it.
 fn put_normal(buf: &mut [u8], n: usize, t: &[u8], white: bool) -> Put
     requires { ⌜ n + length (now t) ≤ length (now buf) ⌝ }
-    ensures { λ r. ⌜ (r .n ≡ n + length (format_.normal white (codes (now (t .entry))))) × (r .white ≡ format_.normalFlag white (codes (now (t .entry)))) × (now (buf .exit) ≡ sets (now (buf .entry)) n (format_.normal white (codes (now (t .entry))))) ⌝ }
+    ensures { λ r. ⌜ (r .n ≡ n + length (format_.normal white (codes (now (t .entry))))) × (r .«prev_was_whitespace» ≡ format_.normalFlag white (codes (now (t .entry)))) × (now (buf .exit) ≡ sets (now (buf .entry)) n (format_.normal white (codes (now (t .entry))))) ⌝ }
 {
     let mut m = n;
     let mut w = white;
@@ -231,20 +240,26 @@ fn put_normal(buf: &mut [u8], n: usize, t: &[u8], white: bool) -> Put
             Decoded::Char { code, len } => {
                 let p = put_one(buf, m, w, code);
                 m = p.n;
-                w = p.white;
+                w = p.prev_was_whitespace;
                 i = i + len;
             }
             Decoded::Bad => {
-                return Put { n: m, white: w };
+                return Put {
+                    n: m,
+                    prev_was_whitespace: w,
+                };
             }
             Decoded::End => {
-                return Put { n: m, white: w };
+                return Put {
+                    n: m,
+                    prev_was_whitespace: w,
+                };
             }
         }
     }
 }
 
-// Copies bytes.
+// Puts bytes as they are: a line break in Verbatim or Math stays one.
 fn put_bytes(buf: &mut [u8], n: usize, t: &[u8]) -> usize
     requires { ⌜ n + length (now t) ≤ length (now buf) ⌝ }
     ensures { λ r. ⌜ (r ≡ n + length (now (t .entry))) × (now (buf .exit) ≡ sets (now (buf .entry)) n (now (t .entry))) ⌝ }
@@ -284,7 +299,7 @@ fn last_white(t: &[u8]) -> bool
 // Puts a chunk of a kind: Normal, Verbatim, or Math between dollar signs.
 fn put_chunk(buf: &mut [u8], n: usize, kind: u64, t: &[u8], white: bool) -> Put
     requires { ⌜ n + length (now t) + 2 ≤ length (now buf) ⌝ }
-    ensures { λ r. ⌜ (r .n ≡ n + length (format_.chunkOut white kind (now (t .entry)))) × (r .white ≡ format_.chunkFlag white kind (now (t .entry))) × (now (buf .exit) ≡ sets (now (buf .entry)) n (format_.chunkOut white kind (now (t .entry)))) ⌝ }
+    ensures { λ r. ⌜ (r .n ≡ n + length (format_.chunkOut white kind (now (t .entry)))) × (r .«prev_was_whitespace» ≡ format_.chunkFlag white kind (now (t .entry))) × (now (buf .exit) ≡ sets (now (buf .entry)) n (format_.chunkOut white kind (now (t .entry)))) ⌝ }
 {
     if kind == 0 {
         return put_normal(buf, n, t, white);
@@ -292,12 +307,18 @@ fn put_chunk(buf: &mut [u8], n: usize, kind: u64, t: &[u8], white: bool) -> Put
     if kind == 1 {
         let m = put_bytes(buf, n, t);
         let w = last_white(t);
-        return Put { n: m, white: w };
+        return Put {
+            n: m,
+            prev_was_whitespace: w,
+        };
     }
     let m = put_char(buf, n, 0x24);
     let p = put_bytes(buf, m, t);
     let q = put_char(buf, p, 0x24);
-    Put { n: q, white }
+    Put {
+        n: q,
+        prev_was_whitespace: white,
+    }
 }
 
 // Puts the chunks of a list, one behind the other.
@@ -315,7 +336,7 @@ fn put_list(bytes: &[u8], table: &[u64], buf: &mut [u8]) -> usize
         let len = table[k + 1] as usize;
         let p = put_chunk(buf, n, kind, &bytes[at..at + len], w);
         n = p.n;
-        w = p.white;
+        w = p.prev_was_whitespace;
         at = at + len;
         k = k + 4; // past the four numbers
     }
@@ -356,7 +377,7 @@ fn upper_all(buf: &mut [u8])
     }
 }
 
-// Whether all bytes are ASCII.
+// Whether each byte is a character by itself, so that nothing need be decoded.
 fn all_ascii(t: &[u8]) -> bool
     ensures { λ r. ⌜ r ≡ plain_.allAscii (now (t .entry)) ⌝ }
 {
@@ -403,33 +424,39 @@ fn plain_byte(upper: bool, b: u8) -> u8
 // Puts one byte of a plain list. A byte above the space is no white space and no line break, and is looked at first.
 fn put_plain_byte(buf: &mut [u8], n: usize, upper: bool, white: bool, b: u8) -> Put
     requires { ⌜ (n < length (now buf)) × (b < 0x80) ⌝ }
-    ensures { λ r. ⌜ (r .n ≡ n + length (plain_.plainOut upper white b)) × (r .white ≡ format_.oneFlag b) × (now (buf .exit) ≡ sets (now (buf .entry)) n (plain_.plainOut upper white b)) ⌝ }
+    ensures { λ r. ⌜ (r .n ≡ n + length (plain_.plainOut upper white b)) × (r .«prev_was_whitespace» ≡ format_.oneFlag b) × (now (buf .exit) ≡ sets (now (buf .entry)) n (plain_.plainOut upper white b)) ⌝ }
 {
     let u = plain_byte(upper, b);
     if 0x20 < b {
         buf[n] = u;
         return Put {
             n: n + 1,
-            white: false,
+            prev_was_whitespace: false,
         };
     }
     let code = wide(b);
     if is_break(code) {
         if white {
-            return Put { n, white: true };
+            return Put {
+                n,
+                prev_was_whitespace: true,
+            };
         }
         buf[n] = 0x20;
         return Put {
             n: n + 1,
-            white: true,
+            prev_was_whitespace: true,
         };
     }
     let w = chars::is_whitespace(code);
     buf[n] = u;
-    Put { n: n + 1, white: w }
+    Put {
+        n: n + 1,
+        prev_was_whitespace: w,
+    }
 }
 
-// Puts a plain list.
+// Puts a plain list in one pass, in upper case where that is asked.
 fn put_plain(buf: &mut [u8], t: &[u8], upper: bool) -> usize
     requires { ⌜ (length (now t) ≤ length (now buf)) × (plain_.allAscii (now t) ≡ true) ⌝ }
     ensures { λ r. ⌜ (r ≡ length (plain_.plainText upper false (now (t .entry)))) × (now (buf .exit) ≡ sets (now (buf .entry)) 0 (plain_.plainText upper false (now (t .entry)))) ⌝ }
@@ -440,7 +467,7 @@ fn put_plain(buf: &mut [u8], t: &[u8], upper: bool) -> usize
     while i < t.len() {
         let p = put_plain_byte(buf, m, upper, w, t[i]);
         m = p.n;
-        w = p.white;
+        w = p.prev_was_whitespace;
         i = i + 1;
     }
     m

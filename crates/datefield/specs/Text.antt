@@ -38,10 +38,10 @@ firstOf b (x ∷ t) = pick (eqb x b) 0 (suc (firstOf b t))
 unfoldable pub isBlank : List ℕ → Bool
 isBlank s = leb (length s) (eatWhile Whitespace s 0)
 
--- exactly `..`
+-- exactly `..`, with no white space beside it
 unfoldable pub isDots : List ℕ → Bool
 isDots s = eqb (length s) 2 && (eqb (getD s 0 0) 0x2E && eqb (getD s 1 0) 0x2E)
 
--- a half that is open
+-- a half that is open: the range has no start, or no end
 unfoldable pub isOpen : List ℕ → Bool
 isOpen s = isBlank s || isDots s

@@ -58,7 +58,7 @@ halves span s slash =
     (pick (isOpen (drop (slash + 1) s)) (NoValue (refusal UndefinedRange span)) (onHalf (secondHalf span s slash) λ b. Read (Before b)))
     (pick (isOpen (drop (slash + 1) s)) (onHalf (firstHalf span s slash) λ a. Read (After a)) (bothHalves span s slash))
 
--- an X range
+-- an X range is two dates; it is read from the text's start, so its place moves by the span alone
 unfoldable pub xRange : FileSpan → ReadRange → ReadValue
 xRange span (Range a b) = Read (Between a b)
 xRange span (NoRange e) = NoValue (offset e (span .0))
@@ -70,7 +70,7 @@ value span s =
     (pick (ltb (firstOf 0x2F s) (length s)) (halves span s (firstOf 0x2F s))
     (onHalf (moved (point s) λ e. offset e (span .0)) λ d. Read (At d)))
 
--- a value with its marks
+-- the marks are those of the whole Date, not of one end
 unfoldable pub marked : Bool → Bool → ReadValue → ReadDate
 marked uncertain approximate (Read v) = Accepted (date v uncertain approximate)
 marked uncertain approximate (NoValue e) = Refused e
@@ -79,6 +79,6 @@ marked uncertain approximate (NoValue e) = Refused e
 unfoldable pub trimmedDate : FileSpan → List ℕ → ReadDate
 trimmedDate span s = marked (isUncertain (lastByte s)) (isApproximate (lastByte s)) (value span (unmarked s))
 
--- the whole text
-unfoldable pub dateText : FileSpan → List ℕ → ReadDate
-dateText span s = trimmedDate span (trimmed s)
+-- the text of a date field, without the white space at its end
+unfoldable pub parseText : FileSpan → List ℕ → ReadDate
+parseText span s = trimmedDate span (trimmed s)

@@ -85,7 +85,7 @@ fn moved(p: ReadPoint, start: u64) -> ReadHalf
     }
 }
 
-// The half before the slash.
+// The half before the slash. It starts where the text does.
 fn first_half(s: &[u8], slash: usize, span: FileSpan) -> ReadHalf
     requires { ⌜ slash < length (now s) ⌝ }
     ensures { λ r. ⌜ r ≡ spec.firstHalf span (now (s .entry)) slash ⌝ }
@@ -93,7 +93,7 @@ fn first_half(s: &[u8], slash: usize, span: FileSpan) -> ReadHalf
     moved(points::parse(&s[..slash]), span.0)
 }
 
-// The half behind the slash.
+// The half behind the slash. Its place is counted from there, and moves by the slash too.
 fn second_half(s: &[u8], slash: usize, span: FileSpan) -> ReadHalf
     requires { ⌜ slash < length (now s) ⌝ }
     ensures { λ r. ⌜ r ≡ spec.secondHalf span (now (s .entry)) slash ⌝ }
@@ -104,7 +104,7 @@ fn second_half(s: &[u8], slash: usize, span: FileSpan) -> ReadHalf
     }
 }
 
-// Both halves.
+// Both halves; the first is refused first. A start after the end is accepted.
 fn both_halves(s: &[u8], slash: usize, span: FileSpan) -> ReadValue
     requires { ⌜ slash < length (now s) ⌝ }
     ensures { λ r. ⌜ r ≡ spec.bothHalves span (now (s .entry)) slash ⌝ }
@@ -194,7 +194,7 @@ fn last_byte(s: &[u8]) -> u8
     s[n - 1]
 }
 
-// A value with its marks.
+// The marks are those of the whole Date, not of one end.
 fn marked(value: ReadValue, uncertain: bool, approximate: bool) -> ReadDate
     ensures { λ r. ⌜ r ≡ spec.marked uncertain approximate value ⌝ }
 {
@@ -226,7 +226,7 @@ fn read_trimmed(s: &[u8], span: FileSpan) -> ReadDate
 
 // The text of a date field, in upper case, of a chunk list with this span.
 pub fn parse_text(s: &[u8], span: FileSpan) -> ReadDate
-    ensures { λ r. ⌜ r ≡ spec.dateText span (now (s .entry)) ⌝ }
+    ensures { λ r. ⌜ r ≡ spec.parseText span (now (s .entry)) ⌝ }
 {
     let end = strs::trim_end(s);
     let n = end.0;

@@ -15,11 +15,11 @@ use Rattle.dates.specs.declared.DateValue.{DateValue}
 use Rattle.dates.specs.declared.DateValue.the-variants.{At}
 use Rattle.dates.specs.declared.Date.{Date}
 
--- a month and a day that are stored, counted from zero
+-- a month as it is stored: counted from zero
 abbrev pub month : ℕ → OptionMonth
 month m = SomeMonth (record { 0 = m })
 
--- the day likewise
+-- a day likewise
 abbrev pub day : ℕ → OptionDay
 day d = SomeDay (record { 0 = d })
 

@@ -100,7 +100,7 @@ impl Time {
         from_parts(hour, minute, second, some)
     }
 
-    // The seconds in UTC.
+    // The seconds in UTC, by which times compare. They may be negative, or more than a day has.
     pub fn to_utc_seconds(self) -> i64
         ensures { λ r. ⌜ r ≡ clock.utcSeconds self ⌝ }
     {
@@ -129,7 +129,7 @@ impl TimeOffset {
     }
 }
 
-// Whether hour, minute and second are in their ranges.
+// Whether a clock shows it. There is no leap second: 23:59:60 is no time.
 fn in_range(hour: u8, minute: u8, second: u8) -> bool
     ensures { λ r. ⌜ r ≡ clock.inRange hour minute second ⌝ }
 {
@@ -156,7 +156,7 @@ fn from_parts(hour: u8, minute: u8, second: u8, offset: OptionOffset) -> OptionT
     OptionTime::NoTime
 }
 
-// Hours, minutes and seconds as seconds.
+// Any three bytes will do: those of an offset are not checked.
 fn seconds(hour: u8, minute: u8, second: u8) -> u32
     ensures { λ r. ⌜ (r ≡ clock.seconds hour minute second) × (r < 1000000) ⌝ }
 {

@@ -9,7 +9,7 @@ use Rattle.chars.specs.Pick.{pick}
 use Rattle.chars.specs.Classes.{within, isWhitespace, isAsciiDigit, isNumeric, isAsciiAlphabetic, isAlphabetic, isAlphanumeric}
 use Rattle.chars.specs.Utf8.{lenOf, isCont, two, decode, first, decodeAt}
 use Rattle.scanner.specs.Class.{inClass}
-use Rattle.scanner.specs.Scan.{lenIn, matchLen, walk, eatWhile, eatIf, begins, eatText, peekAt, doneAt, part}
+use Rattle.scanner.specs.Scan.{lenIn, matchLen, walk, eatWhile, eatIf, begins, eatText, standsAt, doneAt, part}
 use Rattle.refusals.specs.declared.Kind.the-variants.{DayOutOfRange, InvalidNumber, MissingNumber, WrongNumberOfDigits, InvalidFormat, YearZeroCE}
 use Rattle.refusals.specs.declared.FileSpan.{FileSpan}
 use Rattle.refusals.specs.Refusal.{fileSpan, refusal}
@@ -66,7 +66,7 @@ years =
     ∷ []
 
 pub year-examples : map (λ (e : YearExample). getYear (ascii (e .text))) years ≡ map (λ (e : YearExample). e .says) years
-unfolding pick within isWhitespace isAsciiDigit isNumeric isAsciiAlphabetic isAlphabetic isAlphanumeric lenOf isCont two decode first decodeAt inClass lenIn matchLen walk eatWhile eatIf begins eatText peekAt doneAt part digitOf valueOf digitsFrom parse onPast eraEnd negativeEra eraAt parseEraMarker ended withEra behindDigits onNumber yearDigits yearFrom behindSign yearAt getYear
+unfolding pick within isWhitespace isAsciiDigit isNumeric isAsciiAlphabetic isAlphabetic isAlphanumeric lenOf isCont two decode first decodeAt inClass lenIn matchLen walk eatWhile eatIf begins eatText standsAt doneAt part digitOf valueOf digitsFrom parse onPast eraEnd negativeEra eraAt parseEraMarker ended withEra behindDigits onNumber yearDigits yearFrom behindSign yearAt getYear
 year-examples = refl
 
 -- a month field, its month, the place behind it, and the day that it holds there

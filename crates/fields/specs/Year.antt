@@ -9,7 +9,7 @@ use Rattle.chars.specs.Pick.{pick}
 use Rattle.scanner.specs.declared.Class.the-variants.{Whitespace, AsciiDigit, Alphanumeric, Is}
 use Rattle.scanner.specs.declared.EatIf.{EatIf}
 use Rattle.scanner.specs.declared.EatIf.the-variants.{Past, Kept}
-use Rattle.scanner.specs.Scan.{eatWhile, eatIf, eatText, peekAt, doneAt, part}
+use Rattle.scanner.specs.Scan.{eatWhile, eatIf, eatText, standsAt, doneAt, part}
 use Rattle.refusals.specs.declared.Kind.the-variants.{WrongNumberOfDigits, InvalidFormat, YearZeroCE}
 use Rattle.refusals.specs.Offset.{textRefusal, panics}
 use Rattle.strs.specs.declared.ParsedNumber.{ParsedNumber}
@@ -47,7 +47,7 @@ onPast Kept go else = else
 -- an era from a place to another, AD or not: a letter or a digit behind it is refused, at the era alone
 unfoldable pub eraEnd : List ℕ → ℕ → Bool → ℕ → ReadEra
 eraEnd s start positive end =
-    pick (peekAt Alphanumeric s end) (BadEra (textRefusal InvalidFormat start end)) (Era positive (record { 0 = end }))
+    pick (standsAt Alphanumeric s end) (BadEra (textRefusal InvalidFormat start end)) (Era positive (record { 0 = end }))
 
 -- BC or BCE at a place, or no era
 unfoldable pub negativeEra : List ℕ → ℕ → ReadEra
@@ -80,7 +80,7 @@ withEra s idx sign n (Era positive c) =
 withEra s idx sign n (NoEra c) = ended s idx (c .0) (signed sign n)
 withEra s idx sign n (BadEra e) = NoYear e
 
--- behind the digits
+-- behind the digits an era may stand, and decides what the digits mean
 unfoldable pub behindDigits : List ℕ → ℕ → ℕ → Sign → ℕ → ReadYear
 behindDigits s idx at sign n = withEra s idx sign n (parseEraMarker s at)
 
@@ -110,6 +110,6 @@ yearAt s idx =
     onPast (eatIf (Is 0x2D) s idx) (λ c. behindSign s idx c Minus)
     (onPast (eatIf (Is 0x2B) s idx) (λ c. behindSign s idx c Plus) (behindSign s idx idx NoSign))
 
--- the year of a year field
+-- the year of a year field: not windowed, 49 is 49. A refused year's place starts behind the white space at the front
 unfoldable pub getYear : List ℕ → ReadYear
 getYear s = yearAt s (eatWhile Whitespace s 0)

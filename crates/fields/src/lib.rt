@@ -97,7 +97,7 @@ fn before_christ(n: u32) -> i32
 fn era_end(s: &[u8], start: Cursor, c: Cursor, positive: bool) -> ReadEra
     ensures { λ r. ⌜ r ≡ spec.eraEnd (now (s .entry)) (start .0) positive (c .0) ⌝ }
 {
-    if scanner::peek(s, c, Class::Alphanumeric) {
+    if scanner::at(s, c, Class::Alphanumeric) {
         return ReadEra::BadEra(refuse_text(Kind::InvalidFormat, start, c));
     }
     ReadEra::Era { positive, next: c }
@@ -245,7 +245,7 @@ fn is_day(d: u32) -> bool
     1 <= d && d <= 31
 }
 
-// The digits of a day from a cursor to another, as a day.
+// The Rust reads the digits as a `u8`, and panics at more than 255.
 fn day_digits(s: &[u8], start: Cursor, c: Cursor) -> ReadDay
     ensures { λ r. ⌜ r ≡ days.dayDigits (now (s .entry)) (start .0) (c .0) ⌝ }
 {

@@ -37,7 +37,7 @@ unfoldable pub monthIn : List Word → List ℕ → OptionMonth
 monthIn [] t = NoMonth
 monthIn (w ∷ ws) t = pick (sameLetters (ascii (w .word)) t) (stored (w .says)) (monthIn ws t)
 
--- the names
+-- the names, in full and English alone
 abbrev pub names : List Word
 names =
     record { word = "january"; says = 0 }
@@ -74,11 +74,11 @@ abbreviations =
     ∷ record { word = "dec"; says = 11 }
     ∷ []
 
--- the month of a name
+-- a name in full: a part of one is no name
 unfoldable pub getMonthForName : List ℕ → OptionMonth
 getMonthForName t = monthIn names t
 
--- the month of an abbreviation
+-- an abbreviation without a full stop
 unfoldable pub getMonthForAbbr : List ℕ → OptionMonth
 getMonthForAbbr t = monthIn abbreviations t
 

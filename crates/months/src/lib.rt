@@ -80,7 +80,7 @@ pub fn get_month_for_abbr(t: &[u8]) -> OptionMonth
     }
 }
 
-// The month of a name.
+// The month that a name in full says, in either case.
 pub fn get_month_for_name(t: &[u8]) -> OptionMonth
     ensures { λ r. ⌜ r ≡ names.getMonthForName (now (t .entry)) ⌝ }
 {

@@ -15,7 +15,7 @@ use Rattle.chars.specs.Ascii.{digitOf}
 use Rattle.chars.proofs.Cases.{by-test}
 use Rattle.scanner.specs.declared.Class.the-variants.{Whitespace, Numeric, Is}
 use Rattle.scanner.specs.declared.Cursor.{Cursor}
-use Rattle.scanner.specs.Scan.{eatWhile, peekAt, part}
+use Rattle.scanner.specs.Scan.{eatWhile, standsAt, part}
 use Rattle.numbers.specs.Number.{admits, cursor, valueOf, runOf, runAt, parseUnsignedInt, behindSign, signed, withSign, intAt, parseInt}
 use Rattle.numbers.specs.declared.Digits.{Digits}
 use Rattle.numbers.specs.declared.Digits.the-variants.{OneOrTwo, Two, Four}
@@ -118,7 +118,7 @@ pub int-in : (s : List ℕ) (at : ℕ) (g : Digits) → IntIn (10 ^ most g) (par
 unfolding parseInt intAt
 int-in s at g =
     let a = eatWhile Whitespace s at in
-    signed-in (10 ^ most g) (peekAt (Is 0x2D) s a) (unsigned-below s (behindSign s a) g)
+    signed-in (10 ^ most g) (standsAt (Is 0x2D) s a) (unsigned-below s (behindSign s a) g)
 
 pub int-below : (s : List ℕ) (at : ℕ) (g : Digits) {z : ℤ} {c : Cursor} → parseInt s at g ≡ Int z c → natAbs z < 10 ^ most g
 int-below s at g e = of-int (subst (IntIn (10 ^ most g)) e (int-in s at g))

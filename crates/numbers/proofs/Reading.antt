@@ -18,7 +18,7 @@ use Rattle.scanner.specs.declared.Class.the-variants.{Whitespace, Numeric, Sign
 use Rattle.scanner.specs.declared.Cursor.{Cursor}
 use Rattle.scanner.specs.declared.EatIf.the-variants.{Past, Kept}
 use Rattle.scanner.specs.Class.{inClass}
-use Rattle.scanner.specs.Scan.{matchLen, eatWhile, eatIf, peekAt, part}
+use Rattle.scanner.specs.Scan.{matchLen, eatWhile, eatIf, standsAt, part}
 use Rattle.scanner.proofs.Front.{From, front-rest, front-match, front-go, front-stop, front-end}
 use Rattle.scanner.proofs.Laws.{not-white}
 use Rattle.numbers.specs.Number.{admits, cursor, valueOf, runOf, runAt, parseUnsignedInt, orKept, behindSign, signed, withSign, intAt, parseInt}
@@ -125,12 +125,12 @@ module _ {s t : List ℕ} {i c : ℕ} (f : From s i (c ∷ t)) (k : Class) (l : 
   unfolding eatIf pick
   front-kept y = let m : matchLen k s i ≡ 0 = rw y at (front-match f k l) in rw m
 
-  pub front-seen : inClass k c ≡ true → peekAt k s i ≡ true
-  unfolding peekAt pick
+  pub front-seen : inClass k c ≡ true → standsAt k s i ≡ true
+  unfolding standsAt pick
   front-seen y = let m : matchLen k s i ≡ 1 = rw y at (front-match f k l) in rw m
 
-  pub front-unseen : inClass k c ≡ false → peekAt k s i ≡ false
-  unfolding peekAt pick
+  pub front-unseen : inClass k c ≡ false → standsAt k s i ≡ false
+  unfolding standsAt pick
   front-unseen y = let m : matchLen k s i ≡ 0 = rw y at (front-match f k l) in rw m
 
 -- a digit at the front: no white space, no sign
@@ -142,7 +142,7 @@ module _ {s t : List ℕ} {i d : ℕ} (h : d < 10) (f : From s i ((48 + d) ∷ t
   unfolding behindSign orKept
   behind-none = rw (front-kept f Sign (omega arith) (digit-sign d h))
 
-  no-minus : peekAt (Is 0x2D) s i ≡ false
+  no-minus : standsAt (Is 0x2D) s i ≡ false
   no-minus = front-unseen f (Is 0x2D) (omega arith) (digit-hyphen d h)
 
 module _ {s t : List ℕ} {i : ℕ} (f : From s i (0x2D ∷ t)) where
@@ -150,7 +150,7 @@ module _ {s t : List ℕ} {i : ℕ} (f : From s i (0x2D ∷ t)) where
   unfolding behindSign orKept
   behind-minus = rw (front-ate f Sign (lit< tt) hyphen-sign)
 
-  a-minus : peekAt (Is 0x2D) s i ≡ true
+  a-minus : standsAt (Is 0x2D) s i ≡ true
   a-minus = front-seen f (Is 0x2D) (lit< tt) hyphen-hyphen
 
 -- a number of digits, where white space may stand before it

@@ -11,7 +11,7 @@ use Rattle.scanner.specs.declared.Class.the-variants.{Whitespace, Numeric, Sign
 use Rattle.scanner.specs.declared.Cursor.{Cursor}
 use Rattle.scanner.specs.declared.EatIf.{EatIf}
 use Rattle.scanner.specs.declared.EatIf.the-variants.{Past, Kept}
-use Rattle.scanner.specs.Scan.{eatWhile, eatIf, peekAt, part}
+use Rattle.scanner.specs.Scan.{eatWhile, eatIf, standsAt, part}
 use Rattle.numbers.specs.declared.Digits.{Digits}
 use Rattle.numbers.specs.declared.Digits.the-variants.{OneOrTwo, Two, Four}
 use Rattle.numbers.specs.declared.Parsed.{Parsed}
@@ -25,7 +25,7 @@ admits OneOrTwo n = eqb n 1 || eqb n 2
 admits Two n = eqb n 2
 admits Four n = eqb n 4
 
--- a place as a cursor
+-- a place as the code has it
 abbrev pub cursor : ℕ → Cursor
 cursor at = record { 0 = at }
 
@@ -68,7 +68,7 @@ withSign negative Panics = IntPanics
 
 -- a sign at a place or none, white space, a run
 unfoldable pub intAt : List ℕ → ℕ → Digits → ReadInt
-intAt s at digits = withSign (peekAt (Is 0x2D) s at) (parseUnsignedInt s (behindSign s at) digits)
+intAt s at digits = withSign (standsAt (Is 0x2D) s at) (parseUnsignedInt s (behindSign s at) digits)
 
 -- white space, then such a number
 unfoldable pub parseInt : List ℕ → ℕ → Digits → ReadInt

@@ -102,7 +102,7 @@ pub fn parse_int(s: &[u8], c: Cursor, digits: Digits) -> ReadInt
     ensures { λ r. ⌜ r ≡ spec.parseInt (now (s .entry)) (c .0) digits ⌝ }
 {
     let a = scanner::eat_whitespace(s, c);
-    let negative = scanner::peek(s, a, Class::Is(0x2D));
+    let negative = scanner::at(s, a, Class::Is(0x2D));
     let b = eat_sign(s, a);
     match parse_unsigned_int(s, b, digits) {
         Parsed::Number { value, next } => ReadInt::Int {

@@ -18,7 +18,7 @@ use Rattle.dates.specs.Time.{utcSeconds}
 use Rattle.order.specs.declared.Order.{Order}
 use Rattle.order.specs.declared.Order.the-variants.{Less, Equal, Greater, None}
 
--- two numbers
+-- two numbers are never without an order
 unfoldable pub number : ℤ → ℤ → Order
 number a b = pick (ltZ a b) Less (pick (ltZ b a) Greater Equal)
 
@@ -62,7 +62,7 @@ alike (SomeOffset p) (SomeOffset q) = true
 unfoldable pub timeOrder : Time → Time → Order
 timeOrder s t = pick (alike (s .offset) (t .offset)) (number (utcSeconds s) (utcSeconds t)) None
 
--- from the times on
+-- from the times on, which come last
 unfoldable pub fromTime : Datetime → Datetime → Order
 fromTime a b = both (timeOf (a .time)) (timeOf (b .time)) timeOrder
 

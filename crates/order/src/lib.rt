@@ -18,7 +18,7 @@ pub enum Order {
     None,
 }
 
-// Two numbers.
+// Two numbers are never without an order.
 fn cmp(a: i64, b: i64) -> Order
     ensures { λ r. ⌜ r ≡ spec.number a b ⌝ }
 {
@@ -31,7 +31,7 @@ fn cmp(a: i64, b: i64) -> Order
     Order::Equal
 }
 
-// Two years.
+// Years, negative ones too.
 fn cmp_year(a: i32, b: i32) -> Order
     ensures { λ r. ⌜ r ≡ spec.number a b ⌝ }
 {

@@ -10,7 +10,7 @@ use Rattle.chars.specs.Pick.{pick}
 use Rattle.chars.specs.Classes.{within, isWhitespace, isAsciiDigit, isNumeric}
 use Rattle.chars.specs.Utf8.{lenOf, isCont, isSurrogate, two, three, four, decode, first, decodeAt}
 use Rattle.scanner.specs.Class.{inClass}
-use Rattle.scanner.specs.Scan.{lenIn, matchLen, walk, eatWhile, eatIf, eaten, eatAt, peekAt, doneAt, part}
+use Rattle.scanner.specs.Scan.{lenIn, matchLen, walk, eatWhile, eatIf, eaten, eatAt, standsAt, doneAt, part}
 use Rattle.refusals.specs.Offset.{textRefusal}
 use Rattle.refusals.specs.declared.Kind.{Kind}
 use Rattle.refusals.specs.declared.Kind.the-variants.{InvalidFormat, MonthOutOfRange, DayOutOfRange, InvalidNumber, RustPanics}
@@ -83,5 +83,5 @@ table =
     ∷ []
 
 pub examples : map (λ (e : Example). point (e .text)) table ≡ map (λ (e : Example). e .says) table
-unfolding pick within isWhitespace isAsciiDigit isNumeric lenOf isCont isSurrogate two three four decode first decodeAt inClass lenIn matchLen walk eatWhile eatIf eaten eatAt peekAt doneAt part admits digitOf valueOf runOf runAt parseUnsignedInt orKept behindSign signed withSign intAt parseInt multiple leapYear february monthLengths monthLength stored partAt monthAt dayAt hourAt sixtyAt hyphenOr hyphenFrom hyphenAt colonOr colonFrom colonAt onPart onSeparator orEnd shiftAt offsetBy offsetFrom offsetAt withOffset behindSecond behindMinute behindHour timeAt windowed windowedInt shortYear longOf longYear shortOr yearAt onYear withTime timeOr behindDay behindMonth behindYear point
+unfolding pick within isWhitespace isAsciiDigit isNumeric lenOf isCont isSurrogate two three four decode first decodeAt inClass lenIn matchLen walk eatWhile eatIf eaten eatAt standsAt doneAt part admits digitOf valueOf runOf runAt parseUnsignedInt orKept behindSign signed withSign intAt parseInt multiple leapYear february monthLengths monthLength stored partAt monthAt dayAt hourAt sixtyAt hyphenOr hyphenFrom hyphenAt colonOr colonFrom colonAt onPart onSeparator orEnd shiftAt offsetBy offsetFrom offsetAt withOffset behindSecond behindMinute behindHour timeAt windowed windowedInt shortYear longOf longYear shortOr yearAt onYear withTime timeOr behindDay behindMonth behindYear point
 examples = refl

@@ -36,7 +36,7 @@ use Rattle.points.specs.Time.{timeAt}
 unfoldable pub windowed : ℤ → ℤ
 windowed y = pick (ltZ y (pos 50)) (y +ℤ pos 2000) (y +ℤ pos 1900)
 
--- what was read, windowed
+-- the window comes behind the sign: it is the signed year that is below 50 or not
 unfoldable pub windowedInt : ReadInt → ReadInt
 windowedInt (Int y c) = Int (windowed y) c
 windowedInt (NoInt c) = NoInt c
@@ -101,6 +101,6 @@ behindYear s at y =
     onPart Refused (monthAt s b) λ m next.
     behindMonth s next y (record { 0 = m })
 
--- a point
+-- a point: each part may be the last one, and every place counts from the text's start
 unfoldable pub point : List ℕ → ReadPoint
 point s = onYear (yearAt s 0) λ y next. behindYear s next y

@@ -80,7 +80,7 @@ unfoldable pub onPart : {A : Type 0} → (TextRefusal → A) → ReadPart → (�
 onPart refuse (Stored v c) go = go v (c .0)
 onPart refuse (NoPart e) go = refuse e
 
--- on behind the separator, or its refusal
+-- on behind the separator, or its refusal, which is finished: nobody computes its place again
 unfoldable pub onSeparator : {A : Type 0} → (TextRefusal → A) → ReadSeparator → (ℕ → A) → A
 onSeparator refuse (Passed c) go = go (c .0)
 onSeparator refuse (Missing e) go = refuse e

@@ -16,7 +16,7 @@ use Rattle.chunks.specs.Answer.{textOf, roomOf, answer, stored}
 use Rattle.chunks.proofs.Answers.{Given, given, not-given, room-is, raised-text, plain-as-is}
 use Rattle.chunks.proofs.Room.{room-bound}
 use Rattle.datefield.specs.declared.ReadDate.the-variants.{Refused}
-use Rattle.datefield.specs.Value.{dateText}
+use Rattle.datefield.specs.Value.{parseText}
 use Rattle.strict.specs.Matcher.{strict}
 use Rattle.reader.specs.Field.{onClean, parsed, strictly, parsedStrict}
 
@@ -37,7 +37,7 @@ module _ (u : Bool) (b table buf : List ℕ) {r : Formatted} {last : List ℕ} (
   is-fault t h = not-given u b table buf (sym t ∙ e) h
 
 module _ (b table : List ℕ) where
-  pub parsed-clean : checked b table ≡ Clean → {t : List ℕ} → t ≡ textOf true b table → dateText (spanOf (chunksOf table)) t ≡ parsed b table
+  pub parsed-clean : checked b table ≡ Clean → {t : List ℕ} → t ≡ textOf true b table → parseText (spanOf (chunksOf table)) t ≡ parsed b table
   unfolding parsed onClean
   parsed-clean c e = rw (c, e, raised-text b table {u = true} refl)
 

@@ -11,7 +11,7 @@ use Rattle.chunks.specs.Format.{formatted}
 use Rattle.chunks.specs.Upper.{uppercase}
 use Rattle.datefield.specs.declared.ReadDate.{ReadDate}
 use Rattle.datefield.specs.declared.ReadDate.the-variants.{Accepted, Refused}
-use Rattle.datefield.specs.Value.{dateText}
+use Rattle.datefield.specs.Value.{parseText}
 use Rattle.strict.specs.declared.Matched.{Matched}
 use Rattle.strict.specs.declared.Matched.the-variants.{Strict, NotStrict as NoMatch}
 use Rattle.strict.specs.Matcher.{strict}
@@ -23,7 +23,7 @@ onClean (Faulty e) read = Refused e
 
 -- the ported reader: the formatted text in upper case
 unfoldable pub parsed : List ℕ → List ℕ → ReadDate
-parsed b table = onClean (checked b table) (dateText (spanOf (chunksOf table)) (uppercase (formatted b table)))
+parsed b table = onClean (checked b table) (parseText (spanOf (chunksOf table)) (uppercase (formatted b table)))
 
 -- what the strict matcher says: a text that is not of the grammar is refused, with no place
 unfoldable pub strictly : Matched → ReadDate

@@ -50,7 +50,7 @@ unfoldable pub movedYear : FileSpan → ReadYear → FieldYear
 movedYear span (Year y) = YearIs y
 movedYear span (NoYear e) = NoFieldYear (offset e (span .0))
 
--- the year list
+-- the year list is formatted and not in upper case, so "bc" is no era
 unfoldable pub yearOf : List ℕ → List ℕ → FieldYear
 yearOf b table = movedYear (spanOf (chunksOf table)) (getYear (formatted b table))
 
@@ -72,12 +72,12 @@ monthText s = onMonth (monthField s) λ m c. insideDay m (dayInMonthField s c)
 unfoldable pub monthAlone : List ℕ → List ℕ → Parts
 monthAlone b table = monthText (formatted b table)
 
--- the day field beside a month
+-- the day field beside a month, which need not have that day
 unfoldable pub fieldDay : OptionMonth → ReadDayField → Parts
 fieldDay m (Given d) = PartsAre m (SomeDay d)
 fieldDay m (NotGiven e) = NoParts e
 
--- the month list and the day list
+-- with a day list nobody looks for a day in the month list
 unfoldable pub monthAndDay : List ℕ → List ℕ → List ℕ → List ℕ → Parts
 monthAndDay b table day dayTable =
     onMonth (monthField (formatted b table)) λ m _. fieldDay m (dayField (formatted day dayTable) (spanOf (chunksOf dayTable)))
@@ -87,7 +87,7 @@ unfoldable pub partsOf : Bool → List ℕ → List ℕ → Bool → List ℕ �
 partsOf hasMonth month monthTable hasDay day dayTable =
     pick hasMonth (pick hasDay (monthAndDay month monthTable day dayTable) (monthAlone month monthTable)) (PartsAre NoMonth NoDay)
 
--- the date of a year and its parts
+-- three fields have no time and no mark
 unfoldable pub dated : ℤ → Parts → ReadDate
 dated y (PartsAre m d) = Accepted (fromDatetime (datetime y m d NoTime))
 dated y (NoParts e) = Refused e
@@ -102,7 +102,7 @@ unfoldable pub readFields : List ℕ → List ℕ → Bool → List ℕ → List
 readFields year yearTable hasMonth month monthTable hasDay day dayTable =
     onYear (yearOf year yearTable) λ y. dated y (partsOf hasMonth month monthTable hasDay day dayTable)
 
--- three lists
+-- three lists: a fault in any of them comes before what is read of the first
 unfoldable pub threeFields : List ℕ → List ℕ → Bool → List ℕ → List ℕ → Bool → List ℕ → List ℕ → ReadDate
 threeFields year yearTable hasMonth month monthTable hasDay day dayTable =
     onClean (fieldsChecked (checked year yearTable) hasMonth (checked month monthTable) hasDay (checked day dayTable))

@@ -266,7 +266,7 @@ fn parts_of(
     Parts::PartsAre(OptionMonth::NoMonth, OptionDay::NoDay)
 }
 
-// The date of a year and its parts.
+// Three fields have no time and no mark.
 fn dated(year: i32, parts: Parts) -> ReadDate
     ensures { λ r. ⌜ r ≡ fieldset.dated year parts ⌝ }
 {

@@ -15,13 +15,13 @@ pub enum Kind {
     MonthOutOfRange,
     // What stands there is no number, or not in its range.
     InvalidNumber,
-    // A number is missing.
+    // Where a number must stand there is none: behind a separator, or in an empty day field.
     MissingNumber,
-    // A number has the wrong number of digits.
+    // Too few digits, or too many.
     WrongNumberOfDigits,
     // The text is none of the forms that are read.
     InvalidFormat,
-    // A year zero with an era.
+    // No era has a year zero.
     YearZeroCE,
     // The ported code panics on this input.
     RustPanics,
@@ -76,7 +76,7 @@ pub fn panics() -> TextRefusal
     refuse_text(Kind::RustPanics, Cursor(0), Cursor(0))
 }
 
-// The number of a refusal.
+// Programs in other languages go by this number.
 pub fn number(kind: Kind) -> u8
     ensures { λ r. ⌜ r ≡ spec.number kind ⌝ }
 {

@@ -43,7 +43,7 @@ use Rattle.datefield.specs.declared.ReadValue.the-variants.{Read, NoValue}
 use Rattle.datefield.specs.declared.ReadDate.{ReadDate}
 use Rattle.datefield.specs.declared.ReadDate.the-variants.{Accepted, Refused}
 use Rattle.datefield.specs.Text.{firstOf, isOpen}
-use Rattle.datefield.specs.Value.{moved, firstHalf, secondHalf, onHalf, bothHalves, halves, xRange, value, marked, trimmedDate, dateText}
+use Rattle.datefield.specs.Value.{moved, firstHalf, secondHalf, onHalf, bothHalves, halves, xRange, value, marked, trimmedDate, parseText}
 use Rattle.reader.specs.Field.{onClean, parsed}
 use Rattle.dates.specs.Domain.{PartsIn, EndIn}
 use Rattle.roundtrip.specs.Domain.{InDomain, Untimed, ShortMonthRange, days-xx}
@@ -135,7 +135,7 @@ in-domain (Before a) h t = end-in h t
 in-domain (Between a b) h t = (end-in (h .0) (t .0), end-in (h .1) (t .1))
 
 parsed-fine : (b table : List ℕ) → Fine (parsed b table)
-unfolding parsed dateText trimmedDate
+unfolding parsed parseText trimmedDate
 parsed-fine b table = clean-fine (checked b table) (marked-fine _ _ (value-good (spanOf (chunksOf table)) _))
 
 -- an accepted text gives a Date of the domain, if it has no time, or such a range

@@ -19,7 +19,7 @@ use Rattle.points.proofs.Back.{two, two-digits, three, four, four-digits}
 use Rattle.datefield.specs.declared.ReadValue.the-variants.{Read}
 use Rattle.datefield.specs.declared.ReadDate.{ReadDate}
 use Rattle.datefield.specs.declared.ReadDate.the-variants.{Accepted}
-use Rattle.datefield.specs.Value.{moved, onHalf, value, marked, dateText}
+use Rattle.datefield.specs.Value.{moved, onHalf, value, marked, parseText}
 use Rattle.strict.specs.declared.Matched.{Matched}
 use Rattle.strict.specs.declared.Matched.the-variants.{Strict, NotStrict}
 use Rattle.strict.specs.Digits.{digits}
@@ -74,7 +74,7 @@ module _ (span : FileSpan) where
   value-read (before p) = rw (before-value span (point-text p), point-read p)
   value-read (unknown x) = unknown-value span x
 
-  text-read : {s : List ℕ} {d : Date} → Text s d → dateText span s ≡ Accepted d
+  text-read : {s : List ℕ} {d : Date} → Text s d → parseText span s ≡ Accepted d
   unfolding marked
   text-read (text v m) = text-marked span (value-text v) m ∙ rw (value-read v)
 
@@ -99,7 +99,7 @@ pub agrees : (b table : List ℕ) {d : Date} → parsedStrict b table ≡ Accept
 unfolding parsedStrict parsed
 agrees b table {d} e = clean-agrees (checked b table) same e
   where
-    same : strictly (strict (formatted b table)) ≡ Accepted d → dateText (spanOf (chunksOf table)) (uppercase (formatted b table)) ≡ Accepted d
+    same : strictly (strict (formatted b table)) ≡ Accepted d → parseText (spanOf (chunksOf table)) (uppercase (formatted b table)) ≡ Accepted d
     same a =
         let s = formatted b table in
         let t = exact s d .0 (matched-is (strict s) a) in

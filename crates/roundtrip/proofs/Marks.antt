@@ -12,7 +12,7 @@ use Rattle.chunks.specs.Answer.{textOf}
 use Rattle.chunks.proofs.Plains.{Plainly, plainly}
 use Rattle.dates.specs.declared.Date.{Date}
 use Rattle.datefield.specs.declared.ReadDate.the-variants.{Accepted}
-use Rattle.datefield.specs.Value.{value, marked, dateText as readText}
+use Rattle.datefield.specs.Value.{value, marked, parseText}
 use Rattle.reader.specs.Field.{parsed, strictly, parsedStrict}
 use Rattle.reader.proofs.Entries.{parsed-clean, strict-clean}
 use Rattle.strict.specs.Grammar.{Mark}
@@ -38,7 +38,7 @@ module _ (d : Date) (k : ValueText (valueText (d .value))) where
       let e = length-append (valueText (d .value)) (markText (d .uncertain) (d .approximate)) in
       omega (arith, k .short)
 
-  marks-read : (span : FileSpan) → readText span (dateText d) ≡ marked (d .uncertain) (d .approximate) (value span (valueText (d .value)))
+  marks-read : (span : FileSpan) → parseText span (dateText d) ≡ marked (d .uncertain) (d .approximate) (value span (valueText (d .value)))
   unfolding dateText
   marks-read span = text-marked span k mark
 

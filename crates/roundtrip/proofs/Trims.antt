@@ -13,7 +13,7 @@ use Rattle.chars.specs.Pick.{pick}
 use Rattle.refusals.specs.declared.FileSpan.{FileSpan}
 use Rattle.chunks.specs.Plain.{plainByte}
 use Rattle.datefield.specs.Text.{lastByte, isUncertain, isApproximate, unmarked}
-use Rattle.datefield.specs.Value.{value, marked, trimmedDate, dateText}
+use Rattle.datefield.specs.Value.{value, marked, trimmedDate, parseText}
 use Rattle.strict.specs.Grammar.{Mark, no-mark, uncertain, approximate, both}
 use Rattle.roundtrip.proofs.Bytes.{each-append, each-at, each-of, Clear, InValue, ValueText, low-same, value-clear, clear-trimmed}
 use Rattle.roundtrip.proofs.Bytes.Each.{none, more}
@@ -75,6 +75,6 @@ module _ (span : FileSpan) {s : List ℕ} (v : ValueText s) where
   mark-read both = one-mark 0x25 refl
 
   -- the whole text is read as its value with its mark
-  pub text-marked : {t : List ℕ} {u a : Bool} → Mark t u a → dateText span (s ++ t) ≡ marked u a (value span s)
-  unfolding dateText
+  pub text-marked : {t : List ℕ} {u a : Bool} → Mark t u a → parseText span (s ++ t) ≡ marked u a (value span s)
+  unfolding parseText
   text-marked m = ap (trimmedDate span) (clear-trimmed (text-clear v m)) ∙ mark-read m

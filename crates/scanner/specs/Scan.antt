@@ -61,8 +61,8 @@ unfoldable pub eatAt : List ℕ → ℕ → Next
 eatAt s at = eaten (decodeAt s at) at
 
 -- whether a character of the class stands at the place
-unfoldable pub peekAt : Class → List ℕ → ℕ → Bool
-peekAt k s at = not (eqb (matchLen k s at) 0)
+unfoldable pub standsAt : Class → List ℕ → ℕ → Bool
+standsAt k s at = not (eqb (matchLen k s at) 0)
 
 -- whether the place is the end of the text, or past it
 unfoldable pub doneAt : List ℕ → ℕ → Bool

@@ -12,7 +12,7 @@ use chars::wide;
 // A place in the formatted text, in bytes. It is no place in the file: only the offset rule of `refusals` makes one of it.
 pub struct Cursor(pub usize);
 
-// A class of characters.
+// What the ported code gives its scanner as a pattern: a predicate, a few characters or one.
 pub enum Class {
     Whitespace,
     // White space other than the no-break space.
@@ -193,7 +193,7 @@ pub fn eat_if(s: &[u8], c: Cursor, class: Class) -> EatIf
     EatIf::Past(Cursor(at + n))
 }
 
-// Whether the text begins with t.
+// Byte by byte: what is asked for is ASCII, and no part of a longer character is.
 fn begins(s: &[u8], t: &[u8]) -> bool
     ensures { λ r. ⌜ r ≡ spec.begins (now (t .entry)) (now (s .entry)) ⌝ }
 {
@@ -236,8 +236,8 @@ pub fn eat(s: &[u8], c: Cursor) -> Next
 }
 
 // Whether a character of the class stands at the cursor.
-pub fn peek(s: &[u8], c: Cursor, class: Class) -> bool
-    ensures { λ r. ⌜ r ≡ spec.peekAt class (now (s .entry)) (c .0) ⌝ }
+pub fn at(s: &[u8], c: Cursor, class: Class) -> bool
+    ensures { λ r. ⌜ r ≡ spec.standsAt class (now (s .entry)) (c .0) ⌝ }
 {
     match_len(s, c.0, class) != 0
 }
@@ -292,7 +292,7 @@ pub struct Scanner<'a> {
 }
 
 impl<'a> Scanner<'a> {
-    // A scanner of a text at a place.
+    // The place need not be one of the text: behind it there is nothing to eat.
     pub fn new(text: &'a [u8], at: Cursor) -> Scanner<'a>
         ensures { λ r. ⌜ (r .text ≡ text .entry) × (r .at ≡ at) ⌝ }
     {

@@ -29,6 +29,6 @@ unfoldable pub monthText : OptionMonth → OptionDay → List ℕ
 monthText NoMonth d = []
 monthText (SomeMonth m) d = partText (m .0) ++ dayText d
 
--- the text of a Datetime
+-- the text of a Datetime; its time is left out
 unfoldable pub canonical : Datetime → List ℕ
 canonical d = yearText (d .year) ++ monthText (d .month) (d .day)

@@ -63,7 +63,7 @@ counted first last o = on o NoTwo λ n. pick (leb first n && leb n last) (SomeTw
 unfoldable pub field : ℕ → ℕ → ℕ → List ℕ → OptionTwo
 field c first last s = pick (is c s 0) (counted first last (two (drop 1 s))) NoTwo
 
--- no offset at a place
+-- without an offset what follows is looked at from the same place
 abbrev pub noOffset : ℕ → ReadOffset
 noOffset at = record { offset = NoOffset; next = at }
 
@@ -80,11 +80,11 @@ offsetAt s at =
     pick (is (code "Z") s at) (record { offset = SomeOffset Utc; next = at + 1 })
     (pick (is (code "+") s at) (shiftAt s at (code "+") true) (shiftAt s at (code "-") false))
 
--- no time at a place
+-- without a time likewise
 abbrev pub noTime : ℕ → ReadTime
 noTime at = record { time = NoTime; next = at }
 
--- a time, with the offset behind it
+-- a time ends where its offset does
 abbrev pub timed : ℕ → ℕ → ℕ → ReadOffset → ReadTime
 timed h m sec o = record { time = SomeTime (record { hour = h; minute = m; second = sec; offset = o .offset }); next = o .next }
 
@@ -96,7 +96,7 @@ timeAt s at =
     on (field (code ":") 0 59 (drop (at + 6) s)) (noTime at) λ sec.
     timed h m sec (offsetAt s (at + 9))
 
--- a day, with the time behind it
+-- a point with a day ends where its time does
 abbrev pub onDay : ℤ → ℕ → ℕ → ReadTime → ReadPoint
 onDay y m d t = Upto (datetime y (month m) (day d) (t .time)) (t .next)
 
@@ -106,7 +106,7 @@ behindMonth s at y m =
     on (field (code "-") 1 (monthLength m y) (drop at s)) (Upto (datetime y (month m) NoDay NoTime) at) λ d.
     onDay y m d (timeAt s (at + 3))
 
--- behind a year: -mm
+-- behind a year: -mm, or the point ends
 unfoldable pub behindYear : List ℕ → ℕ → ℤ → ReadPoint
 behindYear s at y =
     on (field (code "-") 1 12 (drop at s)) (Upto (datetime y NoMonth NoDay NoTime) at) λ m.
@@ -121,7 +121,7 @@ signed false n = pos n
 unfoldable pub pointAt : List ℕ → ℕ → Bool → ReadPoint
 pointAt s at negative = onFour (four (drop at s)) NoPoint λ n. behindYear s (at + 4) (signed negative n)
 
--- a point at the front
+-- a point at the front, as long as it goes; what may not follow is refused by who looks at the rest
 unfoldable pub point : List ℕ → ReadPoint
 point s = pick (is (code "-") s 0) (pointAt s 1 true) (pointAt s 0 false)
 
@@ -129,7 +129,7 @@ point s = pick (is (code "-") s 0) (pointAt s 1 true) (pointAt s 0 false)
 unfoldable pub dashXX : List ℕ → Bool
 dashXX s = is (code "-") s 0 && (is (code "X") s 1 && is (code "X") s 2)
 
--- the years from one to another
+-- the years from one to another, which four characters stand for
 unfoldable pub years : ℕ → ℕ → ReadUnknown
 years first last = Within (Between (plain first NoMonth NoDay) (plain last NoMonth NoDay)) 4
 
@@ -163,7 +163,7 @@ unknown s =
 abbrev pub strictly : DateValue → Bool → Bool → Matched
 strictly v uncertain approximate = Strict (date v uncertain approximate)
 
--- the Date of a value with a mark
+-- the last character, if one is left, must be a mark
 unfoldable pub marked : DateValue → ℕ → Matched
 marked v c =
     pick (eqb c (code "?")) (strictly v true false)
@@ -208,10 +208,10 @@ unfoldable pub onUnknown : ReadUnknown → Matched → (DateValue → ℕ → Ma
 onUnknown NoUnknown none go = none
 onUnknown (Within v next) none go = go v next
 
--- the whole text
+-- the whole text: X is tried first, as no point has one
 unfoldable pub textOf : (List ℕ → ReadPoint) → List ℕ → Matched
 textOf read s = onUnknown (unknown s) (ofPoints read s) λ v next. ending v (drop next s)
 
--- the strict reader
+-- the matcher; `exact` in proofs/Exact.antt says that it accepts what the grammar derives
 unfoldable pub strict : List ℕ → Matched
 strict s = textOf point s

@@ -45,7 +45,7 @@ struct ReadOffset {
     next: usize,
 }
 
-// A time likewise.
+// A time, and the place behind it; if there is none, the place is where it would start.
 struct ReadTime {
     time: OptionTime,
     next: usize,
@@ -323,7 +323,7 @@ fn plain(n: u16, month: OptionMonth, day: OptionDay) -> Datetime
     Datetime::new(signed(false, n), month, day, OptionTime::NoTime)
 }
 
-// The years from the first to the last.
+// The years from the first to the last, which four characters stand for.
 fn years(first: u16, last: u16) -> ReadUnknown
     ensures { λ r. ⌜ r ≡ spec.years first last ⌝ }
 {
@@ -354,7 +354,7 @@ fn last_day(month: Month, n: u16) -> u8
     30
 }
 
-// All days of a month.
+// The days of a month as the ported reader has them, from the first to the 31st.
 fn days(n: u16, month: Month) -> ReadUnknown
     ensures { λ r. ⌜ r ≡ spec.days n (month .0) ⌝ }
 {
@@ -467,7 +467,7 @@ fn is_open(s: &[u8]) -> bool
     byte_at(s, 0) == b'.' && byte_at(s, 1) == b'.'
 }
 
-// Behind `../`: a point.
+// Behind `../` a point must stand: both ends open is no range.
 fn behind_open(s: &[u8]) -> Matched
     ensures { λ r. ⌜ r ≡ spec.behindOpen spec.point (now (s .entry)) ⌝ }
 {

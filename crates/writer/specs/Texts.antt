@@ -35,7 +35,7 @@ yearText y = minus y ++ decimal 4 (natAbs y)
 unfoldable pub writtenMonth : Month → WrittenMonth
 writtenMonth m = record { 0 = m .0 + 1 }
 
--- the days likewise
+-- a stored day likewise
 unfoldable pub writtenDay : Day → WrittenDay
 writtenDay d = record { 0 = d .0 + 1 }
 

@@ -66,7 +66,7 @@ fn width(least: usize, n: u32) -> usize
     w
 }
 
-// One byte.
+// One byte, and the place behind it: so each of these functions says where the next goes on.
 fn put_byte(b: u8, out: &mut [u8], at: usize) -> usize
     requires { ⌜ at + 1 ≤ length (now out) ⌝ }
     ensures { λ r. ⌜ Put (b ∷ []) (now (out .entry)) at (now (out .exit)) r ⌝ }
@@ -75,7 +75,7 @@ fn put_byte(b: u8, out: &mut [u8], at: usize) -> usize
     at + 1
 }
 
-// Bytes as they are.
+// Bytes as they are: names and signs.
 fn put_bytes(t: &[u8], out: &mut [u8], at: usize) -> usize
     requires { ⌜ at + length (now t) ≤ length (now out) ⌝ }
     ensures { λ r. ⌜ Put (now (t .entry)) (now (out .entry)) at (now (out .exit)) r ⌝ }
@@ -136,7 +136,7 @@ fn put_minus(year: i32, out: &mut [u8], at: usize) -> usize
     at
 }
 
-// A year.
+// A year has at least four digits, so that it is read back and not windowed.
 fn put_year(year: i32, out: &mut [u8], at: usize) -> usize
     requires { ⌜ at + length (text.yearText year) ≤ length (now out) ⌝ }
     ensures { λ r. ⌜ Put (text.yearText year) (now (out .entry)) at (now (out .exit)) r ⌝ }
@@ -175,7 +175,7 @@ fn written_day(d: Day) -> WrittenDay
     WrittenDay(d.0 + 1)
 }
 
-// The parts of a month and perhaps a day.
+// The day beside a month; 255 has no written number in a byte.
 fn day_parts(m: Month, day: OptionDay) -> Parts
     requires { ⌜ m .0 < 255 ⌝ }
     ensures { λ r. ⌜ r ≡ text.dayParts m day ⌝ }
@@ -220,7 +220,7 @@ fn end_panics(d: Datetime) -> bool
     }
 }
 
-// Whether it panics at one of the ends.
+// Whether it panics at one of the ends: nothing is written then, not the other end either.
 fn value_panics(v: DateValue) -> bool
     ensures { λ r. ⌜ r ≡ text.valuePanics v ⌝ }
 {
@@ -406,7 +406,7 @@ fn put_name(end: bool, name: &[u8], out: &mut [u8], at: usize) -> usize
     put_bytes(name, out, k)
 }
 
-// The line of a year.
+// Every end of a Date has this line.
 fn put_year_line(end: bool, year: i32, out: &mut [u8], at: usize) -> usize
     requires { ⌜ at + length (field.line end (ascii "year=") (text.yearText year)) ≤ length (now out) ⌝ }
     ensures { λ r. ⌜ Put (field.line end (ascii "year=") (text.yearText year)) (now (out .entry)) at (now (out .exit)) r ⌝ }
@@ -442,7 +442,7 @@ fn put_part_lines(end: bool, p: Parts, out: &mut [u8], at: usize) -> usize
     }
 }
 
-// The lines of a Datetime.
+// The lines of one end of a Date; a day without a month has none.
 fn put_end_lines(end: bool, d: Datetime, out: &mut [u8], at: usize) -> usize
     requires { ⌜ at + length (field.endLines end d) ≤ length (now out) ⌝ }
     ensures { λ r. ⌜ Put (field.endLines end d) (now (out .entry)) at (now (out .exit)) r ⌝ }

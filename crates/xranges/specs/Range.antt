@@ -71,7 +71,7 @@ secondAt s at year =
     pick (doneAt s at) (months year)
     (onHyphen (getHyphen s at) λ c. secondRun c (eatWhile (Is 0x58) s c) year)
 
--- behind XX for the months
+-- behind XX for the months white space may stand
 unfoldable pub behindMonths : List ℕ → ℕ → ℕ → ReadRange
 behindMonths s at year = secondAt s (eatWhile Whitespace s at) year
 
@@ -97,7 +97,7 @@ monthRun s start end year =
     (behindMonth s end year (written - 1))))
     (NoRange (textRefusal WrongNumberOfDigits start end))
 
--- a month at a place
+-- a month takes all digits that stand there: a third one is refused
 unfoldable pub month : List ℕ → ℕ → ℕ → ReadRange
 month s start year = monthRun s start (eatWhile AsciiDigit s start) year
 

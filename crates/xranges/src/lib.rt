@@ -79,7 +79,7 @@ fn variable(sure: usize) -> u32
     }
 }
 
-// The years that begin with the digits.
+// The years that begin with the digits: a century or a decade.
 fn years(digits: u32, variable: u32) -> ReadRange
     requires { ⌜ (digits < 10000) × ((variable < 10001) × (0 < variable)) ⌝ }
     ensures { λ r. ⌜ r ≡ spec.years digits variable ⌝ }

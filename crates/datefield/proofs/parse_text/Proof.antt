@@ -3,7 +3,7 @@ use lib.Seq.{length-take-le}
 use native.Mathlib.Omega.{arith}
 use mathlib.Core.Path.{sym}
 use Rattle.datefield.specs.Text.{trimmed}
-use Rattle.datefield.specs.Value.{dateText}
+use Rattle.datefield.specs.Value.{parseText}
 use borrow.Author.Needs.{needs}
 use Rattle.datefield.proofs.parse_text.Statement.{statement}
 use Rattle.datefield.proofs.parse_text.Tie as tie
@@ -18,7 +18,7 @@ read-trimmed-requires : tie.Need-read-trimmed-requires
 read-trimmed-requires c κs = search needs
 
 returns : tie.Need-returns
-unfolding dateText trimmed
+unfolding parseText trimmed
 returns c =
     let b2 = c .before .before in
     simp (← b2 .trim-end .ensures, ← c .read-trimmed .ensures)

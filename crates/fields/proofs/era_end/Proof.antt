@@ -4,8 +4,8 @@ use borrow.Author.Needs.{needs}
 use Rattle.fields.proofs.era_end.Statement.{statement}
 use Rattle.fields.proofs.era_end.Tie as tie
 
-peek-requires : tie.Need-peek-requires
-peek-requires c κs = search needs
+at-requires : tie.Need-at-requires
+at-requires c κs = search needs
 
 refuse-text-requires : tie.Need-refuse-text-requires
 refuse-text-requires c κs = search needs
@@ -15,13 +15,13 @@ unfolding eraEnd pick
 returns c =
     let b1 = c .before in
     let b2 = b1 .before in
-    simp (← b2 .peek .ensures, b1 .if1 .taken, ← c .refuse-text .ensures)
+    simp (← b2 .at .ensures, b1 .if1 .taken, ← c .refuse-text .ensures)
 
 returns-2 : tie.Need-returns-2
 unfolding eraEnd pick
 returns-2 c =
     let b1 = c .before in
-    simp (← b1 .peek .ensures, c .if1 .left)
+    simp (← b1 .at .ensures, c .if1 .left)
 
 pub era-end-spec : {M : Type 1} → statement M
-era-end-spec = tie.close (tie.spec peek-requires refuse-text-requires returns returns-2)
+era-end-spec = tie.close (tie.spec at-requires refuse-text-requires returns returns-2)

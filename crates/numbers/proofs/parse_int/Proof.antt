@@ -11,8 +11,8 @@ use Rattle.numbers.proofs.parse_int.Tie as tie
 eat-whitespace-requires : tie.Need-eat-whitespace-requires
 eat-whitespace-requires c κs = search needs
 
-peek-requires : tie.Need-peek-requires
-peek-requires c κs = search needs
+at-requires : tie.Need-at-requires
+at-requires c κs = search needs
 
 eat-sign-requires : tie.Need-eat-sign-requires
 eat-sign-requires c κs = search needs
@@ -43,7 +43,7 @@ returns c =
     let b5 = b4 .before in
     let b6 = b5 .before in
     let b7 = b6 .before in
-    simp (← b7 .eat-whitespace .ensures, ← b6 .peek .ensures, ← b5 .eat-sign .ensures, ← b4 .parse-unsigned-int .ensures, b2 .value .given .1, ← c .signed .ensures, toZ-ofZ w32 (c .signed .result) (record { sfits = c .signed .ok }))
+    simp (← b7 .eat-whitespace .ensures, ← b6 .at .ensures, ← b5 .eat-sign .ensures, ← b4 .parse-unsigned-int .ensures, b2 .value .given .1, ← c .signed .ensures, toZ-ofZ w32 (c .signed .result) (record { sfits = c .signed .ok }))
 
 returns-2 : tie.Need-returns-2
 unfolding parseInt intAt withSign
@@ -53,7 +53,7 @@ returns-2 c =
     let b4 = b3 .before in
     let b5 = b4 .before in
     let b6 = b5 .before in
-    simp (← b6 .eat-whitespace .ensures, ← b5 .peek .ensures, ← b4 .eat-sign .ensures, ← b3 .parse-unsigned-int .ensures, b1 .next .given .1)
+    simp (← b6 .eat-whitespace .ensures, ← b5 .at .ensures, ← b4 .eat-sign .ensures, ← b3 .parse-unsigned-int .ensures, b1 .next .given .1)
 
 returns-3 : tie.Need-returns-3
 unfolding parseInt intAt withSign
@@ -62,14 +62,14 @@ returns-3 c =
     let b3 = b2 .before in
     let b4 = b3 .before in
     let b5 = b4 .before in
-    simp (← b5 .eat-whitespace .ensures, ← b4 .peek .ensures, ← b3 .eat-sign .ensures, ← b2 .parse-unsigned-int .ensures, c .enum-told .given .1)
+    simp (← b5 .eat-whitespace .ensures, ← b4 .at .ensures, ← b3 .eat-sign .ensures, ← b2 .parse-unsigned-int .ensures, c .enum-told .given .1)
 
 pub parse-int-spec : {M : Type 1} → statement M
 parse-int-spec =
     tie.close
     (tie.spec
     eat-whitespace-requires
-    peek-requires
+    at-requires
     eat-sign-requires
     parse-unsigned-int-requires
     enum-known-value
