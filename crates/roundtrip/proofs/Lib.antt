@@ -13,3 +13,4 @@ pub mod Three
 pub mod Accepted
 pub mod Unknown
 pub mod Agrees
+pub mod Theorems

@@ -1,6 +1,6 @@
 -- A written text behind formatting, trimming and its mark: nothing is lost and nothing is added.
 -- Assumes nothing.
-use mathlib.Core.Path.{_≡_, refl, sym, ap, _∙_}
+use mathlib.Core.Path.{_≡_, refl, sym, _∙_}
 use mathlib.Core.Bool.{Bool, true, false}
 use Prim.Native.Nat.{ℕ, _≤_}
 use native.Mathlib.Omega.{arith}
@@ -11,17 +11,15 @@ use Rattle.chunks.specs.Chunks.{chunksOf, lastEnd, spanOf}
 use Rattle.chunks.specs.Answer.{textOf}
 use Rattle.chunks.proofs.Plains.{Plainly, plainly}
 use Rattle.dates.specs.declared.Date.{Date}
-use Rattle.datefield.specs.declared.ReadDate.the-variants.{Accepted}
 use Rattle.datefield.specs.Value.{value, marked, parseText}
-use Rattle.reader.specs.Field.{parsed, strictly, parsedStrict}
-use Rattle.reader.proofs.Entries.{parsed-clean, strict-clean}
+use Rattle.reader.specs.Field.{parsed}
+use Rattle.reader.proofs.Entries.{parsed-clean}
 use Rattle.strict.specs.Grammar.{Mark}
 use Rattle.writer.specs.Texts.{valueText, markText, dateText}
-use Rattle.roundtrip.specs.Domain.{InDomain, oneChunk}
+use Rattle.roundtrip.specs.Domain.{oneChunk}
 use Rattle.roundtrip.proofs.Bytes.{Clear, ValueText, clear-text, clear-ascii}
 use Rattle.roundtrip.proofs.Trims.{mark-short, text-clear, text-marked}
-use Rattle.roundtrip.proofs.Whole.{value-back, known}
-use Rattle.roundtrip.proofs.Derived.{mark-derived, matched}
+use Rattle.roundtrip.proofs.Derived.{mark-derived}
 
 module _ (d : Date) (k : ValueText (valueText (d .value))) where
   mark : Mark (markText (d .uncertain) (d .approximate)) (d .uncertain) (d .approximate)
@@ -42,12 +40,14 @@ module _ (d : Date) (k : ValueText (valueText (d .value))) where
   unfolding dateText
   marks-read span = text-marked span k mark
 
-  plain-list : (start end : ℕ) → Plainly (dateText d) (oneChunk (dateText d) start end)
+  -- such a list is a plain one
+  pub plain-list : (start end : ℕ) → Plainly (dateText d) (oneChunk (dateText d) start end)
   plain-list start end =
       let b = dateText d in
       plainly b (oneChunk b start end) (record { four = refl; normal-kind = refl; whole = refl; small = text-short; ascii = clear-ascii clear })
 
-  same-text : (u : Bool) (start end : ℕ) → dateText d ≡ textOf u (dateText d) (oneChunk (dateText d) start end)
+  -- and its formatted text is its bytes, in upper case or not
+  pub same-text : (u : Bool) (start end : ℕ) → dateText d ≡ textOf u (dateText d) (oneChunk (dateText d) start end)
   same-text u start end = sym (plain-list start end .text u ∙ clear-text u false clear)
 
   -- the written text, read, is what the text without its mark is read as, with that mark
@@ -57,18 +57,3 @@ module _ (d : Date) (k : ValueText (valueText (d .value))) where
       let b = dateText d in
       let t = oneChunk b start end in
       sym (parsed-clean b t (plain-list start end .clean) (same-text true start end)) ∙ marks-read (fileSpan start end)
-
-module _ (d : Date) (w : InDomain (d .value)) where
-  -- the written text of such a Date, read by the ported reader, gives the same Date, its kind and its marks included
-  pub date-back : (start end : ℕ) → parsed (dateText d) (oneChunk (dateText d) start end) ≡ Accepted d
-  unfolding marked
-  date-back start end = parsed-marked d (known (d .value) w) start end ∙ rw (value-back (fileSpan start end) (d .value) w)
-
-  -- and so does the strict reader
-  pub strict-back : (start end : ℕ) → parsedStrict (dateText d) (oneChunk (dateText d) start end) ≡ Accepted d
-  unfolding strictly
-  strict-back start end =
-      let b = dateText d in
-      let t = oneChunk b start end in
-      let k = known (d .value) w in
-      sym (strict-clean b t (plain-list d k start end .clean) (same-text d k false start end)) ∙ ap strictly (matched d w)
