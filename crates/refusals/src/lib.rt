@@ -100,28 +100,15 @@ pub fn number(kind: Kind) -> u8
     }
 }
 
-// Whether a refusal names a place.
+// Whether a refusal names a place: 9 and 12 to 16 name none.
 pub fn has_place(kind: Kind) -> bool
     ensures { λ r. ⌜ r ≡ spec.hasPlace kind ⌝ }
 {
-    match kind {
-        Kind::UndefinedRange => true,
-        Kind::DayOutOfRange => true,
-        Kind::MonthOutOfRange => true,
-        Kind::InvalidNumber => true,
-        Kind::MissingNumber => true,
-        Kind::WrongNumberOfDigits => true,
-        Kind::InvalidFormat => true,
-        Kind::YearZeroCE => true,
-        Kind::RustPanics => false,
-        Kind::BadUtf8 => true,
-        Kind::UnsupportedChar => true,
-        Kind::NotStrict => false,
-        Kind::NoRoom => false,
-        Kind::BadFrame => false,
-        Kind::BadChunks => false,
-        Kind::TooLong => false,
+    let n = number(kind);
+    if n == 9 {
+        return false;
     }
+    n < 12
 }
 
 // The refusal of a kind at a place in the file; a kind that names none has 0, 0.
