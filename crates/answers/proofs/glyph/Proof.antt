@@ -1,7 +1,7 @@
+use native.Mathlib.Omega.{arith}
 use Rattle.answers.specs.Answer.{glyph}
 use Rattle.chars.specs.Pick.{pick}
 use borrow.Author.Tests.{lt-ltb, le-ltb, le-leb, lt-leb, eq-eqb, ne-eqb}
-use borrow.Author.Needs.{needs}
 use Rattle.answers.proofs.glyph.Statement.{statement}
 use Rattle.answers.proofs.glyph.Tie as tie
 use Rattle.answers.proofs.glyph.Reads as reads
@@ -9,7 +9,7 @@ use Rattle.answers.proofs.glyph.Lts as lts
 
 -- src/lib.rt:130:16
 add-result : tie.Need-add-result
-add-result c = search needs
+add-result c = omega arith
 
 -- src/lib.rt:130:9
 returns : tie.Need-returns
@@ -18,7 +18,7 @@ returns c = simp (lt-ltb _ _ (c .if1 .taken))
 
 -- src/lib.rt:132:5
 add-result-2 : tie.Need-add-result-2
-add-result-2 c = search needs
+add-result-2 c = omega arith
 
 -- src/lib.rt:125:1
 returns-2 : tie.Need-returns-2

@@ -37,11 +37,11 @@ high-requires c κs = search needs
 
 -- src/lib.rt:163:18
 mul-out : tie.Need-mul-out Inv-loop μ-loop
-mul-out c = search needs
+mul-out c = omega arith
 
 -- src/lib.rt:163:13
 add-out : tie.Need-add-out Inv-loop μ-loop
-add-out c = search needs
+add-out c = omega arith
 
 -- src/lib.rt:163:9
 slice-write-out : tie.Need-slice-write-out Inv-loop μ-loop
@@ -59,15 +59,15 @@ low-requires c κs = search needs
 
 -- src/lib.rt:164:18
 mul-out-2 : tie.Need-mul-out-2 Inv-loop μ-loop
-mul-out-2 c = search needs
+mul-out-2 c = omega arith
 
 -- src/lib.rt:164:13
 add-out-2 : tie.Need-add-out-2 Inv-loop μ-loop
-add-out-2 c = search needs
+add-out-2 c = omega arith
 
 -- src/lib.rt:164:13
 add-out-3 : tie.Need-add-out-3 Inv-loop μ-loop
-add-out-3 c = search needs
+add-out-3 c = omega arith
 
 -- src/lib.rt:164:9
 slice-write-out-2 : tie.Need-slice-write-out-2 Inv-loop μ-loop
@@ -77,7 +77,7 @@ slice-write-out-2 c =
 
 -- src/lib.rt:165:9
 add-i : tie.Need-add-i Inv-loop μ-loop
-add-i c = search needs
+add-i c = omega arith
 
 -- src/lib.rt:162:5
 loop-less : tie.Need-loop-less Inv-loop μ-loop

@@ -13,7 +13,7 @@ use Rattle.answers.proofs.word.Reads as word-reads
 
 -- src/lib.rt:244:27
 cast-word : tie.Need-cast-word
-cast-word c = search needs
+cast-word c = omega arith
 
 -- src/lib.rt:244:22
 word-requires : tie.Need-word-requires
@@ -29,7 +29,7 @@ put-hex-requires c κs = search needs
 
 -- src/lib.rt:245:19
 cast-word-2 : tie.Need-cast-word-2
-cast-word-2 c = search needs
+cast-word-2 c = omega arith
 
 -- src/lib.rt:245:14
 word-requires-2 : tie.Need-word-requires-2

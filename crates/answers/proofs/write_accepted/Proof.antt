@@ -19,19 +19,19 @@ ends-length-requires c κs = search needs
 
 -- src/lib.rt:297:25
 add-if1 : tie.Need-add-if1
-add-if1 c = search needs
+add-if1 c = omega arith
 
 -- src/lib.rt:297:25
 add-if1-2 : tie.Need-add-if1-2
-add-if1-2 c = search needs
+add-if1-2 c = omega arith
 
 -- src/lib.rt:297:20
 mul-if1 : tie.Need-mul-if1
-mul-if1 c = search needs
+mul-if1 c = omega arith
 
 -- src/lib.rt:297:20
 add-if1-3 : tie.Need-add-if1-3
-add-if1-3 c = search needs
+add-if1-3 c = omega arith
 
 -- src/lib.rt:298:9
 no-room-requires : tie.Need-no-room-requires

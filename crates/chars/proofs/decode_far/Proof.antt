@@ -1,3 +1,4 @@
+use native.Mathlib.Omega.{arith}
 use Rattle.chars.proofs.Laws.{inside-is, past-end}
 use mathlib.Core.Path.{sym}
 use borrow.Author.Needs.{needs}
@@ -8,19 +9,19 @@ shared-slice-read-decode : tie.Need-shared-slice-read-decode
 shared-slice-read-decode c = search needs
 
 add-byte-at : tie.Need-add-byte-at
-add-byte-at c = search needs
+add-byte-at c = omega arith
 
 byte-at-requires : tie.Need-byte-at-requires
 byte-at-requires c κs = search needs
 
 add-byte-at-2 : tie.Need-add-byte-at-2
-add-byte-at-2 c = search needs
+add-byte-at-2 c = omega arith
 
 byte-at-requires-2 : tie.Need-byte-at-requires-2
 byte-at-requires-2 c κs = search needs
 
 add-byte-at-3 : tie.Need-add-byte-at-3
-add-byte-at-3 c = search needs
+add-byte-at-3 c = omega arith
 
 byte-at-requires-3 : tie.Need-byte-at-requires-3
 byte-at-requires-3 c κs = search needs

@@ -115,7 +115,7 @@ decode-at-requires : tie.Need-decode-at-requires Inv-characters μ-characters In
 decode-at-requires c κs = search needs
 
 enum-known-code : tie.Need-enum-known-code Inv-characters μ-characters Inv-chunks μ-chunks
-enum-known-code c = search needs
+enum-known-code c = c .match .keys1
 
 is-admitted-requires :
     tie.Need-is-admitted-requires Inv-characters μ-characters Inv-chunks μ-chunks
@@ -144,7 +144,7 @@ faulty-requires : tie.Need-faulty-requires Inv-characters μ-characters Inv-chun
 faulty-requires c κs = let p = c .before .before .before in let q = turn p in omega (arith, sees p .inside, sees p .some, text-length (st q) (q .chunks-test .taken), sums (st q) (q .chunks-test .taken))
 
 enum-told : tie.Need-enum-told Inv-characters μ-characters Inv-chunks μ-chunks
-enum-told c = search needs
+enum-told c = c .match .keys2
 
 add-faulty-2 : tie.Need-add-faulty-2 Inv-characters μ-characters Inv-chunks μ-chunks
 add-faulty-2 c = let q = c .before .before .before .before .before .before in omega (arith, text-length (st q) (q .chunks-test .taken), sums (st q) (q .chunks-test .taken))
@@ -153,7 +153,7 @@ faulty-requires-2 : tie.Need-faulty-requires-2 Inv-characters μ-characters Inv-
 faulty-requires-2 c κs = let q = c .before .before .before .before .before .before in omega (arith, text-length (st q) (q .chunks-test .taken), sums (st q) (q .chunks-test .taken))
 
 enum-told-2 : tie.Need-enum-told-2 Inv-characters μ-characters Inv-chunks μ-chunks
-enum-told-2 c = search needs
+enum-told-2 c = c .match .keys3
 
 add-at : tie.Need-add-at Inv-characters μ-characters Inv-chunks μ-chunks
 add-at c = let q = c .before .before .before .before .before .before in omega (arith, sums (st q) (q .chunks-test .taken))

@@ -12,7 +12,7 @@ is-plain-requires : tie.Need-is-plain-requires
 is-plain-requires c κs = search needs
 
 add-if2 : tie.Need-add-if2
-add-if2 c = search needs
+add-if2 c = omega arith
 
 refused-requires : tie.Need-refused-requires
 refused-requires c κs = search needs

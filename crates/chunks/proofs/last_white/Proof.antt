@@ -41,7 +41,7 @@ decode-at-requires : tie.Need-decode-at-requires Inv-loop μ-loop
 decode-at-requires c κs = search needs
 
 enum-known-code : tie.Need-enum-known-code Inv-loop μ-loop
-enum-known-code c = search needs
+enum-known-code c = c .match .keys1
 
 is-whitespace-requires : tie.Need-is-whitespace-requires Inv-loop μ-loop
 is-whitespace-requires c κs = search needs
@@ -57,14 +57,14 @@ unfolding lastWhite
 loop-again c = let p = c .before .before in rw (c .is-whitespace .ensures) (rw (code-char _ _ (is-char p)) at (p .before .before .before .loop .inv))
 
 enum-told : tie.Need-enum-told Inv-loop μ-loop
-enum-told c = search needs
+enum-told c = c .match .keys2
 
 returns : tie.Need-returns Inv-loop μ-loop
 unfolding lastWhite
 returns c = rw (code-bad _ _ (sym (c .before .before .decode-at .ensures) ∙ c .enum-told .given .1)) at (c .before .before .before .loop .inv)
 
 enum-told-2 : tie.Need-enum-told-2 Inv-loop μ-loop
-enum-told-2 c = search needs
+enum-told-2 c = c .match .keys3
 
 returns-2 : tie.Need-returns-2 Inv-loop μ-loop
 unfolding lastWhite

@@ -1,12 +1,12 @@
+use native.Mathlib.Omega.{arith}
 use Rattle.chars.specs.Pick.{pick}
 use Rattle.chunks.specs.Plain.{plainByte}
 use borrow.Author.Tests.{le-leb, lt-leb}
-use borrow.Author.Needs.{needs}
 use Rattle.chunks.proofs.plain_byte.Statement.{statement}
 use Rattle.chunks.proofs.plain_byte.Tie as tie
 
 sub-result : tie.Need-sub-result
-sub-result c = search needs
+sub-result c = omega arith
 
 returns : tie.Need-returns
 unfolding plainByte pick

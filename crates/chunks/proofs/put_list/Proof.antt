@@ -53,7 +53,7 @@ unfolding formatted roomOf
 loop-holds c = record { fill = fill-start _ _ _; stands = standing-start _ _ (c .before .before .before .pre .0); room = omega (arith, c .before .before .before .pre .1) }
 
 mul-kind : tie.Need-mul-kind Inv-loop μ-loop
-mul-kind c = search needs
+mul-kind c = omega arith
 
 shared-slice-read-kind : tie.Need-shared-slice-read-kind Inv-loop μ-loop
 shared-slice-read-kind c = omega arith

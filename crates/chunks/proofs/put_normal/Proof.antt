@@ -59,7 +59,7 @@ decode-at-requires : tie.Need-decode-at-requires Inv-loop μ-loop
 decode-at-requires c κs = search needs
 
 enum-known-code : tie.Need-enum-known-code Inv-loop μ-loop
-enum-known-code c = search needs
+enum-known-code c = c .match .keys1
 
 put-one-requires : tie.Need-put-one-requires Inv-loop μ-loop
 put-one-requires c κs = let p = c .before .before in (sees p .below, omega (arith, out-short p, sees p .inside, p .before .before .before .loop .inv .2))
@@ -82,7 +82,7 @@ loop-again c =
     )
 
 enum-told : tie.Need-enum-told Inv-loop μ-loop
-enum-told c = search needs
+enum-told c = c .match .keys2
 
 same-length : tie.Need-same-length Inv-loop μ-loop
 same-length c = c .before .before .before .loop .inv .0 .long
@@ -95,7 +95,7 @@ returns c =
     (fill-end (rw e at (v .0)), rw e at (v .1), (rw e at (v .0)) .same)
 
 enum-told-2 : tie.Need-enum-told-2 Inv-loop μ-loop
-enum-told-2 c = search needs
+enum-told-2 c = c .match .keys3
 
 same-length-2 : tie.Need-same-length-2 Inv-loop μ-loop
 same-length-2 c = c .before .before .before .loop .inv .0 .long

@@ -1,3 +1,4 @@
+use native.Mathlib.Omega.{arith}
 use Rattle.chunks.proofs.Plains.{other-flag, other-out, plain-high, break-space, break-dropped, is-break-of, break-flag}
 use native.Mathlib.Nat.{add-zero}
 use mathlib.Core.Path.{sym, ap, _∙_, refl}
@@ -13,7 +14,7 @@ slice-write-buf : tie.Need-slice-write-buf
 slice-write-buf c = search needs
 
 add-t11 : tie.Need-add-t11
-add-t11 c = search needs
+add-t11 c = omega arith
 
 same-length : tie.Need-same-length
 same-length c = search needs
@@ -40,7 +41,7 @@ slice-write-buf-2 : tie.Need-slice-write-buf-2
 slice-write-buf-2 c = search needs
 
 add-t15 : tie.Need-add-t15
-add-t15 c = search needs
+add-t15 c = omega arith
 
 same-length-2 : tie.Need-same-length-2
 same-length-2 c = search needs
@@ -58,7 +59,7 @@ slice-write-buf-3 : tie.Need-slice-write-buf-3
 slice-write-buf-3 c = search needs
 
 add-t17 : tie.Need-add-t17
-add-t17 c = search needs
+add-t17 c = omega arith
 
 same-length-3 : tie.Need-same-length-3
 same-length-3 c = search needs

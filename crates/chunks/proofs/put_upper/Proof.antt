@@ -14,7 +14,7 @@ to-uppercase-requires : tie.Need-to-uppercase-requires
 to-uppercase-requires c κs = search needs
 
 enum-known-a : tie.Need-enum-known-a
-enum-known-a c = search needs
+enum-known-a c = c .match .keys1
 
 put-char-requires : tie.Need-put-char-requires
 put-char-requires c κs =
@@ -24,7 +24,7 @@ put-char-requires c κs =
     (one-below (a .code) (p .before .before .before .before .pre .0) e, omega (arith, ap length (one-out (a .code) e), p .before .before .before .before .pre .1))
 
 enum-known-a-2 : tie.Need-enum-known-a-2
-enum-known-a-2 c = search needs
+enum-known-a-2 c = c .match .keys2
 
 put-char-requires-2 : tie.Need-put-char-requires-2
 put-char-requires-2 c κs =

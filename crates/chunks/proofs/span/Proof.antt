@@ -1,10 +1,11 @@
+use native.Mathlib.Omega.{arith}
 use Rattle.chunks.proofs.Tables.{some-span, no-span}
 use borrow.Author.Needs.{needs}
 use Rattle.chunks.proofs.span.Statement.{statement}
 use Rattle.chunks.proofs.span.Tie as tie
 
 mul-n : tie.Need-mul-n
-mul-n c = search needs
+mul-n c = omega arith
 
 returns : tie.Need-returns
 returns c = no-span (c .before .args .table .now) (c .if1 .taken)
@@ -13,10 +14,10 @@ shared-slice-read-t7 : tie.Need-shared-slice-read-t7
 shared-slice-read-t7 c = search needs
 
 sub-t3 : tie.Need-sub-t3
-sub-t3 c = search needs
+sub-t3 c = omega arith
 
 mul-t4 : tie.Need-mul-t4
-mul-t4 c = search needs
+mul-t4 c = omega arith
 
 shared-slice-read-t9 : tie.Need-shared-slice-read-t9
 shared-slice-read-t9 c = search needs

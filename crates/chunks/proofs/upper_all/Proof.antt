@@ -62,7 +62,7 @@ decode-at-requires : tie.Need-decode-at-requires Inv-loop μ-loop
 decode-at-requires c κs = search needs
 
 enum-known-code : tie.Need-enum-known-code Inv-loop μ-loop
-enum-known-code c = search needs
+enum-known-code c = c .match .keys1
 
 put-upper-requires : tie.Need-put-upper-requires Inv-loop μ-loop
 put-upper-requires c κs =
@@ -87,7 +87,7 @@ loop-again c =
     }
 
 enum-told : tie.Need-enum-told Inv-loop μ-loop
-enum-told c = search needs
+enum-told c = c .match .keys2
 
 same-length : tie.Need-same-length Inv-loop μ-loop
 same-length c = c .before .before .before .before .loop .inv .fill .long
@@ -100,7 +100,7 @@ returns c =
     (rw (code-bad b0 (c .before .before .before .before .loop .i) (sym (decode-same (c .before .before .before .before .loop .buf) b0 _ _ (w .same)) ∙ sym (c .before .before .decode-at .ensures) ∙ c .enum-told .given .1)) at (w .fill)) .same
 
 enum-told-2 : tie.Need-enum-told-2 Inv-loop μ-loop
-enum-told-2 c = search needs
+enum-told-2 c = c .match .keys3
 
 same-length-2 : tie.Need-same-length-2 Inv-loop μ-loop
 same-length-2 c = c .before .before .before .before .loop .inv .fill .long

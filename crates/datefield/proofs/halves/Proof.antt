@@ -16,10 +16,10 @@ is-open-range-requires : tie.Need-is-open-range-requires
 is-open-range-requires c κs = search needs
 
 add-is-open-range : tie.Need-add-is-open-range
-add-is-open-range c = search needs
+add-is-open-range c = omega arith
 
 sub-is-open-range : tie.Need-sub-is-open-range
-sub-is-open-range c = search needs
+sub-is-open-range c = omega arith
 
 part-is-open-range-start : tie.Need-part-is-open-range-start
 part-is-open-range-start c = search needs

@@ -1,3 +1,4 @@
+use native.Mathlib.Omega.{arith}
 use Rattle.datefield.proofs.Finding.{last-none}
 use Rattle.datefield.specs.Text.{lastByte}
 use mathlib.Core.Path.{refl}
@@ -9,7 +10,7 @@ returns : tie.Need-returns
 returns c = last-none _ (c .if1 .taken)
 
 sub-result : tie.Need-sub-result
-sub-result c = search needs
+sub-result c = omega arith
 
 shared-slice-read-result : tie.Need-shared-slice-read-result
 shared-slice-read-result c = search needs

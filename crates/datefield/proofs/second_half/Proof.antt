@@ -1,3 +1,4 @@
+use native.Mathlib.Omega.{arith}
 use Rattle.scanner.proofs.Parts.{rest}
 use Prim.Native.Nat.{_+_}
 use Rattle.datefield.specs.Value.{secondHalf, moved}
@@ -6,10 +7,10 @@ use Rattle.datefield.proofs.second_half.Statement.{statement}
 use Rattle.datefield.proofs.second_half.Tie as tie
 
 add-parse : tie.Need-add-parse
-add-parse c = search needs
+add-parse c = omega arith
 
 sub-parse : tie.Need-sub-parse
-sub-parse c = search needs
+sub-parse c = omega arith
 
 part-parse-start : tie.Need-part-parse-start
 part-parse-start c = search needs

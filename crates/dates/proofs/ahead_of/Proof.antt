@@ -8,10 +8,10 @@ use Rattle.dates.proofs.ahead_of.Statement.{statement}
 use Rattle.dates.proofs.ahead_of.Tie as tie
 
 enum-told : tie.Need-enum-told
-enum-told c = search needs
+enum-told c = c .match .keys1
 
 enum-known-offset : tie.Need-enum-known-offset
-enum-known-offset c = search needs
+enum-known-offset c = c .match .keys2
 
 to-seconds-requires : tie.Need-to-seconds-requires
 to-seconds-requires c κs = search needs

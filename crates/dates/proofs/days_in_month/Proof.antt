@@ -1,3 +1,4 @@
+use native.Mathlib.Omega.{arith}
 use Rattle.dates.proofs.Months.{low, high, second, beyond}
 use Rattle.dates.specs.Calendar.{leapYear, february}
 use mathlib.Core.Bool.{true, false}
@@ -26,13 +27,13 @@ returns-2 c =
     sym (second _ _ (c .before .before .if1 .taken) ∙ ap february said)
 
 sub-result : tie.Need-sub-result
-sub-result c = search needs
+sub-result c = omega arith
 
 returns-3 : tie.Need-returns-3
 returns-3 c = low _ _ (c .before .if1 .left) (c .if3 .taken)
 
 add-result : tie.Need-add-result
-add-result c = search needs
+add-result c = omega arith
 
 returns-4 : tie.Need-returns-4
 returns-4 c = high _ _ (c .before .if3 .left) (c .if4 .taken)

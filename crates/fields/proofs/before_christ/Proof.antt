@@ -1,11 +1,10 @@
 use Rattle.numbers.proofs.Sums.{taken, taken-fits}
 use native.Mathlib.Omega.{arith}
-use borrow.Author.Needs.{needs}
 use Rattle.fields.proofs.before_christ.Statement.{statement}
 use Rattle.fields.proofs.before_christ.Tie as tie
 
 cast-result : tie.Need-cast-result
-cast-result c = search needs
+cast-result c = omega arith
 
 sub-result : tie.Need-sub-result
 sub-result c = taken-fits 1 (c .args .n) (omega arith)

@@ -27,7 +27,7 @@ returns c =
     simp (← b5 .parse-unsigned-int .ensures, b3 .value .given .1, eq-eqb _ _ (b1 .if1 .taken), ← c .panics .ensures)
 
 sub-m : tie.Need-sub-m
-sub-m c = search needs
+sub-m c = omega arith
 
 cast-m : tie.Need-cast-m
 cast-m c = let h = unsigned-value _ _ OneOrTwo (sym (c .before .before .before .before .parse-unsigned-int .ensures) ∙ c .before .before .value .given .1) in omega arith

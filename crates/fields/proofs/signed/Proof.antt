@@ -9,7 +9,7 @@ use Rattle.fields.proofs.signed.Statement.{statement}
 use Rattle.fields.proofs.signed.Tie as tie
 
 cast-year : tie.Need-cast-year
-cast-year c = search needs
+cast-year c = omega arith
 
 enum-told : tie.Need-enum-told
 enum-told c = search needs

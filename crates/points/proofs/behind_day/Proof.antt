@@ -30,22 +30,22 @@ eat-if-requires : tie.Need-eat-if-requires
 eat-if-requires c κs = search needs
 
 enum-known-next : tie.Need-enum-known-next
-enum-known-next c = search needs
+enum-known-next c = c .match .keys1
 
 parse-time-requires : tie.Need-parse-time-requires
 parse-time-requires c κs = search needs
 
 enum-known-t : tie.Need-enum-known-t
-enum-known-t c = search needs
+enum-known-t c = c .match2 .keys1
 
 new-requires-2 : tie.Need-new-requires-2
 new-requires-2 c κs = search needs
 
 enum-known-e : tie.Need-enum-known-e
-enum-known-e c = search needs
+enum-known-e c = c .match2 .keys2
 
 enum-told : tie.Need-enum-told
-enum-told c = search needs
+enum-told c = c .match .keys2
 
 refuse-text-requires : tie.Need-refuse-text-requires
 refuse-text-requires c κs = search needs

@@ -26,22 +26,22 @@ parse-colon-requires : tie.Need-parse-colon-requires
 parse-colon-requires c κs = search needs
 
 enum-known-b : tie.Need-enum-known-b
-enum-known-b c = search needs
+enum-known-b c = c .match .keys1
 
 parse-minutes-or-seconds-requires : tie.Need-parse-minutes-or-seconds-requires
 parse-minutes-or-seconds-requires c κs = search needs
 
 enum-known-minute : tie.Need-enum-known-minute
-enum-known-minute c = search needs
+enum-known-minute c = c .match2 .keys1
 
 behind-minute-requires : tie.Need-behind-minute-requires
 behind-minute-requires c κs = search needs
 
 enum-known-e : tie.Need-enum-known-e
-enum-known-e c = search needs
+enum-known-e c = c .match2 .keys2
 
 enum-known-e-2 : tie.Need-enum-known-e-2
-enum-known-e-2 c = search needs
+enum-known-e-2 c = c .match .keys2
 
 returns-2 : tie.Need-returns-2
 unfolding behindHour orEnd onSeparator onPart pick

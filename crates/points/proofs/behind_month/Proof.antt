@@ -31,13 +31,13 @@ parse-hyphen-requires : tie.Need-parse-hyphen-requires
 parse-hyphen-requires c κs = search needs
 
 enum-known-b : tie.Need-enum-known-b
-enum-known-b c = search needs
+enum-known-b c = c .match .keys1
 
 parse-day-requires : tie.Need-parse-day-requires
 parse-day-requires c κs = search needs
 
 enum-known-day : tie.Need-enum-known-day
-enum-known-day c = search needs
+enum-known-day c = c .match2 .keys1
 
 days-in-month-requires : tie.Need-days-in-month-requires
 days-in-month-requires c κs = search needs
@@ -67,10 +67,10 @@ refuse-text-requires : tie.Need-refuse-text-requires
 refuse-text-requires c κs = search needs
 
 enum-known-e : tie.Need-enum-known-e
-enum-known-e c = search needs
+enum-known-e c = c .match2 .keys2
 
 enum-known-e-2 : tie.Need-enum-known-e-2
-enum-known-e-2 c = search needs
+enum-known-e-2 c = c .match .keys2
 
 returns-3 : tie.Need-returns-3
 unfolding behindMonth orEnd onSeparator onPart pick

@@ -26,10 +26,10 @@ parse-offset-requires : tie.Need-parse-offset-requires
 parse-offset-requires c κs = search needs
 
 enum-known-offset : tie.Need-enum-known-offset
-enum-known-offset c = search needs
+enum-known-offset c = c .match .keys1
 
 enum-known-e : tie.Need-enum-known-e
-enum-known-e c = search needs
+enum-known-e c = c .match .keys2
 
 returns-2 : tie.Need-returns-2
 unfolding behindSecond orEnd withOffset pick

@@ -30,22 +30,22 @@ parse-hyphen-requires : tie.Need-parse-hyphen-requires
 parse-hyphen-requires c κs = search needs
 
 enum-known-b : tie.Need-enum-known-b
-enum-known-b c = search needs
+enum-known-b c = c .match .keys1
 
 parse-month-requires : tie.Need-parse-month-requires
 parse-month-requires c κs = search needs
 
 enum-known-month : tie.Need-enum-known-month
-enum-known-month c = search needs
+enum-known-month c = c .match2 .keys1
 
 behind-month-requires : tie.Need-behind-month-requires
 behind-month-requires c κs = search needs
 
 enum-known-e : tie.Need-enum-known-e
-enum-known-e c = search needs
+enum-known-e c = c .match2 .keys2
 
 enum-known-e-2 : tie.Need-enum-known-e-2
-enum-known-e-2 c = search needs
+enum-known-e-2 c = c .match .keys2
 
 returns-2 : tie.Need-returns-2
 unfolding behindYear orEnd onSeparator onPart pick

@@ -9,13 +9,13 @@ parse-any-year-requires : tie.Need-parse-any-year-requires
 parse-any-year-requires c κs = search needs
 
 enum-known-year : tie.Need-enum-known-year
-enum-known-year c = search needs
+enum-known-year c = c .match .keys1
 
 behind-year-requires : tie.Need-behind-year-requires
 behind-year-requires c κs = search needs
 
 enum-known-e : tie.Need-enum-known-e
-enum-known-e c = search needs
+enum-known-e c = c .match .keys2
 
 returns : tie.Need-returns
 unfolding point onYear

@@ -9,16 +9,16 @@ parse-short-year-requires : tie.Need-parse-short-year-requires
 parse-short-year-requires c κs = search needs
 
 enum-known-value : tie.Need-enum-known-value
-enum-known-value c = search needs
+enum-known-value c = c .match .keys1
 
 enum-told : tie.Need-enum-told
-enum-told c = search needs
+enum-told c = c .match .keys2
 
 parse-year-requires : tie.Need-parse-year-requires
 parse-year-requires c κs = search needs
 
 enum-told-2 : tie.Need-enum-told-2
-enum-told-2 c = search needs
+enum-told-2 c = c .match .keys3
 
 panics-requires : tie.Need-panics-requires
 panics-requires c κs = search needs

@@ -12,7 +12,7 @@ eat-requires : tie.Need-eat-requires
 eat-requires c κs = search needs
 
 enum-known-code : tie.Need-enum-known-code
-enum-known-code c = search needs
+enum-known-code c = c .match .keys1
 
 returns : tie.Need-returns
 unfolding offsetAt offsetFrom offsetBy pick
@@ -53,7 +53,7 @@ refuse-text-requires : tie.Need-refuse-text-requires
 refuse-text-requires c κs = search needs
 
 enum-told : tie.Need-enum-told
-enum-told c = search needs
+enum-told c = c .match .keys2
 
 refuse-text-requires-2 : tie.Need-refuse-text-requires-2
 refuse-text-requires-2 c κs = search needs

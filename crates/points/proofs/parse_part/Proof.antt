@@ -1,3 +1,4 @@
+use native.Mathlib.Omega.{arith}
 use Rattle.chars.specs.Pick.{pick}
 use Rattle.points.specs.Step.{partAt, stored}
 use borrow.Author.Tests.{lt-ltb, le-ltb}
@@ -9,7 +10,7 @@ parse-unsigned-int-requires : tie.Need-parse-unsigned-int-requires
 parse-unsigned-int-requires c κs = search needs
 
 enum-known-value : tie.Need-enum-known-value
-enum-known-value c = search needs
+enum-known-value c = c .match .keys1
 
 refuse-text-requires : tie.Need-refuse-text-requires
 refuse-text-requires c κs = search needs
@@ -35,19 +36,19 @@ returns-2 c =
     simp (← b6 .parse-unsigned-int .ensures, b4 .value .given .1, le-ltb _ _ (b2 .if1 .left), lt-ltb _ _ (b1 .if2 .taken), c .refuse-text2 .ensures)
 
 sub-t16 : tie.Need-sub-t16
-sub-t16 c = search needs
+sub-t16 c = omega arith
 
 cast-t17 : tie.Need-cast-t17
-cast-t17 c = search needs
+cast-t17 c = omega arith
 
 enum-known-next : tie.Need-enum-known-next
-enum-known-next c = search needs
+enum-known-next c = c .match .keys2
 
 refuse-text-requires-3 : tie.Need-refuse-text-requires-3
 refuse-text-requires-3 c κs = search needs
 
 enum-told : tie.Need-enum-told
-enum-told c = search needs
+enum-told c = c .match .keys3
 
 panics-requires : tie.Need-panics-requires
 panics-requires c κs = search needs

@@ -9,7 +9,7 @@ parse-hour-requires : tie.Need-parse-hour-requires
 parse-hour-requires c κs = search needs
 
 enum-known-hours : tie.Need-enum-known-hours
-enum-known-hours c = search needs
+enum-known-hours c = c .match .keys1
 
 eat-whitespace-requires : tie.Need-eat-whitespace-requires
 eat-whitespace-requires c κs = search needs
@@ -30,22 +30,22 @@ parse-colon-requires : tie.Need-parse-colon-requires
 parse-colon-requires c κs = search needs
 
 enum-known-b : tie.Need-enum-known-b
-enum-known-b c = search needs
+enum-known-b c = c .match2 .keys1
 
 parse-minutes-or-seconds-requires : tie.Need-parse-minutes-or-seconds-requires
 parse-minutes-or-seconds-requires c κs = search needs
 
 enum-known-minutes : tie.Need-enum-known-minutes
-enum-known-minutes c = search needs
+enum-known-minutes c = c .match3 .keys1
 
 enum-known-e : tie.Need-enum-known-e
-enum-known-e c = search needs
+enum-known-e c = c .match3 .keys2
 
 enum-known-e-2 : tie.Need-enum-known-e-2
-enum-known-e-2 c = search needs
+enum-known-e-2 c = c .match2 .keys2
 
 enum-known-e-3 : tie.Need-enum-known-e-3
-enum-known-e-3 c = search needs
+enum-known-e-3 c = c .match .keys2
 
 returns-2 : tie.Need-returns-2
 unfolding shiftAt onPart orEnd onSeparator pick

@@ -13,7 +13,7 @@ parse-int-requires : tie.Need-parse-int-requires
 parse-int-requires c κs = search needs
 
 enum-known-value : tie.Need-enum-known-value
-enum-known-value c = search needs
+enum-known-value c = c .match .keys1
 
 window-requires : tie.Need-window-requires
 window-requires c κs =
@@ -22,10 +22,10 @@ window-requires c κs =
     rw y (omega (arith, mag-abs z, int-below _ _ Two (sym (c .before .before .before .parse-int .ensures) ∙ c .before .value .given .1)))
 
 enum-known-next : tie.Need-enum-known-next
-enum-known-next c = search needs
+enum-known-next c = c .match .keys2
 
 enum-told : tie.Need-enum-told
-enum-told c = search needs
+enum-told c = c .match .keys3
 
 returns : tie.Need-returns
 unfolding shortYear windowedInt

@@ -8,13 +8,13 @@ parse-hour-requires : tie.Need-parse-hour-requires
 parse-hour-requires c κs = search needs
 
 enum-known-hour : tie.Need-enum-known-hour
-enum-known-hour c = search needs
+enum-known-hour c = c .match .keys1
 
 behind-hour-requires : tie.Need-behind-hour-requires
 behind-hour-requires c κs = search needs
 
 enum-known-e : tie.Need-enum-known-e
-enum-known-e c = search needs
+enum-known-e c = c .match .keys2
 
 returns : tie.Need-returns
 unfolding timeAt onPart

@@ -9,16 +9,16 @@ parse-int-requires : tie.Need-parse-int-requires
 parse-int-requires c κs = search needs
 
 enum-known-value : tie.Need-enum-known-value
-enum-known-value c = search needs
+enum-known-value c = c .match .keys1
 
 enum-known-next : tie.Need-enum-known-next
-enum-known-next c = search needs
+enum-known-next c = c .match .keys2
 
 refuse-text-requires : tie.Need-refuse-text-requires
 refuse-text-requires c κs = search needs
 
 enum-told : tie.Need-enum-told
-enum-told c = search needs
+enum-told c = c .match .keys3
 
 panics-requires : tie.Need-panics-requires
 panics-requires c κs = search needs

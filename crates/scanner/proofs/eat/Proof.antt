@@ -11,7 +11,7 @@ decode-at-requires : tie.Need-decode-at-requires
 decode-at-requires c κs = search needs
 
 enum-known-code : tie.Need-enum-known-code
-enum-known-code c = search needs
+enum-known-code c = c .match .keys1
 
 add-t8 : tie.Need-add-t8
 add-t8 c =
@@ -20,10 +20,10 @@ add-t8 c =
     omega (arith, (found s at (sym (c .before .before .before .decode-at .ensures) ∙ c .before .code .given .1)) .inside, (found s at (sym (c .before .before .before .decode-at .ensures) ∙ c .before .code .given .1)) .some)
 
 enum-told : tie.Need-enum-told
-enum-told c = search needs
+enum-told c = c .match .keys2
 
 enum-told-2 : tie.Need-enum-told-2
-enum-told-2 c = search needs
+enum-told-2 c = c .match .keys3
 
 returns : tie.Need-returns
 unfolding eatAt eaten

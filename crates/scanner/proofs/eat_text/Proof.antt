@@ -1,3 +1,4 @@
+use native.Mathlib.Omega.{arith}
 use Rattle.chars.proofs.Below.{at}
 use Rattle.scanner.proofs.Parts.{rest}
 use Rattle.scanner.specs.Scan.{eatText}
@@ -8,7 +9,7 @@ use Rattle.scanner.proofs.eat_text.Statement.{statement}
 use Rattle.scanner.proofs.eat_text.Tie as tie
 
 sub-begins : tie.Need-sub-begins
-sub-begins c = search needs
+sub-begins c = omega arith
 
 part-begins-start : tie.Need-part-begins-start
 part-begins-start c = search needs
@@ -20,7 +21,7 @@ begins-requires : tie.Need-begins-requires
 begins-requires c κs = search needs
 
 add-t13 : tie.Need-add-t13
-add-t13 c = search needs
+add-t13 c = omega arith
 
 returns : tie.Need-returns
 unfolding eatText pick

@@ -9,7 +9,7 @@ use Rattle.scanner.proofs.from.Statement.{statement}
 use Rattle.scanner.proofs.from.Tie as tie
 
 sub-result : tie.Need-sub-result
-sub-result c = search needs
+sub-result c = omega arith
 
 part-result-start : tie.Need-part-result-start
 part-result-start c = search needs
@@ -21,7 +21,7 @@ returns : tie.Need-returns
 returns c = let a = c .before .before .args in let n : ℕ = length (a .s .now) in part-past (a .s .now) (a .start .0) (a .c .0) n (n - n) (omega arith) (omega arith)
 
 sub-result-2 : tie.Need-sub-result-2
-sub-result-2 c = search needs
+sub-result-2 c = omega arith
 
 part-result-start-2 : tie.Need-part-result-start-2
 part-result-start-2 c = search needs
@@ -33,7 +33,7 @@ returns-2 : tie.Need-returns-2
 returns-2 c = let a = c .before .before .before .args in let p : ℕ = a .start .0 in part-none (a .s .now) p (a .c .0) (p - p) (omega arith) (omega arith)
 
 sub-result-3 : tie.Need-sub-result-3
-sub-result-3 c = search needs
+sub-result-3 c = omega arith
 
 part-result-start-3 : tie.Need-part-result-start-3
 part-result-start-3 c = search needs

@@ -8,16 +8,16 @@ decode-far-requires : tie.Need-decode-far-requires
 decode-far-requires c κs = search needs
 
 enum-known-code : tie.Need-enum-known-code
-enum-known-code c = search needs
+enum-known-code c = c .match .keys1
 
 in-class-requires : tie.Need-in-class-requires
 in-class-requires c κs = search needs
 
 enum-told : tie.Need-enum-told
-enum-told c = search needs
+enum-told c = c .match .keys2
 
 enum-told-2 : tie.Need-enum-told-2
-enum-told-2 c = search needs
+enum-told-2 c = c .match .keys3
 
 returns : tie.Need-returns
 unfolding matchLen lenIn pick

@@ -1,13 +1,13 @@
+use native.Mathlib.Omega.{arith}
 use Rattle.scanner.proofs.Quicks.{quick-none, quick-one}
-use borrow.Author.Needs.{needs}
 use Rattle.scanner.proofs.one_byte.Statement.{statement}
 use Rattle.scanner.proofs.one_byte.Tie as tie
 
 cast-t4 : tie.Need-cast-t4
-cast-t4 c = search needs
+cast-t4 c = omega arith
 
 cast-t5 : tie.Need-cast-t5
-cast-t5 c = search needs
+cast-t5 c = omega arith
 
 returns : tie.Need-returns
 returns c = quick-one _ (c .if1 .taken)

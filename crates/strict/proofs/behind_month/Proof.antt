@@ -1,3 +1,4 @@
+use native.Mathlib.Omega.{arith}
 use Rattle.dates.specs.declared.Datetime.{Datetime}
 use Rattle.strict.specs.declared.ReadPoint.the-variants.{Upto}
 use Rattle.strict.specs.declared.ReadPoint.{ReadPoint}
@@ -16,16 +17,16 @@ field-at-requires : tie.Need-field-at-requires
 field-at-requires c κs = search needs
 
 enum-told : tie.Need-enum-told
-enum-told c = search needs
+enum-told c = c .match .keys1
 
 new-requires : tie.Need-new-requires
 new-requires c κs = search needs
 
 enum-known-day : tie.Need-enum-known-day
-enum-known-day c = search needs
+enum-known-day c = c .match .keys2
 
 add-time-at : tie.Need-add-time-at
-add-time-at c = search needs
+add-time-at c = omega arith
 
 time-at-requires : tie.Need-time-at-requires
 time-at-requires c κs = search needs

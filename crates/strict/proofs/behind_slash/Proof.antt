@@ -21,10 +21,10 @@ point-requires : tie.Need-point-requires
 point-requires c κs = search needs
 
 enum-told : tie.Need-enum-told
-enum-told c = search needs
+enum-told c = c .match .keys1
 
 enum-known-value : tie.Need-enum-known-value
-enum-known-value c = search needs
+enum-known-value c = c .match .keys2
 
 ending-requires-2 : tie.Need-ending-requires-2
 ending-requires-2 c κs = search needs

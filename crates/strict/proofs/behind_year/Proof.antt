@@ -1,3 +1,4 @@
+use native.Mathlib.Omega.{arith}
 use mir.Syntax.{w32}
 use mir.ValLaws.{toZ-ofZ}
 use Rattle.strict.specs.Matcher.{behindYear, on}
@@ -9,16 +10,16 @@ field-at-requires : tie.Need-field-at-requires
 field-at-requires c κs = search needs
 
 enum-told : tie.Need-enum-told
-enum-told c = search needs
+enum-told c = c .match .keys1
 
 new-requires : tie.Need-new-requires
 new-requires c κs = search needs
 
 enum-known-m : tie.Need-enum-known-m
-enum-known-m c = search needs
+enum-known-m c = c .match .keys2
 
 add-behind-month : tie.Need-add-behind-month
-add-behind-month c = search needs
+add-behind-month c = omega arith
 
 behind-month-requires : tie.Need-behind-month-requires
 behind-month-requires c κs = search needs

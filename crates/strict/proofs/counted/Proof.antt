@@ -1,15 +1,14 @@
 use Rattle.chars.specs.Pick.{pick}
 use Rattle.strict.specs.Matcher.{counted, on}
 use borrow.Author.Tests.{le-leb, lt-leb}
-use borrow.Author.Needs.{needs}
 use Rattle.strict.proofs.counted.Statement.{statement}
 use Rattle.strict.proofs.counted.Tie as tie
 
 enum-told : tie.Need-enum-told
-enum-told c = search needs
+enum-told c = c .match .keys1
 
 enum-known-n : tie.Need-enum-known-n
-enum-known-n c = search needs
+enum-known-n c = c .match .keys2
 
 returns : tie.Need-returns
 unfolding counted on pick

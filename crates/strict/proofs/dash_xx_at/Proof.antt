@@ -1,3 +1,4 @@
+use native.Mathlib.Omega.{arith}
 use Rattle.strict.proofs.Places.{here}
 use lib.Seq.{getD-drop}
 use Rattle.strict.specs.Matcher.{dashXX}
@@ -10,13 +11,13 @@ byte-at-requires : tie.Need-byte-at-requires
 byte-at-requires c κs = search needs
 
 add-byte-at : tie.Need-add-byte-at
-add-byte-at c = search needs
+add-byte-at c = omega arith
 
 byte-at-requires-2 : tie.Need-byte-at-requires-2
 byte-at-requires-2 c κs = search needs
 
 add-byte-at-2 : tie.Need-add-byte-at-2
-add-byte-at-2 c = search needs
+add-byte-at-2 c = omega arith
 
 byte-at-requires-3 : tie.Need-byte-at-requires-3
 byte-at-requires-3 c κs = search needs

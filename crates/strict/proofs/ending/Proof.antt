@@ -1,3 +1,4 @@
+use native.Mathlib.Omega.{arith}
 use Rattle.strict.proofs.Places.{last, more}
 use lib.ListN.{drop-of-length-le}
 use mathlib.Core.Path.{sym, ap, _∙_}
@@ -14,7 +15,7 @@ unfolding ending
 returns c = let b3 = c .before .before .before in c .strictly .ensures ∙ ap (ending (b3 .args .value)) (sym (drop-of-length-le (b3 .args .s .now) (c .before .if1 .taken)))
 
 sub-if2 : tie.Need-sub-if2
-sub-if2 c = search needs
+sub-if2 c = omega arith
 
 shared-slice-read-marked : tie.Need-shared-slice-read-marked
 shared-slice-read-marked c = search needs

@@ -1,3 +1,4 @@
+use native.Mathlib.Omega.{arith}
 use Rattle.strict.proofs.Places.{here}
 use lib.Seq.{drop-drop}
 use Rattle.chars.specs.Pick.{pick}
@@ -11,7 +12,7 @@ byte-at-requires : tie.Need-byte-at-requires
 byte-at-requires c κs = search needs
 
 add-two-at : tie.Need-add-two-at
-add-two-at c = search needs
+add-two-at c = omega arith
 
 two-at-requires : tie.Need-two-at-requires
 two-at-requires c κs = search needs

@@ -1,3 +1,4 @@
+use native.Mathlib.Omega.{arith}
 use lib.Seq.{drop-drop}
 use Rattle.strict.specs.Matcher.{four, on}
 use borrow.Author.Needs.{needs}
@@ -8,34 +9,34 @@ two-at-requires : tie.Need-two-at-requires
 two-at-requires c κs = search needs
 
 enum-told : tie.Need-enum-told
-enum-told c = search needs
+enum-told c = c .match .keys1
 
 enum-known-a : tie.Need-enum-known-a
-enum-known-a c = search needs
+enum-known-a c = c .match .keys2
 
 add-two-at : tie.Need-add-two-at
-add-two-at c = search needs
+add-two-at c = omega arith
 
 two-at-requires-2 : tie.Need-two-at-requires-2
 two-at-requires-2 c κs = search needs
 
 enum-told-2 : tie.Need-enum-told-2
-enum-told-2 c = search needs
+enum-told-2 c = c .match2 .keys1
 
 enum-known-b : tie.Need-enum-known-b
-enum-known-b c = search needs
+enum-known-b c = c .match2 .keys2
 
 wide-requires : tie.Need-wide-requires
 wide-requires c κs = search needs
 
 mul-t11 : tie.Need-mul-t11
-mul-t11 c = search needs
+mul-t11 c = omega arith
 
 wide-requires-2 : tie.Need-wide-requires-2
 wide-requires-2 c κs = search needs
 
 add-t13 : tie.Need-add-t13
-add-t13 c = search needs
+add-t13 c = omega arith
 
 returns : tie.Need-returns
 unfolding four on

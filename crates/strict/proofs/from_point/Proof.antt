@@ -19,10 +19,10 @@ point-requires : tie.Need-point-requires
 point-requires c κs = search needs
 
 enum-told : tie.Need-enum-told
-enum-told c = search needs
+enum-told c = c .match .keys1
 
 enum-known-value : tie.Need-enum-known-value
-enum-known-value c = search needs
+enum-known-value c = c .match .keys2
 
 byte-at-requires : tie.Need-byte-at-requires
 byte-at-requires c κs = search needs

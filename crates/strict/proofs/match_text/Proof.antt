@@ -19,13 +19,13 @@ unknown-requires : tie.Need-unknown-requires
 unknown-requires c κs = search needs
 
 enum-known-value : tie.Need-enum-known-value
-enum-known-value c = search needs
+enum-known-value c = c .match .keys1
 
 ending-requires : tie.Need-ending-requires
 ending-requires c κs = search needs
 
 enum-told : tie.Need-enum-told
-enum-told c = search needs
+enum-told c = c .match .keys2
 
 is-open-requires : tie.Need-is-open-requires
 is-open-requires c κs = search needs

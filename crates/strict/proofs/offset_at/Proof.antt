@@ -1,3 +1,4 @@
+use native.Mathlib.Omega.{arith}
 use Rattle.chars.specs.Pick.{pick}
 use Rattle.strict.specs.Matcher.{offsetAt}
 use borrow.Author.Tests.{eq-eqb, ne-eqb}
@@ -9,7 +10,7 @@ byte-at-requires : tie.Need-byte-at-requires
 byte-at-requires c κs = search needs
 
 add-t7 : tie.Need-add-t7
-add-t7 c = search needs
+add-t7 c = omega arith
 
 returns : tie.Need-returns
 unfolding offsetAt pick

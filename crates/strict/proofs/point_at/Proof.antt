@@ -1,3 +1,4 @@
+use native.Mathlib.Omega.{arith}
 use mir.Syntax.{w32}
 use mir.ValLaws.{toZ-ofZ}
 use Rattle.strict.specs.Matcher.{pointAt, onFour}
@@ -9,13 +10,13 @@ four-at-requires : tie.Need-four-at-requires
 four-at-requires c κs = search needs
 
 enum-told : tie.Need-enum-told
-enum-told c = search needs
+enum-told c = c .match .keys1
 
 enum-known-n : tie.Need-enum-known-n
-enum-known-n c = search needs
+enum-known-n c = c .match .keys2
 
 add-behind-year : tie.Need-add-behind-year
-add-behind-year c = search needs
+add-behind-year c = omega arith
 
 signed-requires : tie.Need-signed-requires
 signed-requires c κs = search needs

@@ -1,3 +1,4 @@
+use native.Mathlib.Omega.{arith}
 use Rattle.strict.specs.Matcher.{shiftAt, on}
 use borrow.Author.Needs.{needs}
 use Rattle.strict.proofs.shift_at.Statement.{statement}
@@ -7,31 +8,31 @@ field-at-requires : tie.Need-field-at-requires
 field-at-requires c κs = search needs
 
 enum-told : tie.Need-enum-told
-enum-told c = search needs
+enum-told c = c .match .keys1
 
 no-offset-requires : tie.Need-no-offset-requires
 no-offset-requires c κs = search needs
 
 enum-known-hours : tie.Need-enum-known-hours
-enum-known-hours c = search needs
+enum-known-hours c = c .match .keys2
 
 add-field-at : tie.Need-add-field-at
-add-field-at c = search needs
+add-field-at c = omega arith
 
 field-at-requires-2 : tie.Need-field-at-requires-2
 field-at-requires-2 c κs = search needs
 
 enum-told-2 : tie.Need-enum-told-2
-enum-told-2 c = search needs
+enum-told-2 c = c .match2 .keys1
 
 no-offset-requires-2 : tie.Need-no-offset-requires-2
 no-offset-requires-2 c κs = search needs
 
 enum-known-minutes : tie.Need-enum-known-minutes
-enum-known-minutes c = search needs
+enum-known-minutes c = c .match2 .keys2
 
 add-t14 : tie.Need-add-t14
-add-t14 c = search needs
+add-t14 c = omega arith
 
 returns : tie.Need-returns
 unfolding shiftAt on

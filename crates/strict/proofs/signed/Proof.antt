@@ -3,12 +3,11 @@ use Rattle.strict.proofs.Signs.{negated, negated-fits, cast}
 use mathlib.Core.Bool.{Bool}
 use native.Mathlib.Omega.{arith}
 use mathlib.Core.Path.{sym, ap, _∙_}
-use borrow.Author.Needs.{needs}
 use Rattle.strict.proofs.signed.Statement.{statement}
 use Rattle.strict.proofs.signed.Tie as tie
 
 cast-year : tie.Need-cast-year
-cast-year c = search needs
+cast-year c = omega arith
 
 sub-result : tie.Need-sub-result
 sub-result c = negated-fits (c .before .args .n) (omega arith)

@@ -1,3 +1,4 @@
+use native.Mathlib.Omega.{arith}
 use Rattle.strict.specs.Matcher.{timeAt, on}
 use borrow.Author.Needs.{needs}
 use Rattle.strict.proofs.time_at.Statement.{statement}
@@ -7,46 +8,46 @@ field-at-requires : tie.Need-field-at-requires
 field-at-requires c κs = search needs
 
 enum-told : tie.Need-enum-told
-enum-told c = search needs
+enum-told c = c .match .keys1
 
 no-time-requires : tie.Need-no-time-requires
 no-time-requires c κs = search needs
 
 enum-known-hour : tie.Need-enum-known-hour
-enum-known-hour c = search needs
+enum-known-hour c = c .match .keys2
 
 add-field-at : tie.Need-add-field-at
-add-field-at c = search needs
+add-field-at c = omega arith
 
 field-at-requires-2 : tie.Need-field-at-requires-2
 field-at-requires-2 c κs = search needs
 
 enum-told-2 : tie.Need-enum-told-2
-enum-told-2 c = search needs
+enum-told-2 c = c .match2 .keys1
 
 no-time-requires-2 : tie.Need-no-time-requires-2
 no-time-requires-2 c κs = search needs
 
 enum-known-minute : tie.Need-enum-known-minute
-enum-known-minute c = search needs
+enum-known-minute c = c .match2 .keys2
 
 add-field-at-2 : tie.Need-add-field-at-2
-add-field-at-2 c = search needs
+add-field-at-2 c = omega arith
 
 field-at-requires-3 : tie.Need-field-at-requires-3
 field-at-requires-3 c κs = search needs
 
 enum-told-3 : tie.Need-enum-told-3
-enum-told-3 c = search needs
+enum-told-3 c = c .match3 .keys1
 
 no-time-requires-3 : tie.Need-no-time-requires-3
 no-time-requires-3 c κs = search needs
 
 enum-known-second : tie.Need-enum-known-second
-enum-known-second c = search needs
+enum-known-second c = c .match3 .keys2
 
 add-offset-at : tie.Need-add-offset-at
-add-offset-at c = search needs
+add-offset-at c = omega arith
 
 offset-at-requires : tie.Need-offset-at-requires
 offset-at-requires c κs = search needs

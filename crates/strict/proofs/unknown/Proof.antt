@@ -12,10 +12,10 @@ two-at-requires : tie.Need-two-at-requires
 two-at-requires c κs = search needs
 
 enum-told : tie.Need-enum-told
-enum-told c = search needs
+enum-told c = c .match .keys1
 
 enum-known-n : tie.Need-enum-known-n
-enum-known-n c = search needs
+enum-known-n c = c .match .keys2
 
 unknown-years-requires : tie.Need-unknown-years-requires
 unknown-years-requires c κs = search needs
@@ -41,10 +41,10 @@ four-at-requires : tie.Need-four-at-requires
 four-at-requires c κs = search needs
 
 enum-told-2 : tie.Need-enum-told-2
-enum-told-2 c = search needs
+enum-told-2 c = c .match2 .keys1
 
 enum-known-n-2 : tie.Need-enum-known-n-2
-enum-known-n-2 c = search needs
+enum-known-n-2 c = c .match2 .keys2
 
 unknown-parts-requires : tie.Need-unknown-parts-requires
 unknown-parts-requires c κs = search needs

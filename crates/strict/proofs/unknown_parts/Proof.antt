@@ -38,10 +38,10 @@ field-at-requires : tie.Need-field-at-requires
 field-at-requires c κs = search needs
 
 enum-told : tie.Need-enum-told
-enum-told c = search needs
+enum-told c = c .match .keys1
 
 enum-known-month : tie.Need-enum-known-month
-enum-known-month c = search needs
+enum-known-month c = c .match .keys2
 
 dash-xx-at-requires-3 : tie.Need-dash-xx-at-requires-3
 dash-xx-at-requires-3 c κs = search needs

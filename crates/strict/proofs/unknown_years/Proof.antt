@@ -15,10 +15,10 @@ wide-requires : tie.Need-wide-requires
 wide-requires c κs = search needs
 
 mul-first : tie.Need-mul-first
-mul-first c = search needs
+mul-first c = omega arith
 
 add-years : tie.Need-add-years
-add-years c = search needs
+add-years c = omega arith
 
 years-requires : tie.Need-years-requires
 years-requires c κs = search needs
@@ -38,7 +38,7 @@ wide-requires-2 : tie.Need-wide-requires-2
 wide-requires-2 c κs = search needs
 
 mul-first-2 : tie.Need-mul-first-2
-mul-first-2 c = search needs
+mul-first-2 c = omega arith
 
 sub-wide : tie.Need-sub-wide
 sub-wide c = omega (arith, digit (c .before .before .before .before .byte-at .result) (sym (c .before .before .is-digit .ensures) ∙ c .before .if2 .taken))
@@ -47,13 +47,13 @@ wide-requires-3 : tie.Need-wide-requires-3
 wide-requires-3 c κs = search needs
 
 add-first : tie.Need-add-first
-add-first c = search needs
+add-first c = omega arith
 
 mul-first-3 : tie.Need-mul-first-3
-mul-first-3 c = search needs
+mul-first-3 c = omega arith
 
 add-years-2 : tie.Need-add-years-2
-add-years-2 c = search needs
+add-years-2 c = omega arith
 
 years-requires-2 : tie.Need-years-requires-2
 years-requires-2 c κs = search needs

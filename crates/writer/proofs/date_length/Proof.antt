@@ -32,7 +32,7 @@ mark-length-requires : tie.Need-mark-length-requires
 mark-length-requires c κs = search needs
 
 add-t8 : tie.Need-add-t8
-add-t8 c = search needs
+add-t8 c = omega arith
 
 returns-2 : tie.Need-returns-2
 unfolding panics dateText

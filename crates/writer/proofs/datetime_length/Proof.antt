@@ -19,7 +19,7 @@ parts-length-requires : tie.Need-parts-length-requires
 parts-length-requires c κs = search needs
 
 add-result : tie.Need-add-result
-add-result c = search needs
+add-result c = omega arith
 
 returns : tie.Need-returns
 returns c =

@@ -6,13 +6,13 @@ use Rattle.writer.proofs.day_parts.Statement.{statement}
 use Rattle.writer.proofs.day_parts.Tie as tie
 
 enum-told : tie.Need-enum-told
-enum-told c = search needs
+enum-told c = c .match .keys1
 
 written-month-requires : tie.Need-written-month-requires
 written-month-requires c κs = search needs
 
 enum-known-day : tie.Need-enum-known-day
-enum-known-day c = search needs
+enum-known-day c = c .match .keys2
 
 returns : tie.Need-returns
 unfolding dayParts pick

@@ -6,7 +6,7 @@ use Rattle.writer.proofs.decide.Statement.{statement}
 use Rattle.writer.proofs.decide.Tie as tie
 
 enum-known-m : tie.Need-enum-known-m
-enum-known-m c = search needs
+enum-known-m c = c .match .keys1
 
 returns : tie.Need-returns
 unfolding decided pick
@@ -18,7 +18,7 @@ refuse-requires : tie.Need-refuse-requires
 refuse-requires c κs = search needs
 
 enum-known-m-2 : tie.Need-enum-known-m-2
-enum-known-m-2 c = search needs
+enum-known-m-2 c = c .match .keys2
 
 returns-2 : tie.Need-returns-2
 unfolding decided pick

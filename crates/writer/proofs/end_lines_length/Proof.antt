@@ -24,7 +24,7 @@ part-lines-length-requires : tie.Need-part-lines-length-requires
 part-lines-length-requires c κs = search needs
 
 add-result : tie.Need-add-result
-add-result c = search needs
+add-result c = omega arith
 
 returns : tie.Need-returns
 returns c =

@@ -3,18 +3,17 @@ use mathlib.Core.Bool.{Bool}
 use lib.ListN.{length}
 use native.Mathlib.Omega.{arith}
 use mathlib.Core.Path.{ap, _≡_}
-use borrow.Author.Needs.{needs}
 use Rattle.writer.proofs.line_length.Statement.{statement}
 use Rattle.writer.proofs.line_length.Tie as tie
 
 add-result : tie.Need-add-result
-add-result c = search needs
+add-result c = omega arith
 
 add-result-2 : tie.Need-add-result-2
-add-result-2 c = search needs
+add-result-2 c = omega arith
 
 add-result-3 : tie.Need-add-result-3
-add-result-3 c = search needs
+add-result-3 c = omega arith
 
 returns : tie.Need-returns
 unfolding prefix
@@ -24,10 +23,10 @@ returns c =
     (omega (arith, e), omega arith)
 
 add-result-4 : tie.Need-add-result-4
-add-result-4 c = search needs
+add-result-4 c = omega arith
 
 add-result-5 : tie.Need-add-result-5
-add-result-5 c = search needs
+add-result-5 c = omega arith
 
 returns-2 : tie.Need-returns-2
 unfolding prefix

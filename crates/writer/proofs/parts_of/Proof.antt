@@ -6,10 +6,10 @@ use Rattle.writer.proofs.parts_of.Statement.{statement}
 use Rattle.writer.proofs.parts_of.Tie as tie
 
 enum-told : tie.Need-enum-told
-enum-told c = search needs
+enum-told c = c .match .keys1
 
 enum-known-month : tie.Need-enum-known-month
-enum-known-month c = search needs
+enum-known-month c = c .match .keys2
 
 returns : tie.Need-returns
 unfolding partsOf monthParts pick

@@ -1,7 +1,6 @@
 use Rattle.writer.proofs.Counts.{length-digits}
 use Rattle.writer.proofs.Puts.{next-digit}
 use Rattle.dates.proofs.Clock.{behind}
-use borrow.Author.Needs.{needs}
 use Rattle.writer.specs.Numbers.{digits}
 use lib.Seq.{sets}
 use lib.ListN.{length, length-set}
@@ -21,16 +20,16 @@ loop-holds : tie.Need-loop-holds Inv-loop μ-loop
 loop-holds c = (refl, omega arith, refl)
 
 sub-k : tie.Need-sub-k Inv-loop μ-loop
-sub-k c = search needs
+sub-k c = omega arith
 
 cast-out : tie.Need-cast-out Inv-loop μ-loop
-cast-out c = search needs
+cast-out c = omega arith
 
 add-out : tie.Need-add-out Inv-loop μ-loop
-add-out c = search needs
+add-out c = omega arith
 
 add-out-2 : tie.Need-add-out-2 Inv-loop μ-loop
-add-out-2 c = search needs
+add-out-2 c = omega arith
 
 slice-write-out : tie.Need-slice-write-out Inv-loop μ-loop
 slice-write-out c = omega (arith, c .before .loop .inv .1, c .before .loop .inv .2)
@@ -46,7 +45,7 @@ loop-again c =
     (next-digit (l .out) (a .at) (l .k - 1) (l .rest) ∙ ap (λ (m : ℕ). sets (l .out) (a .at) (digits m (l .rest))) e ∙ l .inv .0, omega (arith, l .inv .1), length-set (l .out) _ _ ∙ l .inv .2)
 
 add-result : tie.Need-add-result Inv-loop μ-loop
-add-result c = search needs
+add-result c = omega arith
 
 same-length : tie.Need-same-length Inv-loop μ-loop
 same-length c = c .before .loop .inv .2

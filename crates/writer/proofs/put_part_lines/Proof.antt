@@ -8,10 +8,10 @@ use Rattle.writer.proofs.put_part_lines.Statement.{statement}
 use Rattle.writer.proofs.put_part_lines.Tie as tie
 
 enum-told : tie.Need-enum-told
-enum-told c = search needs
+enum-told c = c .match .keys1
 
 enum-known-p : tie.Need-enum-known-p
-enum-known-p c = search needs
+enum-known-p c = c .match .keys2
 
 slice-aggregate-put-part-line : tie.Need-slice-aggregate-put-part-line
 slice-aggregate-put-part-line c = search needs
@@ -24,7 +24,7 @@ put-part-line-requires c κs =
     fits-as (s .args .out .now) (s .args .at) (ap (partLines (s .args .end)) (b3 .p .given .1)) (s .pre)
 
 enum-known-p-2 : tie.Need-enum-known-p-2
-enum-known-p-2 c = search needs
+enum-known-p-2 c = c .match .keys3
 
 slice-aggregate-put-part-line-2 : tie.Need-slice-aggregate-put-part-line-2
 slice-aggregate-put-part-line-2 c = search needs
@@ -48,7 +48,7 @@ put-part-line-requires-3 c κs =
     room (b4 .put-part-line2 .ensures) (line (s .args .end) (ascii "day=") (partText (b8 .p2 .given .0 .1 .0 .0))) (fits-as (s .args .out .now) (s .args .at) (ap (partLines (s .args .end)) (b8 .p2 .given .1)) (s .pre))
 
 enum-told-2 : tie.Need-enum-told-2
-enum-told-2 c = search needs
+enum-told-2 c = c .match .keys4
 
 returns : tie.Need-returns
 unfolding partLines

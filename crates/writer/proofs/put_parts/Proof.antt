@@ -6,10 +6,10 @@ use Rattle.writer.proofs.put_parts.Statement.{statement}
 use Rattle.writer.proofs.put_parts.Tie as tie
 
 enum-told : tie.Need-enum-told
-enum-told c = search needs
+enum-told c = c .match .keys1
 
 enum-known-p : tie.Need-enum-known-p
-enum-known-p c = search needs
+enum-known-p c = c .match .keys2
 
 put-hyphen-part-requires : tie.Need-put-hyphen-part-requires
 unfolding partsText
@@ -19,7 +19,7 @@ put-hyphen-part-requires c κs =
     fits-as (s .args .out .now) (s .args .at) (ap partsText (b2 .p .given .1)) (s .pre)
 
 enum-known-p-2 : tie.Need-enum-known-p-2
-enum-known-p-2 c = search needs
+enum-known-p-2 c = c .match .keys3
 
 put-hyphen-part-requires-2 : tie.Need-put-hyphen-part-requires-2
 unfolding partsText
@@ -37,7 +37,7 @@ put-hyphen-part-requires-3 c κs =
     room (b3 .put-hyphen-part2 .ensures) (hyphenPart (b6 .p2 .given .0 .1 .0 .0)) (fits-as (s .args .out .now) (s .args .at) (ap partsText (b6 .p2 .given .1)) (s .pre))
 
 enum-told-2 : tie.Need-enum-told-2
-enum-told-2 c = search needs
+enum-told-2 c = c .match .keys4
 
 returns : tie.Need-returns
 unfolding partsText

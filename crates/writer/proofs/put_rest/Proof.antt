@@ -1,3 +1,4 @@
+use native.Mathlib.Omega.{arith}
 use Rattle.writer.specs.Texts.{datetimeText}
 use Rattle.writer.proofs.Puts.{lent}
 use borrow.Author.Needs.{needs}
@@ -5,7 +6,7 @@ use Rattle.writer.proofs.put_rest.Statement.{statement}
 use Rattle.writer.proofs.put_rest.Tie as tie
 
 sub-put-datetime : tie.Need-sub-put-datetime
-sub-put-datetime c = search needs
+sub-put-datetime c = omega arith
 
 part-put-datetime-start : tie.Need-part-put-datetime-start
 part-put-datetime-start c = search needs
@@ -17,7 +18,7 @@ put-datetime-requires : tie.Need-put-datetime-requires
 put-datetime-requires c κs = search needs
 
 add-result : tie.Need-add-result
-add-result c = search needs
+add-result c = omega arith
 
 same-length : tie.Need-same-length
 same-length c = search needs

@@ -9,7 +9,7 @@ use Rattle.writer.proofs.put_value.Statement.{statement}
 use Rattle.writer.proofs.put_value.Tie as tie
 
 enum-known-v : tie.Need-enum-known-v
-enum-known-v c = search needs
+enum-known-v c = c .match .keys1
 
 put-datetime-requires : tie.Need-put-datetime-requires
 unfolding valueText
@@ -19,7 +19,7 @@ put-datetime-requires c κs =
     omega (arith, (front-as (s .args .out .now) (ap valueText (b2 .v .given .1)) (s .pre)))
 
 enum-known-v-2 : tie.Need-enum-known-v-2
-enum-known-v-2 c = search needs
+enum-known-v-2 c = c .match .keys2
 
 put-datetime-requires-2 : tie.Need-put-datetime-requires-2
 unfolding valueText
@@ -40,7 +40,7 @@ put-bytes-requires c κs =
     room (b4 .put-datetime2 .ensures) (ascii "/..") (front-as (s .args .out .now) (ap valueText (b7 .v2 .given .1)) (s .pre))
 
 enum-known-v-3 : tie.Need-enum-known-v-3
-enum-known-v-3 c = search needs
+enum-known-v-3 c = c .match .keys3
 
 slice-aggregate-put-bytes-2 : tie.Need-slice-aggregate-put-bytes-2
 slice-aggregate-put-bytes-2 c = search needs
@@ -61,7 +61,7 @@ put-rest-requires c κs =
     room (b3 .put-bytes2 .ensures) (datetimeText (b7 .v3 .given .0 .0)) (front-as (s .args .out .now) (ap valueText (b7 .v3 .given .1)) (s .pre))
 
 enum-known-v-4 : tie.Need-enum-known-v-4
-enum-known-v-4 c = search needs
+enum-known-v-4 c = c .match .keys4
 
 put-datetime-requires-3 : tie.Need-put-datetime-requires-3
 unfolding valueText

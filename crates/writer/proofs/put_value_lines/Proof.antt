@@ -7,7 +7,7 @@ use Rattle.writer.proofs.put_value_lines.Statement.{statement}
 use Rattle.writer.proofs.put_value_lines.Tie as tie
 
 enum-known-v : tie.Need-enum-known-v
-enum-known-v c = search needs
+enum-known-v c = c .match .keys1
 
 put-end-lines-requires : tie.Need-put-end-lines-requires
 unfolding valueLines
@@ -17,7 +17,7 @@ put-end-lines-requires c κs =
     front-as (s .args .out .now) (ap valueLines (b2 .v .given .1)) (s .pre)
 
 enum-known-v-2 : tie.Need-enum-known-v-2
-enum-known-v-2 c = search needs
+enum-known-v-2 c = c .match .keys2
 
 put-end-lines-requires-2 : tie.Need-put-end-lines-requires-2
 unfolding valueLines
@@ -27,7 +27,7 @@ put-end-lines-requires-2 c κs =
     front-as (s .args .out .now) (ap valueLines (b2 .v2 .given .1)) (s .pre)
 
 enum-known-v-3 : tie.Need-enum-known-v-3
-enum-known-v-3 c = search needs
+enum-known-v-3 c = c .match .keys3
 
 put-end-lines-requires-3 : tie.Need-put-end-lines-requires-3
 unfolding valueLines
@@ -37,7 +37,7 @@ put-end-lines-requires-3 c κs =
     front-as (s .args .out .now) (ap valueLines (b2 .v3 .given .1)) (s .pre)
 
 enum-known-v-4 : tie.Need-enum-known-v-4
-enum-known-v-4 c = search needs
+enum-known-v-4 c = c .match .keys4
 
 put-end-lines-requires-4 : tie.Need-put-end-lines-requires-4
 unfolding valueLines

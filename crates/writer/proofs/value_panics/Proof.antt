@@ -4,25 +4,25 @@ use Rattle.writer.proofs.value_panics.Statement.{statement}
 use Rattle.writer.proofs.value_panics.Tie as tie
 
 enum-known-v : tie.Need-enum-known-v
-enum-known-v c = search needs
+enum-known-v c = c .match .keys1
 
 end-panics-requires : tie.Need-end-panics-requires
 end-panics-requires c κs = search needs
 
 enum-known-v-2 : tie.Need-enum-known-v-2
-enum-known-v-2 c = search needs
+enum-known-v-2 c = c .match .keys2
 
 end-panics-requires-2 : tie.Need-end-panics-requires-2
 end-panics-requires-2 c κs = search needs
 
 enum-known-v-3 : tie.Need-enum-known-v-3
-enum-known-v-3 c = search needs
+enum-known-v-3 c = c .match .keys3
 
 end-panics-requires-3 : tie.Need-end-panics-requires-3
 end-panics-requires-3 c κs = search needs
 
 enum-known-v-4 : tie.Need-enum-known-v-4
-enum-known-v-4 c = search needs
+enum-known-v-4 c = c .match .keys4
 
 end-panics-requires-4 : tie.Need-end-panics-requires-4
 end-panics-requires-4 c κs = search needs

@@ -12,7 +12,7 @@ decide-requires : tie.Need-decide-requires
 decide-requires c κs = search needs
 
 enum-told : tie.Need-enum-told
-enum-told c = search needs
+enum-told c = c .match .keys1
 
 put-value-lines-requires : tie.Need-put-value-lines-requires
 unfolding fieldsText
@@ -24,7 +24,7 @@ put-value-lines-requires c κs =
     fits (panics (s .args .d)) (fieldsText (s .args .d)) (s .args .out .now) (b4 .fields-length .ensures) (b3 .decide .ensures) (b1 .enum-told .given .1)
 
 enum-known-e : tie.Need-enum-known-e
-enum-known-e c = search needs
+enum-known-e c = c .match .keys2
 
 same-length : tie.Need-same-length
 same-length c = search needs

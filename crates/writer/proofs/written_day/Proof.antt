@@ -1,11 +1,11 @@
+use native.Mathlib.Omega.{arith}
 use Rattle.writer.specs.Texts.{writtenDay}
 use mathlib.Core.Path.{refl}
-use borrow.Author.Needs.{needs}
 use Rattle.writer.proofs.written_day.Statement.{statement}
 use Rattle.writer.proofs.written_day.Tie as tie
 
 add-t2 : tie.Need-add-t2
-add-t2 c = search needs
+add-t2 c = omega arith
 
 returns : tie.Need-returns
 unfolding writtenDay

@@ -11,7 +11,7 @@ width-requires : tie.Need-width-requires
 width-requires c κs = search needs
 
 add-result : tie.Need-add-result
-add-result c = search needs
+add-result c = omega arith
 
 returns : tie.Need-returns
 returns c =

@@ -1,3 +1,4 @@
+use native.Mathlib.Omega.{arith}
 use mir.Syntax.{w32}
 use mir.ValLaws.{toZ-pos}
 use borrow.Author.Needs.{needs}
@@ -5,7 +6,7 @@ use Rattle.xranges.proofs.date.Statement.{statement}
 use Rattle.xranges.proofs.date.Tie as tie
 
 cast-new : tie.Need-cast-new
-cast-new c = search needs
+cast-new c = omega arith
 
 new-requires : tie.Need-new-requires
 new-requires c κs = search needs

@@ -1,7 +1,6 @@
 use Rattle.xranges.proofs.Bounds.{bounded}
 use native.Mathlib.Omega.{arith}
 use Rattle.xranges.specs.Range.{years}
-use borrow.Author.Needs.{needs}
 use Rattle.xranges.proofs.years.Statement.{statement}
 use Rattle.xranges.proofs.years.Tie as tie
 
@@ -12,7 +11,7 @@ date-requires : tie.Need-date-requires
 date-requires c κs = omega (arith, bounded (c .args .digits) (c .args .variable) (omega arith) (omega arith))
 
 sub-date : tie.Need-sub-date
-sub-date c = search needs
+sub-date c = omega arith
 
 add-date : tie.Need-add-date
 add-date c = omega (arith, bounded (c .before .args .digits) (c .before .args .variable) (omega arith) (omega arith))

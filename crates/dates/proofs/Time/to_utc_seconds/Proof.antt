@@ -1,3 +1,4 @@
+use native.Mathlib.Omega.{arith}
 use Rattle.dates.specs.Time.{utcSeconds}
 use Rattle.dates.proofs.Clock.{utc-fits, utc}
 use mathlib.Core.Path.{_∙_}
@@ -12,7 +13,7 @@ seconds-requires : tie.Need-seconds-requires
 seconds-requires c κs = search needs
 
 cast-result : tie.Need-cast-result
-cast-result c = search needs
+cast-result c = omega arith
 
 sub-result : tie.Need-sub-result
 sub-result c = let a = c .before .ahead-of in utc-fits (c .seconds .result) (c .seconds .ensures .1) (a .result) (record { sfits = a .ok }) (a .ensures .1)

@@ -7,16 +7,16 @@ use Rattle.dates.proofs.TimeOffset.to_seconds.Statement.{statement}
 use Rattle.dates.proofs.TimeOffset.to_seconds.Tie as tie
 
 enum-told : tie.Need-enum-told
-enum-told c = search needs
+enum-told c = c .match .keys1
 
 enum-known-self : tie.Need-enum-known-self
-enum-known-self c = search needs
+enum-known-self c = c .match .keys2
 
 seconds-requires : tie.Need-seconds-requires
 seconds-requires c κs = search needs
 
 cast-n : tie.Need-cast-n
-cast-n c = search needs
+cast-n c = omega arith
 
 sub-result : tie.Need-sub-result
 sub-result c = behind-fits (c .before .seconds .result) (c .before .seconds .ensures .1)
