@@ -29,7 +29,7 @@ loop-holds c =
 
 -- src/lib.rt:163:32
 shared-slice-read-high : tie.Need-shared-slice-read-high Inv-loop μ-loop
-shared-slice-read-high c = search needs
+shared-slice-read-high c = omega arith
 
 -- src/lib.rt:163:27
 high-requires : tie.Need-high-requires Inv-loop μ-loop
@@ -51,7 +51,7 @@ slice-write-out c =
 
 -- src/lib.rt:164:35
 shared-slice-read-low : tie.Need-shared-slice-read-low Inv-loop μ-loop
-shared-slice-read-low c = search needs
+shared-slice-read-low c = omega arith
 
 -- src/lib.rt:164:31
 low-requires : tie.Need-low-requires Inv-loop μ-loop

@@ -5,7 +5,6 @@ use mir.ValLaws.{toZ-ofZ}
 use lib.IntN.{natAbs}
 use Rattle.dates.proofs.Signs.{fits-abs, not-negative, minus-read, wide-fits, minus-fits}
 use Rattle.answers.proofs.Digits.{below, above}
-use borrow.Author.Needs.{needs}
 use Rattle.answers.proofs.twos.Statement.{statement}
 use Rattle.answers.proofs.twos.Tie as tie
 use Rattle.answers.proofs.twos.Reads as reads

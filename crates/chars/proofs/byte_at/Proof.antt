@@ -1,3 +1,4 @@
+use native.Mathlib.Omega.{arith}
 use lib.ListN.{List·getD-eq-default}
 use mathlib.Core.Path.{sym}
 use borrow.Author.Needs.{needs}
@@ -5,7 +6,7 @@ use Rattle.chars.proofs.byte_at.Statement.{statement}
 use Rattle.chars.proofs.byte_at.Tie as tie
 
 shared-slice-read-result : tie.Need-shared-slice-read-result
-shared-slice-read-result c = search needs
+shared-slice-read-result c = omega arith
 
 returns : tie.Need-returns
 returns c = search needs

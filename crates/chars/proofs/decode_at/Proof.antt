@@ -1,3 +1,4 @@
+use native.Mathlib.Omega.{arith}
 use Rattle.chars.proofs.Laws.{past-end, ascii}
 use mathlib.Core.Path.{sym}
 use borrow.Author.Needs.{needs}
@@ -5,7 +6,7 @@ use Rattle.chars.proofs.decode_at.Statement.{statement}
 use Rattle.chars.proofs.decode_at.Tie as tie
 
 shared-slice-read-b : tie.Need-shared-slice-read-b
-shared-slice-read-b c = search needs
+shared-slice-read-b c = omega arith
 
 wide-requires : tie.Need-wide-requires
 wide-requires c κs = search needs

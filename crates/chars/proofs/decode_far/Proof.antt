@@ -6,7 +6,7 @@ use Rattle.chars.proofs.decode_far.Statement.{statement}
 use Rattle.chars.proofs.decode_far.Tie as tie
 
 shared-slice-read-decode : tie.Need-shared-slice-read-decode
-shared-slice-read-decode c = search needs
+shared-slice-read-decode c = omega arith
 
 add-byte-at : tie.Need-add-byte-at
 add-byte-at c = omega arith

@@ -90,7 +90,7 @@ add-len : tie.Need-add-len Inv-characters μ-characters Inv-chunks μ-chunks
 add-len c = omega arith
 
 mul-len : tie.Need-mul-len Inv-characters μ-characters Inv-chunks μ-chunks
-mul-len c = let h : k c + 1 < length (table c) = omega (arith, whole (st c) (c .chunks-test .taken)) in search needs
+mul-len c = omega (arith, whole (st c) (c .chunks-test .taken))
 
 shared-slice-read-len :
     tie.Need-shared-slice-read-len Inv-characters μ-characters Inv-chunks μ-chunks

@@ -1,3 +1,4 @@
+use native.Mathlib.Omega.{arith}
 use Rattle.chunks.specs.Plain.{isPlain}
 use borrow.Author.Tests.{le-leb, lt-leb, eq-eqb, ne-eqb}
 use borrow.Author.Needs.{needs}
@@ -5,10 +6,10 @@ use Rattle.chunks.proofs.is_plain.Statement.{statement}
 use Rattle.chunks.proofs.is_plain.Tie as tie
 
 shared-slice-read-if2 : tie.Need-shared-slice-read-if2
-shared-slice-read-if2 c = search needs
+shared-slice-read-if2 c = omega arith
 
 shared-slice-read-if3 : tie.Need-shared-slice-read-if3
-shared-slice-read-if3 c = search needs
+shared-slice-read-if3 c = omega arith
 
 all-ascii-requires : tie.Need-all-ascii-requires
 all-ascii-requires c κs = search needs

@@ -3,7 +3,6 @@ use Rattle.chunks.proofs.Lengths.{length-on, kind-unknown, length-over,
 use mathlib.Core.List.{List}
 use lib.ListN.{length, drop}
 use Prim.Native.Nat.{_+_, _-_, _<_, ℕ, _%_, _≤_}
-use borrow.Author.Needs.{needs}
 use native.Mathlib.Omega.{arith}
 use mathlib.Core.Path.{sym, _∙_, refl, _≡_}
 use Rattle.chunks.proofs.lengths_fit.Statement.{statement}
@@ -54,7 +53,7 @@ add-len : tie.Need-add-len Inv-loop μ-loop
 add-len c = let p = c .before .before in omega (arith, whole p)
 
 mul-len : tie.Need-mul-len Inv-loop μ-loop
-mul-len c = let p = c .before .before in let h : k p + 1 < length (table p) = omega (arith, whole p) in search needs
+mul-len c = let p = c .before .before in omega (arith, whole p)
 
 shared-slice-read-len : tie.Need-shared-slice-read-len Inv-loop μ-loop
 shared-slice-read-len c = let p = c .before .before .before in omega (arith, whole p)

@@ -9,7 +9,6 @@ use mathlib.Core.Bool.{Bool}
 use mathlib.Core.List.{List}
 use lib.ListN.{length, take, drop, getD}
 use Prim.Native.Nat.{_+_, _-_, _*_, _≤_, _<_, ℕ}
-use borrow.Author.Needs.{needs}
 use native.Mathlib.Omega.{arith}
 use mathlib.Core.Path.{ap}
 use Rattle.chunks.proofs.put_list.Statement.{statement}
@@ -62,7 +61,7 @@ add-len : tie.Need-add-len Inv-loop μ-loop
 add-len c = omega arith
 
 mul-len : tie.Need-mul-len Inv-loop μ-loop
-mul-len c = let p = c .before in let h : k p + 1 < length (table p) = omega (arith, whole (st p) (p .loop-test .taken)) in search needs
+mul-len c = let p = c .before in omega (arith, whole (st p) (p .loop-test .taken))
 
 shared-slice-read-len : tie.Need-shared-slice-read-len Inv-loop μ-loop
 shared-slice-read-len c = let p = c .before .before in omega (arith, whole (st p) (p .loop-test .taken))

@@ -11,7 +11,7 @@ plain-byte-requires : tie.Need-plain-byte-requires
 plain-byte-requires c κs = search needs
 
 slice-write-buf : tie.Need-slice-write-buf
-slice-write-buf c = search needs
+slice-write-buf c = omega arith
 
 add-t11 : tie.Need-add-t11
 add-t11 c = omega arith
@@ -38,7 +38,7 @@ returns-2 c =
     rw (break-dropped (a .upper) (a .white) (a .b) k (c .if3 .taken), break-flag (a .b) k) (sym (add-zero _), refl, refl)
 
 slice-write-buf-2 : tie.Need-slice-write-buf-2
-slice-write-buf-2 c = search needs
+slice-write-buf-2 c = omega arith
 
 add-t15 : tie.Need-add-t15
 add-t15 c = omega arith
@@ -56,7 +56,7 @@ is-whitespace-requires : tie.Need-is-whitespace-requires
 is-whitespace-requires c κs = search needs
 
 slice-write-buf-3 : tie.Need-slice-write-buf-3
-slice-write-buf-3 c = search needs
+slice-write-buf-3 c = omega arith
 
 add-t17 : tie.Need-add-t17
 add-t17 c = omega arith

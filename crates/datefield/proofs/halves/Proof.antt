@@ -22,10 +22,10 @@ sub-is-open-range : tie.Need-sub-is-open-range
 sub-is-open-range c = omega arith
 
 part-is-open-range-start : tie.Need-part-is-open-range-start
-part-is-open-range-start c = search needs
+part-is-open-range-start c = omega arith
 
 part-is-open-range-end : tie.Need-part-is-open-range-end
-part-is-open-range-end c = search needs
+part-is-open-range-end c = omega arith
 
 is-open-range-requires-2 : tie.Need-is-open-range-requires-2
 is-open-range-requires-2 c κs = search needs

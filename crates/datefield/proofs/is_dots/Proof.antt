@@ -1,14 +1,14 @@
+use native.Mathlib.Omega.{arith}
 use Rattle.datefield.specs.Text.{isDots}
 use borrow.Author.Tests.{eq-eqb, ne-eqb}
-use borrow.Author.Needs.{needs}
 use Rattle.datefield.proofs.is_dots.Statement.{statement}
 use Rattle.datefield.proofs.is_dots.Tie as tie
 
 shared-slice-read-if2 : tie.Need-shared-slice-read-if2
-shared-slice-read-if2 c = search needs
+shared-slice-read-if2 c = omega arith
 
 shared-slice-read-result : tie.Need-shared-slice-read-result
-shared-slice-read-result c = search needs
+shared-slice-read-result c = omega arith
 
 returns : tie.Need-returns
 unfolding isDots

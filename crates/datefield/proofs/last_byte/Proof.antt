@@ -2,7 +2,6 @@ use native.Mathlib.Omega.{arith}
 use Rattle.datefield.proofs.Finding.{last-none}
 use Rattle.datefield.specs.Text.{lastByte}
 use mathlib.Core.Path.{refl}
-use borrow.Author.Needs.{needs}
 use Rattle.datefield.proofs.last_byte.Statement.{statement}
 use Rattle.datefield.proofs.last_byte.Tie as tie
 
@@ -13,7 +12,7 @@ sub-result : tie.Need-sub-result
 sub-result c = omega arith
 
 shared-slice-read-result : tie.Need-shared-slice-read-result
-shared-slice-read-result c = search needs
+shared-slice-read-result c = omega arith
 
 returns-2 : tie.Need-returns-2
 unfolding lastByte

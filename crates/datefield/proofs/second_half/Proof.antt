@@ -13,10 +13,10 @@ sub-parse : tie.Need-sub-parse
 sub-parse c = omega arith
 
 part-parse-start : tie.Need-part-parse-start
-part-parse-start c = search needs
+part-parse-start c = omega arith
 
 part-parse-end : tie.Need-part-parse-end
-part-parse-end c = search needs
+part-parse-end c = omega arith
 
 parse-requires : tie.Need-parse-requires
 parse-requires c κs = search needs

@@ -12,7 +12,7 @@ parse-era-marker-requires : tie.Need-parse-era-marker-requires
 parse-era-marker-requires c κs = search needs
 
 enum-known-positive : tie.Need-enum-known-positive
-enum-known-positive c = search needs
+enum-known-positive c = c .match .keys1
 
 has-sign-requires : tie.Need-has-sign-requires
 has-sign-requires c κs = search needs
@@ -65,7 +65,7 @@ before-christ-requires : tie.Need-before-christ-requires
 before-christ-requires c κs = search needs
 
 enum-known-next : tie.Need-enum-known-next
-enum-known-next c = search needs
+enum-known-next c = c .match .keys2
 
 signed-requires-2 : tie.Need-signed-requires-2
 signed-requires-2 c κs = search needs
@@ -74,7 +74,7 @@ ended-requires-2 : tie.Need-ended-requires-2
 ended-requires-2 c κs = search needs
 
 enum-known-e : tie.Need-enum-known-e
-enum-known-e c = search needs
+enum-known-e c = c .match .keys3
 
 returns-4 : tie.Need-returns-4
 unfolding behindDigits withEra pick

@@ -61,13 +61,13 @@ parse-requires : tie.Need-parse-requires
 parse-requires c κs = search needs
 
 enum-known-n : tie.Need-enum-known-n
-enum-known-n c = search needs
+enum-known-n c = c .match .keys1
 
 behind-digits-requires : tie.Need-behind-digits-requires
 behind-digits-requires c κs = let h = value-in 9999 _ (sym (c .before .before .before .parse .ensures) ∙ c .before .n .given .1) in omega arith
 
 enum-told : tie.Need-enum-told
-enum-told c = search needs
+enum-told c = c .match .keys2
 
 panics-requires-2 : tie.Need-panics-requires-2
 panics-requires-2 c κs = search needs

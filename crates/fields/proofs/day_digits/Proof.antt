@@ -14,7 +14,7 @@ parse-requires : tie.Need-parse-requires
 parse-requires c κs = search needs
 
 enum-known-d : tie.Need-enum-known-d
-enum-known-d c = search needs
+enum-known-d c = c .match .keys1
 
 is-day-requires : tie.Need-is-day-requires
 is-day-requires c κs = search needs
@@ -38,7 +38,7 @@ refuse-text-requires : tie.Need-refuse-text-requires
 refuse-text-requires c κs = search needs
 
 enum-told : tie.Need-enum-told
-enum-told c = search needs
+enum-told c = c .match .keys2
 
 panics-requires : tie.Need-panics-requires
 panics-requires c κs = search needs

@@ -15,7 +15,7 @@ parse-requires : tie.Need-parse-requires
 parse-requires c κs = search needs
 
 enum-known-d : tie.Need-enum-known-d
-enum-known-d c = search needs
+enum-known-d c = c .match .keys1
 
 is-day-requires : tie.Need-is-day-requires
 is-day-requires c κs = search needs
@@ -39,7 +39,7 @@ not-given-requires : tie.Need-not-given-requires
 not-given-requires c κs = search needs
 
 enum-told : tie.Need-enum-told
-enum-told c = search needs
+enum-told c = c .match .keys2
 
 not-given-requires-2 : tie.Need-not-given-requires-2
 not-given-requires-2 c κs = search needs

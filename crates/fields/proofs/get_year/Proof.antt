@@ -10,25 +10,25 @@ eat-if-requires : tie.Need-eat-if-requires
 eat-if-requires c κs = search needs
 
 enum-known-c : tie.Need-enum-known-c
-enum-known-c c = search needs
+enum-known-c c = c .match .keys1
 
 behind-sign-requires : tie.Need-behind-sign-requires
 behind-sign-requires c κs = search needs
 
 enum-told : tie.Need-enum-told
-enum-told c = search needs
+enum-told c = c .match .keys2
 
 eat-if-requires-2 : tie.Need-eat-if-requires-2
 eat-if-requires-2 c κs = search needs
 
 enum-known-c-2 : tie.Need-enum-known-c-2
-enum-known-c-2 c = search needs
+enum-known-c-2 c = c .match2 .keys1
 
 behind-sign-requires-2 : tie.Need-behind-sign-requires-2
 behind-sign-requires-2 c κs = search needs
 
 enum-told-2 : tie.Need-enum-told-2
-enum-told-2 c = search needs
+enum-told-2 c = c .match2 .keys2
 
 behind-sign-requires-3 : tie.Need-behind-sign-requires-3
 behind-sign-requires-3 c κs = search needs

@@ -13,7 +13,7 @@ parse-unsigned-int-requires : tie.Need-parse-unsigned-int-requires
 parse-unsigned-int-requires c κs = search needs
 
 enum-known-value : tie.Need-enum-known-value
-enum-known-value c = search needs
+enum-known-value c = c .match .keys1
 
 panics-requires : tie.Need-panics-requires
 panics-requires c κs = search needs
@@ -33,7 +33,7 @@ cast-m : tie.Need-cast-m
 cast-m c = let h = unsigned-value _ _ OneOrTwo (sym (c .before .before .before .before .parse-unsigned-int .ensures) ∙ c .before .before .value .given .1) in omega arith
 
 enum-known-next : tie.Need-enum-known-next
-enum-known-next c = search needs
+enum-known-next c = c .match .keys2
 
 eat-while-requires : tie.Need-eat-while-requires
 eat-while-requires c κs = search needs
@@ -45,7 +45,7 @@ month-for-requires : tie.Need-month-for-requires
 month-for-requires c κs = search needs
 
 enum-told : tie.Need-enum-told
-enum-told c = search needs
+enum-told c = c .match .keys3
 
 panics-requires-2 : tie.Need-panics-requires-2
 panics-requires-2 c κs = search needs

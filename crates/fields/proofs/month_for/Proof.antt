@@ -7,10 +7,10 @@ get-month-for-name-requires : tie.Need-get-month-for-name-requires
 get-month-for-name-requires c κs = search needs
 
 enum-known-m : tie.Need-enum-known-m
-enum-known-m c = search needs
+enum-known-m c = c .match .keys1
 
 enum-told : tie.Need-enum-told
-enum-told c = search needs
+enum-told c = c .match .keys2
 
 get-month-for-abbr-requires : tie.Need-get-month-for-abbr-requires
 get-month-for-abbr-requires c κs = search needs

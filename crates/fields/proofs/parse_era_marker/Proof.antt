@@ -13,13 +13,13 @@ eat-text-requires : tie.Need-eat-text-requires
 eat-text-requires c κs = search needs
 
 enum-known-e : tie.Need-enum-known-e
-enum-known-e c = search needs
+enum-known-e c = c .match .keys1
 
 era-end-requires : tie.Need-era-end-requires
 era-end-requires c κs = search needs
 
 enum-told : tie.Need-enum-told
-enum-told c = search needs
+enum-told c = c .match .keys2
 
 slice-aggregate-eat-text-2 : tie.Need-slice-aggregate-eat-text-2
 slice-aggregate-eat-text-2 c = search needs
@@ -28,13 +28,13 @@ eat-text-requires-2 : tie.Need-eat-text-requires-2
 eat-text-requires-2 c κs = search needs
 
 enum-known-e-2 : tie.Need-enum-known-e-2
-enum-known-e-2 c = search needs
+enum-known-e-2 c = c .match2 .keys1
 
 era-end-requires-2 : tie.Need-era-end-requires-2
 era-end-requires-2 c κs = search needs
 
 enum-told-2 : tie.Need-enum-told-2
-enum-told-2 c = search needs
+enum-told-2 c = c .match2 .keys2
 
 negative-era-requires : tie.Need-negative-era-requires
 negative-era-requires c κs = search needs

@@ -4,7 +4,6 @@ use Rattle.fields.specs.Year.{signed, signed}
 use mathlib.Core.Path.{sym, ap, _∙_}
 use lib.IntN.{pos, negℤ, +ℤ-idl}
 use native.Mathlib.Omega.{arith}
-use borrow.Author.Needs.{needs}
 use Rattle.fields.proofs.signed.Statement.{statement}
 use Rattle.fields.proofs.signed.Tie as tie
 
@@ -12,13 +11,13 @@ cast-year : tie.Need-cast-year
 cast-year c = omega arith
 
 enum-told : tie.Need-enum-told
-enum-told c = search needs
+enum-told c = c .match .keys1
 
 enum-told-2 : tie.Need-enum-told-2
-enum-told-2 c = search needs
+enum-told-2 c = c .match .keys2
 
 enum-told-3 : tie.Need-enum-told-3
-enum-told-3 c = search needs
+enum-told-3 c = c .match .keys3
 
 sub-result : tie.Need-sub-result
 sub-result c = taken-fits 0 (c .before .before .args .n) (omega arith)

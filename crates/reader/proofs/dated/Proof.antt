@@ -6,7 +6,7 @@ use Rattle.reader.proofs.dated.Statement.{statement}
 use Rattle.reader.proofs.dated.Tie as tie
 
 enum-known-parts : tie.Need-enum-known-parts
-enum-known-parts c = search needs
+enum-known-parts c = c .match .keys1
 
 new-requires : tie.Need-new-requires
 new-requires c κs = search needs
@@ -15,7 +15,7 @@ from-datetime-requires : tie.Need-from-datetime-requires
 from-datetime-requires c κs = search needs
 
 enum-known-parts-2 : tie.Need-enum-known-parts-2
-enum-known-parts-2 c = search needs
+enum-known-parts-2 c = c .match .keys2
 
 returns : tie.Need-returns
 unfolding dated

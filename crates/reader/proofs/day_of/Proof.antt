@@ -12,7 +12,7 @@ format-verbatim-requires : tie.Need-format-verbatim-requires
 format-verbatim-requires c κs = search needs
 
 enum-known-n : tie.Need-enum-known-n
-enum-known-n c = search needs
+enum-known-n c = c .match .keys1
 
 slice-reshare-prefix-day-field : tie.Need-slice-reshare-prefix-day-field
 slice-reshare-prefix-day-field c =
@@ -35,7 +35,7 @@ day-field-requires : tie.Need-day-field-requires
 day-field-requires c κs = search needs
 
 enum-known-e : tie.Need-enum-known-e
-enum-known-e c = search needs
+enum-known-e c = c .match .keys2
 
 same-length : tie.Need-same-length
 same-length c = search needs

@@ -7,19 +7,19 @@ month-of-requires : tie.Need-month-of-requires
 month-of-requires c κs = search needs
 
 enum-known-m : tie.Need-enum-known-m
-enum-known-m c = search needs
+enum-known-m c = c .match .keys1
 
 day-of-requires : tie.Need-day-of-requires
 day-of-requires c κs = rw (c .before .before .before .before .before .before .month-of .kept .1 .1 .0) (c .before .before .before .before .before .before .before .before .before .before .before .before .before .pre .1)
 
 enum-known-d : tie.Need-enum-known-d
-enum-known-d c = search needs
+enum-known-d c = c .match2 .keys1
 
 enum-known-e : tie.Need-enum-known-e
-enum-known-e c = search needs
+enum-known-e c = c .match2 .keys2
 
 enum-known-e-2 : tie.Need-enum-known-e-2
-enum-known-e-2 c = search needs
+enum-known-e-2 c = c .match .keys2
 
 unshifted-requires : tie.Need-unshifted-requires
 unshifted-requires c κs = search needs

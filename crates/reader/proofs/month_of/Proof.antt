@@ -13,7 +13,7 @@ format-verbatim-requires : tie.Need-format-verbatim-requires
 format-verbatim-requires c κs = search needs
 
 enum-known-n : tie.Need-enum-known-n
-enum-known-n c = search needs
+enum-known-n c = c .match .keys1
 
 slice-reshare-prefix-month-field : tie.Need-slice-reshare-prefix-month-field
 slice-reshare-prefix-month-field c =
@@ -33,7 +33,7 @@ month-field-requires : tie.Need-month-field-requires
 month-field-requires c κs = search needs
 
 enum-told : tie.Need-enum-told
-enum-told c = search needs
+enum-told c = c .match .keys2
 
 same-length : tie.Need-same-length
 same-length c = search needs

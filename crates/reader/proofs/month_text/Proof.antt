@@ -7,22 +7,22 @@ month-field-requires : tie.Need-month-field-requires
 month-field-requires c κs = search needs
 
 enum-known-month : tie.Need-enum-known-month
-enum-known-month c = search needs
+enum-known-month c = c .match .keys1
 
 day-in-month-field-requires : tie.Need-day-in-month-field-requires
 day-in-month-field-requires c κs = search needs
 
 enum-known-d : tie.Need-enum-known-d
-enum-known-d c = search needs
+enum-known-d c = c .match2 .keys1
 
 enum-known-e : tie.Need-enum-known-e
-enum-known-e c = search needs
+enum-known-e c = c .match2 .keys2
 
 unshifted-requires : tie.Need-unshifted-requires
 unshifted-requires c κs = search needs
 
 enum-known-e-2 : tie.Need-enum-known-e-2
-enum-known-e-2 c = search needs
+enum-known-e-2 c = c .match .keys2
 
 unshifted-requires-2 : tie.Need-unshifted-requires-2
 unshifted-requires-2 c κs = search needs

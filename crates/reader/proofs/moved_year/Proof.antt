@@ -6,10 +6,10 @@ use Rattle.reader.proofs.moved_year.Statement.{statement}
 use Rattle.reader.proofs.moved_year.Tie as tie
 
 enum-known-r : tie.Need-enum-known-r
-enum-known-r c = search needs
+enum-known-r c = c .match .keys1
 
 enum-known-r-2 : tie.Need-enum-known-r-2
-enum-known-r-2 c = search needs
+enum-known-r-2 c = c .match .keys2
 
 offset-requires : tie.Need-offset-requires
 offset-requires c κs = search needs

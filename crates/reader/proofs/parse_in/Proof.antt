@@ -10,7 +10,7 @@ format-uppercase-requires : tie.Need-format-uppercase-requires
 format-uppercase-requires c κs = search needs
 
 enum-known-n : tie.Need-enum-known-n
-enum-known-n c = search needs
+enum-known-n c = c .match .keys1
 
 slice-reshare-prefix-parse-text : tie.Need-slice-reshare-prefix-parse-text
 slice-reshare-prefix-parse-text c =
@@ -33,7 +33,7 @@ parse-text-requires : tie.Need-parse-text-requires
 parse-text-requires c κs = search needs
 
 enum-known-e : tie.Need-enum-known-e
-enum-known-e c = search needs
+enum-known-e c = c .match .keys2
 
 same-length : tie.Need-same-length
 same-length c = search needs

@@ -10,7 +10,7 @@ format-verbatim-requires : tie.Need-format-verbatim-requires
 format-verbatim-requires c κs = search needs
 
 enum-known-n : tie.Need-enum-known-n
-enum-known-n c = search needs
+enum-known-n c = c .match .keys1
 
 slice-reshare-prefix-match-text : tie.Need-slice-reshare-prefix-match-text
 slice-reshare-prefix-match-text c =
@@ -33,7 +33,7 @@ strictly-requires : tie.Need-strictly-requires
 strictly-requires c κs = search needs
 
 enum-known-e : tie.Need-enum-known-e
-enum-known-e c = search needs
+enum-known-e c = c .match .keys2
 
 same-length : tie.Need-same-length
 same-length c = search needs

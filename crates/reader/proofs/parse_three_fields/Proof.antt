@@ -11,7 +11,7 @@ check-fields-requires : tie.Need-check-fields-requires
 check-fields-requires c κs = search needs
 
 enum-told : tie.Need-enum-told
-enum-told c = search needs
+enum-told c = c .match .keys1
 
 slice-aggregate-read-fields : tie.Need-slice-aggregate-read-fields
 slice-aggregate-read-fields c = search needs
@@ -28,7 +28,7 @@ read-fields-requires c κs =
     )
 
 enum-known-e : tie.Need-enum-known-e
-enum-known-e c = search needs
+enum-known-e c = c .match .keys2
 
 returns : tie.Need-returns
 unfolding threeFields onClean

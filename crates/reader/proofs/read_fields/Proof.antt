@@ -9,7 +9,7 @@ year-of-requires : tie.Need-year-of-requires
 year-of-requires c κs = search needs
 
 enum-known-y : tie.Need-enum-known-y
-enum-known-y c = search needs
+enum-known-y c = c .match .keys1
 
 parts-of-requires : tie.Need-parts-of-requires
 parts-of-requires c κs = let k = c .before .before .before .before .before .before .year-of .kept .1 .1 .0 in rw k (c .before .before .before .before .before .before .before .before .before .before .before .before .before .before .before .pre .1)
@@ -18,7 +18,7 @@ dated-requires : tie.Need-dated-requires
 dated-requires c κs = search needs
 
 enum-known-e : tie.Need-enum-known-e
-enum-known-e c = search needs
+enum-known-e c = c .match .keys2
 
 same-length : tie.Need-same-length
 same-length c = search needs

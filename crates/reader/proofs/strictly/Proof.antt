@@ -4,10 +4,10 @@ use Rattle.reader.proofs.strictly.Statement.{statement}
 use Rattle.reader.proofs.strictly.Tie as tie
 
 enum-known-m : tie.Need-enum-known-m
-enum-known-m c = search needs
+enum-known-m c = c .match .keys1
 
 enum-told : tie.Need-enum-told
-enum-told c = search needs
+enum-told c = c .match .keys2
 
 refuse-requires : tie.Need-refuse-requires
 refuse-requires c κs = search needs

@@ -12,7 +12,7 @@ format-verbatim-requires : tie.Need-format-verbatim-requires
 format-verbatim-requires c κs = search needs
 
 enum-known-n : tie.Need-enum-known-n
-enum-known-n c = search needs
+enum-known-n c = c .match .keys1
 
 slice-reshare-prefix-get-year : tie.Need-slice-reshare-prefix-get-year
 slice-reshare-prefix-get-year c =
@@ -38,7 +38,7 @@ moved-year-requires : tie.Need-moved-year-requires
 moved-year-requires c κs = search needs
 
 enum-known-e : tie.Need-enum-known-e
-enum-known-e c = search needs
+enum-known-e c = c .match .keys2
 
 same-length : tie.Need-same-length
 same-length c = search needs

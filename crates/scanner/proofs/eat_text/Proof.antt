@@ -12,10 +12,10 @@ sub-begins : tie.Need-sub-begins
 sub-begins c = omega arith
 
 part-begins-start : tie.Need-part-begins-start
-part-begins-start c = search needs
+part-begins-start c = omega arith
 
 part-begins-end : tie.Need-part-begins-end
-part-begins-end c = search needs
+part-begins-end c = omega arith
 
 begins-requires : tie.Need-begins-requires
 begins-requires c κs = search needs

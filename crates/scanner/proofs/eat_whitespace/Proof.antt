@@ -1,3 +1,4 @@
+use native.Mathlib.Omega.{arith}
 use Rattle.scanner.proofs.Laws.{stop-ascii, not-white}
 use mathlib.Core.Path.{sym}
 use Rattle.scanner.specs.declared.Class.the-variants.{Whitespace}
@@ -6,7 +7,7 @@ use Rattle.scanner.proofs.eat_whitespace.Statement.{statement}
 use Rattle.scanner.proofs.eat_whitespace.Tie as tie
 
 shared-slice-read-b : tie.Need-shared-slice-read-b
-shared-slice-read-b c = search needs
+shared-slice-read-b c = omega arith
 
 returns : tie.Need-returns
 returns c = let a = c .before .before .before .before .before .args in sym (stop-ascii Whitespace (a .s .now) (a .c .0) (c .before .before .before .if1 .taken) (c .if3 .taken) (not-white _ (c .before .if2 .taken) (c .if3 .taken)))

@@ -1,3 +1,4 @@
+use native.Mathlib.Omega.{arith}
 use Rattle.chars.specs.Pick.{pick}
 use Rattle.scanner.proofs.Laws.{match-end, match-ascii}
 use mathlib.Core.Path.{sym}
@@ -6,7 +7,7 @@ use Rattle.scanner.proofs.match_len.Statement.{statement}
 use Rattle.scanner.proofs.match_len.Tie as tie
 
 shared-slice-read-b : tie.Need-shared-slice-read-b
-shared-slice-read-b c = search needs
+shared-slice-read-b c = omega arith
 
 wide-requires : tie.Need-wide-requires
 wide-requires c κs = search needs

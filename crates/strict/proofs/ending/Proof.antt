@@ -18,7 +18,7 @@ sub-if2 : tie.Need-sub-if2
 sub-if2 c = omega arith
 
 shared-slice-read-marked : tie.Need-shared-slice-read-marked
-shared-slice-read-marked c = search needs
+shared-slice-read-marked c = omega arith
 
 marked-requires : tie.Need-marked-requires
 marked-requires c κs = search needs

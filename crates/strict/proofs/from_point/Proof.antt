@@ -28,16 +28,16 @@ byte-at-requires : tie.Need-byte-at-requires
 byte-at-requires c κs = search needs
 
 add-behind-slash : tie.Need-add-behind-slash
-add-behind-slash c = let h = within-text c in search needs
+add-behind-slash c = omega (arith, within-text c)
 
 sub-behind-slash : tie.Need-sub-behind-slash
 sub-behind-slash c = let h = within-text c in omega arith
 
 part-behind-slash-start : tie.Need-part-behind-slash-start
-part-behind-slash-start c = let h = within-text c in search needs
+part-behind-slash-start c = omega (arith, within-text c)
 
 part-behind-slash-end : tie.Need-part-behind-slash-end
-part-behind-slash-end c = search needs
+part-behind-slash-end c = omega arith
 
 behind-slash-requires : tie.Need-behind-slash-requires
 behind-slash-requires c κs = search needs

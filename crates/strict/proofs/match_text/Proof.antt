@@ -37,10 +37,10 @@ sub-behind-open : tie.Need-sub-behind-open
 sub-behind-open c = let h = within-text c in omega arith
 
 part-behind-open-start : tie.Need-part-behind-open-start
-part-behind-open-start c = let h = within-text c in search needs
+part-behind-open-start c = omega (arith, within-text c)
 
 part-behind-open-end : tie.Need-part-behind-open-end
-part-behind-open-end c = search needs
+part-behind-open-end c = omega arith
 
 behind-open-requires : tie.Need-behind-open-requires
 behind-open-requires c κs = search needs

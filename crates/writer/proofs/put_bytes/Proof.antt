@@ -2,7 +2,6 @@ use Rattle.writer.proofs.Puts.{next-byte}
 use Rattle.dates.proofs.Clock.{behind}
 use mathlib.Core.List.{List}
 use native.Mathlib.Nat.{add-zero}
-use borrow.Author.Needs.{needs}
 use lib.Seq.{sets}
 use lib.ListN.{length, drop, length-set, drop-of-length-le}
 use Prim.Native.Nat.{_+_, _-_, _≤_, ℕ}
@@ -21,7 +20,7 @@ loop-holds : tie.Need-loop-holds Inv-loop μ-loop
 loop-holds c = (ap (λ (j : ℕ). sets (c .args .out .now) j (c .args .t .now)) (add-zero (c .args .at)), omega arith, refl)
 
 shared-slice-read-out : tie.Need-shared-slice-read-out Inv-loop μ-loop
-shared-slice-read-out c = search needs
+shared-slice-read-out c = omega arith
 
 add-out : tie.Need-add-out Inv-loop μ-loop
 add-out c = omega (arith, c .before .before .loop .inv .2, c .before .before .before .good)

@@ -9,10 +9,10 @@ sub-put-datetime : tie.Need-sub-put-datetime
 sub-put-datetime c = omega arith
 
 part-put-datetime-start : tie.Need-part-put-datetime-start
-part-put-datetime-start c = search needs
+part-put-datetime-start c = omega arith
 
 part-put-datetime-end : tie.Need-part-put-datetime-end
-part-put-datetime-end c = search needs
+part-put-datetime-end c = omega arith
 
 put-datetime-requires : tie.Need-put-datetime-requires
 put-datetime-requires c κs = search needs
