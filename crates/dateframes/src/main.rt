@@ -1,6 +1,6 @@
 // Reads frames from standard input, one a line in hexadecimal digits, and answers each by one line on standard output, in order.
 // Memory is constant: an input block, an output block, and what one frame needs.
-ghost use Prim.Native.Nat.{_≤_};
+ghost use Prim.Native.Nat.{_+_, _≤_};
 ghost use lib.ListN.{length};
 use libc::STDIN_FILENO;
 use libc::STDOUT_FILENO;
@@ -86,12 +86,40 @@ fn put_answer(line: &[u8], long: bool, out: &mut [u8], put: usize) -> Put {
     put_first(line, long, out, put)
 }
 
+// Whether a line feed stands among sixteen bytes. No test here decides where to go on: the compiler then takes them all at once.
+fn has_feed(s: &[u8], at: usize) -> bool
+    requires { ⌜ at + 16 ≤ length (now s) ⌝ }
+{
+    let mut any = false;
+    let mut i = 0;
+    while i < 16 {
+        any = any | (s[at + i] == 10);
+        i += 1;
+    }
+    any
+}
+
+// A place with no line feed before it, by sixteen bytes at a time.
+fn skip_blocks(s: &[u8], at: usize) -> usize
+    requires { ⌜ at ≤ length (now s) ⌝ }
+    ensures { λ r. ⌜ (at ≤ r) × (r ≤ length (now (s .entry))) ⌝ }
+{
+    let mut i = at;
+    while 16 <= s.len() - i {
+        if has_feed(s, i) {
+            return i;
+        }
+        i += 16;
+    }
+    i
+}
+
 // The place of the next line feed, or the length.
 fn line_end(s: &[u8], at: usize) -> usize
     requires { ⌜ at ≤ length (now s) ⌝ }
     ensures { λ r. ⌜ (at ≤ r) × (r ≤ length (now (s .entry))) ⌝ }
 {
-    let mut i = at;
+    let mut i = skip_blocks(s, at);
     while i < s.len() {
         if s[i] == 10 {
             return i;

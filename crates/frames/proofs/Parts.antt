@@ -1,7 +1,7 @@
 -- What was put into a buffer, as the parts of it that are lent on. Assumes nothing.
 use mathlib.Core.Path.{_≡_, refl, sym, ap, _∙_}
 use mathlib.Core.Bool.{Bool, true, false, _&&_, false≢true}
-use mathlib.Core.List.{List, [], _∷_, _++_, append-assoc}
+use mathlib.Core.List.{List, [], _∷_, _++_, append-assoc, append-nil}
 use Prim.Native.Nat.{ℕ, _+_, _-_, _*_, _%_, _≤_, _<_}
 use native.Mathlib.Omega.{arith}
 use borrow.Author.Tests.{eqb-true, leb-true, le-leb, lt-leb}
@@ -18,9 +18,9 @@ use Rattle.writer.specs.Answers.{Put}
 use Rattle.writer.proofs.Puts.{kept, both, at-front}
 use Rattle.frames.specs.declared.Operation.{Operation}
 use Rattle.frames.specs.declared.Operation.the-variants.{Ported, Strict, ThreeFields, Unknown}
-use Rattle.frames.specs.Lists.{byteAt, listEnd, listTable, listText, isFlag, hasList, optionalEnd, optionalTable, optionalText}
-use Rattle.frames.specs.Room.{Room}
-use Rattle.frames.specs.Frame.{oneFills, threeFill, monthAt, dayAt, readLists, asked, formed, readOf, badFrame, frameRead, lineRead}
+use Rattle.frames.specs.Lists.{byteAt, endOf, rowAt, tableOf, textOf, listEnd, listTable, listText, isFlag, hasList, optionalEnd, optionalTable, optionalText}
+use Rattle.frames.specs.Room.{Room, readBy, listBy, readLists}
+use Rattle.frames.specs.Frame.{oneFills, threeFill, monthAt, dayAt, asked, formed, readOf, badFrame, frameRead, lineRead}
 use Rattle.frames.proofs.Places.{end-above, text-behind, table-behind}
 
 -- a text at a place of a buffer with room for it
@@ -90,6 +90,25 @@ module _ {f text table : List ℕ} (w : Room f text table) (fills : oneFills f �
 
   pub table-is : {table' : List ℕ} {j : ℕ} → Put (listTable f 1) table 0 table' j → take j table' ≡ listTable f 1
   table-is p = first-is p table-room
+
+-- a single chunk that fills a frame stands there as it is
+pub record Single (f : List ℕ) : Type 0 where
+  pub long : 12 ≤ length f
+  pub text-there : take (length f - 12) (drop 12 f) ≡ listText f 1
+  pub row-there : rowAt f 2 ≡ listTable f 1
+
+pub single : (f : List ℕ) {n : ℕ} → oneFills f ≡ true → n ≡ byteAt f 1 → n ≡ 1 → Single f
+unfolding endOf textOf tableOf
+single f {n} fills en e1 =
+    let one : byteAt f 1 ≡ 1 = sym en ∙ e1 in
+    let ends : endOf f 2 (byteAt f 1) ≡ length f = eqb-true (listEnd f 1) (length f) fills in
+    let at : 2 + 10 + byteAt f 3 ≡ length f = rw one at ends in
+    let k : length f - 12 ≡ byteAt f 3 = omega (arith, at) in
+    record {
+      long = omega (arith, at);
+      text-there = rw (one, k) (sym (append-nil (take (byteAt f 3) (drop 12 f))));
+      row-there = rw one (sym (append-nil (rowAt f 2)));
+    }
 
 -- three lists that fill a frame
 and-both : (a b : Bool) → a && b ≡ true → (a ≡ true) × (b ≡ true)
@@ -166,6 +185,26 @@ pub one-of-strict : (f : List ℕ) → formed Strict f ≡ true → oneFills f �
 unfolding formed
 one-of-strict f e = e
 
+pub ported-of-one : (f : List ℕ) → oneFills f ≡ true → formed Ported f ≡ true
+unfolding formed
+ported-of-one f e = e
+
+pub strict-of-one : (f : List ℕ) → oneFills f ≡ true → formed Strict f ≡ true
+unfolding formed
+strict-of-one f e = e
+
+pub of-three : (f : List ℕ) → threeFill f ≡ true → formed ThreeFields f ≡ true
+unfolding formed
+of-three f e = e
+
+pub by-ported : (f : List ℕ) → listBy false f ≡ readOf Ported f
+unfolding readBy readOf
+by-ported f = refl
+
+pub by-strict : (f : List ℕ) → listBy true f ≡ readOf Strict f
+unfolding readBy readOf
+by-strict f = refl
+
 pub three-of : (f : List ℕ) → formed ThreeFields f ≡ true → threeFill f ≡ true
 unfolding formed
 three-of f e = e
@@ -183,7 +222,7 @@ abbrev isBytes : Hex → Bool
 isBytes (Bytes n) = true
 isBytes Bad = false
 
-module _ (line frame : List ℕ) {frame' text table : List ℕ} {r : Hex} (same : isHex line (length frame) ≡ isHex line 8192) (w : Room frame text table)
+module _ (line frame : List ℕ) {frame' : List ℕ} {r : Hex} (same : isHex line (length frame) ≡ isHex line 8192) (small : length frame ≤ 8192)
     (er : r ≡ decoded line (length frame)) (ef : frame' ≡ decodedInto line frame) where
   bytes-if : isHex line (length frame) ≡ isBytes r
   unfolding decoded pick
@@ -209,11 +248,11 @@ module _ (line frame : List ℕ) {frame' text table : List ℕ} {r : Hex} (same 
     unfolding decodedInto pick
     bytes-in = rw (ef, hex) (let a = length-append (bytesOf line) (drop (half line) frame) in let b = length-bytes line in omega (arith, count))
 
-    pub frame-room : Room (take n frame') text table
-    frame-room =
+    pub frame-small : length (take n frame') ≤ 8192
+    frame-small =
         let b = ap length bytes-are in
         let l = length-bytes line in
-        record { small = omega (arith, w .small, fits); for-text = omega (arith, w .for-text, fits); for-table = omega (arith, w .for-table, fits) }
+        omega (arith, small, fits)
 
     pub line-is : frameRead (take n frame') ≡ lineRead line
     unfolding lineRead pick
@@ -223,7 +262,7 @@ module _ (line frame : List ℕ) {frame' text table : List ℕ} {r : Hex} (same 
   unfolding lineRead pick
   line-bad e = rw (← same, bytes-if, e)
 
--- the two sizes of buffers
+-- the two sizes of arrays
 pub short-same : (line : List ℕ) → length line ≤ 512 → isHex line 256 ≡ isHex line 8192
 unfolding isHex
 short-same line h = rw (le-leb (half line) 256 (omega arith), le-leb (half line) 8192 (omega arith))

@@ -1,9 +1,9 @@
 -- Frames: which reader a frame asks for, whether it is one, and what is read of it.
-use Prim.Native.Nat.{ℕ, _-_}
+use Prim.Native.Nat.{ℕ}
 use mathlib.Core.Bool.{Bool, false, _&&_}
 use mathlib.Core.List.{List}
 use lib.Dec.{eqb}
-use lib.ListN.{length, take, drop}
+use lib.ListN.{length}
 use Rattle.chars.specs.Pick.{pick}
 use Rattle.refusals.specs.declared.Kind.the-variants.{BadFrame}
 use Rattle.refusals.specs.Refusal.{fileSpan, refusal}
@@ -14,7 +14,6 @@ use Rattle.reader.specs.Field.{parsed, parsedStrict}
 use Rattle.reader.specs.Fields.{threeFields}
 use Rattle.frames.specs.declared.Operation.{Operation}
 use Rattle.frames.specs.declared.Operation.the-variants.{Ported, Strict, ThreeFields, Unknown}
-use Rattle.frames.specs.declared.Unpacked.{Unpacked}
 use Rattle.frames.specs.Lists.{byteAt, listEnd, listTable, listText, isFlag, hasList, optionalEnd, optionalTable, optionalText}
 
 -- the operations by their numbers: 01 the ported reader, 02 the strict one, 03 three fields
@@ -47,13 +46,6 @@ formed Unknown f = false
 -- no frame
 abbrev pub badFrame : ReadDate
 badFrame = Refused (refusal BadFrame (fileSpan 0 0))
-
--- three lists that stand one behind the other in two buffers, by the places behind each
-unfoldable pub readLists : List ℕ → List ℕ → Bool → Bool → Unpacked → Unpacked → Unpacked → ReadDate
-readLists text table hasMonth hasDay y m d =
-    threeFields (take (y .text) text) (take (y .table) table)
-    hasMonth (take (m .text - y .text) (drop (y .text) text)) (take (m .table - y .table) (drop (y .table) table))
-    hasDay (take (d .text - m .text) (drop (m .text) text)) (take (d .table - m .table) (drop (m .table) table))
 
 -- what the reader says of the lists
 unfoldable pub readOf : Operation → List ℕ → ReadDate

@@ -8,7 +8,7 @@ ghost use Rattle.writer.specs.Answers as writing;
 ghost use Rattle.writer.specs.Answers.{Put};
 ghost use Rattle.answers.specs.Answer.{answerLine};
 ghost use Rattle.frames.specs.Lists as list;
-ghost use Rattle.frames.specs.Room.{Room};
+ghost use Rattle.frames.specs.Room.{Room, readBy, listBy, readLists};
 ghost use Rattle.frames.specs.declared.Operation.the-variants.{Ported, Strict, ThreeFields};
 ghost use Rattle.frames.specs.Frame as spec;
 use datefield::ReadDate;
@@ -139,6 +139,16 @@ fn word_at(f: &[u8], at: usize) -> u64
 }
 
 // A chunk's row of the table.
+fn row_at(f: &[u8], at: usize) -> [u64; 4]
+    requires { ⌜ at < 900000 ⌝ }
+    ensures { λ r. ⌜ r ≡ list.rowAt (now (f .entry)) at ⌝ }
+{
+    let kind = byte_at(f, at) as u64;
+    let len = byte_at(f, at + 1) as u64;
+    [kind, len, word_at(f, at + 2), word_at(f, at + 6)]
+}
+
+// The same, put into the table.
 fn put_row(f: &[u8], at: usize, table: &mut [u64], k: usize) -> usize
     requires { ⌜ (at < 900000) × (k + 4 ≤ length (now table)) ⌝ }
     ensures { λ r. ⌜ Put (list.rowAt (now (f .entry)) at) (now (table .entry)) k (now (table .exit)) r ⌝ }
@@ -253,22 +263,23 @@ fn bad_frame() -> ReadDate
     ReadDate::Refused(refusals::refuse(Kind::BadFrame, FileSpan(0, 0)))
 }
 
-// One list, by the ported reader.
-fn read_ported(f: &[u8], text: &mut [u8], table: &mut [u64]) -> ReadDate
-    requires { ⌜ Room (now f) (now text) (now table) × (spec.oneFills (now f) ≡ true) ⌝ }
-    ensures { λ r. ⌜ r ≡ spec.readOf Ported (now (f .entry)) ⌝ }
+// A list, by the strict reader or the ported one.
+fn read_by(strict: bool, bytes: &[u8], table: &[u64]) -> ReadDate
+    ensures { λ r. ⌜ r ≡ readBy strict (now (bytes .entry)) (now (table .entry)) ⌝ }
 {
-    let u = unpack_list(f, 1, text, 0, table, 0);
-    reader::parse(&text[..u.text], &table[..u.table])
+    if strict {
+        return usual::parse_strict(bytes, table);
+    }
+    usual::parse(bytes, table)
 }
 
-// One list, by the strict reader.
-fn read_strict(f: &[u8], text: &mut [u8], table: &mut [u64]) -> ReadDate
+// One list, copied into buffers.
+fn list_in(strict: bool, f: &[u8], text: &mut [u8], table: &mut [u64]) -> ReadDate
     requires { ⌜ Room (now f) (now text) (now table) × (spec.oneFills (now f) ≡ true) ⌝ }
-    ensures { λ r. ⌜ r ≡ spec.readOf Strict (now (f .entry)) ⌝ }
+    ensures { λ r. ⌜ r ≡ listBy strict (now (f .entry)) ⌝ }
 {
     let u = unpack_list(f, 1, text, 0, table, 0);
-    reader::parse_strict(&text[..u.text], &table[..u.table])
+    read_by(strict, &text[..u.text], &table[..u.table])
 }
 
 // Three lists that stand one behind the other in the two buffers: the places behind each are given.
@@ -283,7 +294,7 @@ fn read_lists(
 ) -> ReadDate
     requires { ⌜ (y .text ≤ m .text) × (m .text ≤ d .text) × (d .text ≤ length (now text)) ⌝ }
     requires { ⌜ (y .table ≤ m .table) × (m .table ≤ d .table) × (d .table ≤ length (now table)) ⌝ }
-    ensures { λ r. ⌜ r ≡ spec.readLists (now (text .entry)) (now (table .entry)) «has_month» «has_day» y m d ⌝ }
+    ensures { λ r. ⌜ r ≡ readLists (now (text .entry)) (now (table .entry)) «has_month» «has_day» y m d ⌝ }
 {
     let a = y.text;
     let b = m.text;
@@ -303,8 +314,8 @@ fn read_lists(
     )
 }
 
-// Three fields.
-fn read_three(f: &[u8], text: &mut [u8], table: &mut [u64]) -> ReadDate
+// Three fields, copied into buffers.
+fn three_in(f: &[u8], text: &mut [u8], table: &mut [u64]) -> ReadDate
     requires { ⌜ Room (now f) (now text) (now table) × (spec.threeFill (now f) ≡ true) ⌝ }
     ensures { λ r. ⌜ r ≡ spec.readOf ThreeFields (now (f .entry)) ⌝ }
 {
@@ -318,17 +329,67 @@ fn read_three(f: &[u8], text: &mut [u8], table: &mut [u64]) -> ReadDate
     read_lists(text, table, has_month, has_day, y, m, d)
 }
 
+// A frame of any size. The large arrays stand in a function with several callers, which is not compiled into them: so no short frame pays
+// for their room on the stack.
+fn read_large(op: Operation, f: &[u8]) -> ReadDate
+    requires { ⌜ (length (now f) ≤ 8192) × (spec.formed op (now f) ≡ true) ⌝ }
+    ensures { λ r. ⌜ r ≡ spec.readOf op (now (f .entry)) ⌝ }
+{
+    let mut text = [0u8; 8192];
+    let mut table = [0u64; 4096];
+    match op {
+        Operation::Ported => list_in(false, f, &mut text, &mut table),
+        Operation::Strict => list_in(true, f, &mut text, &mut table),
+        Operation::ThreeFields => three_in(f, &mut text, &mut table),
+        Operation::Unknown => bad_frame(),
+    }
+}
+
+// One list that fills a frame. A single chunk is read where it stands; the chunks of any other are put together first, those of a short frame
+// in small arrays, which cost less to clear.
+fn read_list(strict: bool, f: &[u8]) -> ReadDate
+    requires { ⌜ (length (now f) ≤ 8192) × (spec.oneFills (now f) ≡ true) ⌝ }
+    ensures { λ r. ⌜ r ≡ listBy strict (now (f .entry)) ⌝ }
+{
+    if byte_at(f, 1) == 1 {
+        let row = row_at(f, 2);
+        return read_by(strict, &f[12..], &row);
+    }
+    if f.len() <= 256 {
+        let mut text = [0u8; 256];
+        let mut table = [0u64; 128];
+        return list_in(strict, f, &mut text, &mut table);
+    }
+    if strict {
+        return read_large(Operation::Strict, f);
+    }
+    read_large(Operation::Ported, f)
+}
+
+// Three fields.
+fn read_three(f: &[u8]) -> ReadDate
+    requires { ⌜ (length (now f) ≤ 8192) × (spec.threeFill (now f) ≡ true) ⌝ }
+    ensures { λ r. ⌜ r ≡ spec.readOf ThreeFields (now (f .entry)) ⌝ }
+{
+    if f.len() <= 256 {
+        let mut text = [0u8; 256];
+        let mut table = [0u64; 128];
+        return three_in(f, &mut text, &mut table);
+    }
+    read_large(Operation::ThreeFields, f)
+}
+
 // What is read of a frame; what is none is refused before anything is read.
-fn read_frame(f: &[u8], text: &mut [u8], table: &mut [u64]) -> ReadDate
-    requires { ⌜ Room (now f) (now text) (now table) ⌝ }
+fn read_frame(f: &[u8]) -> ReadDate
+    requires { ⌜ length (now f) ≤ 8192 ⌝ }
     ensures { λ r. ⌜ r ≡ spec.frameRead (now (f .entry)) ⌝ }
 {
     let op = asked(byte_at(f, 0));
     if is_formed(op, f) {
         return match op {
-            Operation::Ported => read_ported(f, text, table),
-            Operation::Strict => read_strict(f, text, table),
-            Operation::ThreeFields => read_three(f, text, table),
+            Operation::Ported => read_list(false, f),
+            Operation::Strict => read_list(true, f),
+            Operation::ThreeFields => read_three(f),
             Operation::Unknown => bad_frame(),
         };
     }
@@ -336,31 +397,26 @@ fn read_frame(f: &[u8], text: &mut [u8], table: &mut [u64]) -> ReadDate
 }
 
 // What is read of a line, with a buffer for its bytes.
-fn read_line(line: &[u8], frame: &mut [u8], text: &mut [u8], table: &mut [u64]) -> ReadDate
-    requires { ⌜ isHex (now line) (length (now frame)) ≡ isHex (now line) 8192 ⌝ }
-    requires { ⌜ Room (now frame) (now text) (now table) ⌝ }
+fn read_line(line: &[u8], frame: &mut [u8]) -> ReadDate
+    requires { ⌜ (isHex (now line) (length (now frame)) ≡ isHex (now line) 8192) × (length (now frame) ≤ 8192) ⌝ }
     ensures { λ r. ⌜ r ≡ spec.lineRead (now (line .entry)) ⌝ }
 {
     match hexes::decode(line, frame) {
-        Hex::Bytes(n) => read_frame(&frame[..n], text, table),
+        Hex::Bytes(n) => read_frame(&frame[..n]),
         Hex::Bad => bad_frame(),
     }
 }
 
-// What is read of a line. A short one is taken apart in small arrays, which cost less to clear.
+// What is read of a line. A short one is decoded into a small array, which costs less to clear.
 pub fn read(line: &[u8]) -> ReadDate
     ensures { λ r. ⌜ r ≡ spec.lineRead (now (line .entry)) ⌝ }
 {
     if line.len() <= 512 {
         let mut frame = [0u8; 256];
-        let mut text = [0u8; 256];
-        let mut table = [0u64; 128];
-        return read_line(line, &mut frame, &mut text, &mut table);
+        return read_line(line, &mut frame);
     }
     let mut frame = [0u8; 8192];
-    let mut text = [0u8; 8192];
-    let mut table = [0u64; 4096];
-    read_line(line, &mut frame, &mut text, &mut table)
+    read_line(line, &mut frame)
 }
 
 // ---- the answer to a line

@@ -1,4 +1,4 @@
--- Hexadecimal lines: the bytes that a line of digits stands for, and the digits of a number.
+-- Hexadecimal lines: the bytes that a line of digits stands for.
 use Prim.Native.Nat.{ℕ, _+_, _-_, _*_, _/_, _%_}
 use mathlib.Core.Bool.{Bool, true, _&&_, _||_}
 use mathlib.Core.List.{List, [], _∷_, _++_}
@@ -16,7 +16,7 @@ within low high b = leb low b && leb b high
 unfoldable pub isDigit : ℕ → Bool
 isDigit b = within 0x30 0x39 b || (within 0x61 0x66 b || within 0x41 0x46 b)
 
--- the value of a digit
+-- the value of a digit; it is asked of digits only
 unfoldable pub digitOf : ℕ → ℕ
 digitOf b = pick (within 0x30 0x39 b) (b - 0x30) (pick (within 0x61 0x66 b) (b - 0x61 + 10) (b - 0x41 + 10))
 

@@ -15,8 +15,8 @@ use Rattle.chunks.proofs.Answers.{plain-as-is}
 use Rattle.chunks.proofs.Proper.{else-clean}
 use Rattle.fields.specs.Year.{getYear}
 use Rattle.reader.specs.Fields.{partsChecked, fieldsChecked, movedYear, yearOf, monthText, monthAlone}
-use Rattle.reader.specs.Readable.{Readable}
-use Rattle.reader.proofs.Entries.{large-room}
+use Rattle.reader.specs.Readable.{Readable, Small}
+use Rattle.reader.proofs.Entries.{large-room, small-room}
 
 -- a text that was formatted as it is
 pub as-is : (b table : List ℕ) {t : List ℕ} → t ≡ textOf false b table → t ≡ formatted b table
@@ -31,9 +31,12 @@ module _ (b table : List ℕ) {t : List ℕ} (e : t ≡ textOf false b table) wh
   unfolding monthAlone
   month-clean = rw (as-is b table e)
 
--- a clean list, read with the large array
+-- a clean list, read with the large array, or a short one with the small one
 pub readable : (b table : List ℕ) → checked b table ≡ Clean → Readable b table 4224
 readable b table e = record { clean = e; roomy = large-room b table }
+
+pub small-readable : (b table : List ℕ) → checked b table ≡ Clean → Small b table → Readable b table 64
+small-readable b table e h = record { clean = e; roomy = small-room b table (h .few-bytes) (h .few-chunks) }
 
 -- what a check of three lists that finds nothing says of each
 module _ (y : Checked) (hm : Bool) (m : Checked) (hd : Bool) (d : Checked) (e : fieldsChecked y hm m hd d ≡ Clean) where

@@ -7,13 +7,14 @@ ghost use lib.ListN.{length};
 ghost use Rattle.chunks.specs.Chunks.{isShort};
 ghost use Rattle.chunks.specs.Answer.{roomOf};
 ghost use Rattle.chunks.specs.Chunks.{chunksOf, spanOf};
+ghost use Rattle.chunks.specs.declared.Checked.the-variants.{Clean};
 ghost use Rattle.chunks.specs.Check.{checked};
 ghost use Rattle.chunks.specs.Format.{formatted};
 ghost use Rattle.fields.specs.Month.{monthField};
 ghost use Rattle.fields.specs.Day.{dayField};
 ghost use Rattle.reader.specs.Field as field;
 ghost use Rattle.reader.specs.Fields as fieldset;
-ghost use Rattle.reader.specs.Readable.{Readable};
+ghost use Rattle.reader.specs.Readable.{Readable, Small};
 use chunks::Checked;
 use chunks::Formatted;
 use datefield::ReadDate;
@@ -305,6 +306,79 @@ fn read_fields(
     }
 }
 
+// Whether a list is formatted into a small array.
+fn is_small(bytes: &[u8], table: &[u64]) -> bool
+    ensures { λ r. ⌜ (r ≡ true → Small (now (bytes .entry)) (now (table .entry))) ⌝ }
+{
+    if bytes.len() <= 56 {
+        return table.len() <= 16;
+    }
+    false
+}
+
+// Whether each of three lists is.
+fn are_small(
+    year: &[u8],
+    year_table: &[u64],
+    month: &[u8],
+    month_table: &[u64],
+    day: &[u8],
+    day_table: &[u64],
+) -> bool
+    ensures { λ r. ⌜ (r ≡ true → Small (now (year .entry)) (now («year_table» .entry)) × Small (now (month .entry)) (now («month_table» .entry)) × Small (now (day .entry)) (now («day_table» .entry))) ⌝ }
+{
+    if is_small(year, year_table) {
+        if is_small(month, month_table) {
+            return is_small(day, day_table);
+        }
+    }
+    false
+}
+
+// Three lists that are clean. Short ones are formatted into a small array, which costs less to clear.
+fn read_clean(
+    year: &[u8],
+    year_table: &[u64],
+    has_month: bool,
+    month: &[u8],
+    month_table: &[u64],
+    has_day: bool,
+    day: &[u8],
+    day_table: &[u64],
+) -> ReadDate
+    requires { ⌜ checked (now year) (now «year_table») ≡ Clean ⌝ }
+    requires { ⌜ («has_month» ≡ true → checked (now month) (now «month_table») ≡ Clean) ⌝ }
+    requires { ⌜ («has_month» ≡ true → «has_day» ≡ true → checked (now day) (now «day_table») ≡ Clean) ⌝ }
+    ensures { λ r. ⌜ r ≡ fieldset.readFields (now (year .entry)) (now («year_table» .entry)) «has_month» (now (month .entry)) (now («month_table» .entry)) «has_day» (now (day .entry)) (now («day_table» .entry)) ⌝ }
+{
+    if are_small(year, year_table, month, month_table, day, day_table) {
+        let mut small = [0u8; 64];
+        return read_fields(
+            year,
+            year_table,
+            has_month,
+            month,
+            month_table,
+            has_day,
+            day,
+            day_table,
+            &mut small,
+        );
+    }
+    let mut buf = [0u8; 4224];
+    read_fields(
+        year,
+        year_table,
+        has_month,
+        month,
+        month_table,
+        has_day,
+        day,
+        day_table,
+        &mut buf,
+    )
+}
+
 // The fields year, month and day. A list that is not present is not looked at, whatever is passed for it; nor is a day list without a
 // month list.
 pub fn parse_three_fields(
@@ -329,20 +403,16 @@ pub fn parse_three_fields(
         day,
         day_table,
     ) {
-        Checked::Clean => {
-            let mut buf = [0u8; 4224];
-            read_fields(
-                year,
-                year_table,
-                has_month,
-                month,
-                month_table,
-                has_day,
-                day,
-                day_table,
-                &mut buf,
-            )
-        }
+        Checked::Clean => read_clean(
+            year,
+            year_table,
+            has_month,
+            month,
+            month_table,
+            has_day,
+            day,
+            day_table,
+        ),
         Checked::Faulty(e) => ReadDate::Refused(e),
     }
 }

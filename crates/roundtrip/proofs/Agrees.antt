@@ -57,7 +57,7 @@ unknown-text (dddd-mm-XX n h (field m k)) =
     record { in-value = each-append (four-in n) (more (minus-in .in-value) (each-append (two-in (1 + m)) dash-xx)); some = omega arith; short = omega arith }
 
 -- and of any value
-value-text : {s : List ℕ} {v : DateValue} → Value Point s v → ValueText s
+pub value-text : {s : List ℕ} {v : DateValue} → Value Point s v → ValueText s
 value-text (alone p) = alone-text (point-text p)
 value-text (between p q) = between-text (point-text p) (point-text q)
 value-text (after p) = after-text (point-text p)

@@ -5,12 +5,10 @@ use Rattle.answers.proofs.bit.Tie as tie
 use Rattle.answers.proofs.bit.Reads as reads
 use Rattle.answers.proofs.bit.Lts as lts
 
--- src/lib.rt:110:9
 returns : tie.Need-returns
 unfolding bit
 returns c = simp (c .if1 .taken)
 
--- src/lib.rt:106:1
 returns-2 : tie.Need-returns-2
 unfolding bit
 returns-2 c = simp (c .if1 .left)

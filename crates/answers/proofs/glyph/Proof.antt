@@ -7,20 +7,16 @@ use Rattle.answers.proofs.glyph.Tie as tie
 use Rattle.answers.proofs.glyph.Reads as reads
 use Rattle.answers.proofs.glyph.Lts as lts
 
--- src/lib.rt:130:16
 add-result : tie.Need-add-result
 add-result c = omega arith
 
--- src/lib.rt:130:9
 returns : tie.Need-returns
 unfolding glyph pick
 returns c = simp (lt-ltb _ _ (c .if1 .taken))
 
--- src/lib.rt:132:5
 add-result-2 : tie.Need-add-result-2
 add-result-2 c = omega arith
 
--- src/lib.rt:125:1
 returns-2 : tie.Need-returns-2
 unfolding glyph pick
 returns-2 c = simp (le-ltb _ _ (c .if1 .left))

@@ -9,15 +9,12 @@ use Rattle.answers.proofs.marks.Reads as reads
 use Rattle.answers.proofs.marks.Lts as lts
 use Rattle.answers.proofs.bit.Reads as bit-reads
 
--- src/lib.rt:119:5
 bit-requires : tie.Need-bit-requires
 bit-requires c κs = search needs
 
--- src/lib.rt:119:27
 bit-requires-2 : tie.Need-bit-requires-2
 bit-requires-2 c κs = search needs
 
--- src/lib.rt:116:1
 returns : tie.Need-returns
 returns c =
     let b1 = c .before in

@@ -6,20 +6,16 @@ use Rattle.answers.proofs.month_byte.Tie as tie
 use Rattle.answers.proofs.month_byte.Reads as reads
 use Rattle.answers.proofs.month_byte.Lts as lts
 
--- src/lib.rt:56:33
 enum-told : tie.Need-enum-told
 enum-told c = search needs
 
--- src/lib.rt:57:32
 enum-known-m : tie.Need-enum-known-m
 enum-known-m c = search needs
 
--- src/lib.rt:52:1
 returns : tie.Need-returns
 unfolding monthByte
 returns c = simp (c .enum-told .given .1)
 
--- src/lib.rt:52:1
 returns-2 : tie.Need-returns-2
 unfolding monthByte
 returns-2 c =

@@ -9,11 +9,9 @@ use Rattle.answers.proofs.no_room.Reads as reads
 use Rattle.answers.proofs.no_room.Lts as lts
 use Rattle.refusals.proofs.refuse.Reads as refuse-reads
 
--- src/lib.rt:276:22
 refuse-requires : tie.Need-refuse-requires
 refuse-requires c κs = search needs
 
--- src/lib.rt:273:1
 returns : tie.Need-returns
 unfolding decided refused pick
 returns c = ap Refused (c .refuse .ensures)

@@ -7,24 +7,19 @@ use Rattle.answers.proofs.offset_bytes.Reads as reads
 use Rattle.answers.proofs.offset_bytes.Lts as lts
 use Rattle.answers.proofs.shift_bytes.Reads as shift-bytes-reads
 
--- src/lib.rt:95:35
 enum-told : tie.Need-enum-told
 enum-told c = search needs
 
--- src/lib.rt:96:34
 enum-known-o : tie.Need-enum-known-o
 enum-known-o c = search needs
 
--- src/lib.rt:96:40
 shift-bytes-requires : tie.Need-shift-bytes-requires
 shift-bytes-requires c κs = search needs
 
--- src/lib.rt:91:1
 returns : tie.Need-returns
 unfolding offsetBytes
 returns c = simp (c .enum-told .given .1)
 
--- src/lib.rt:91:1
 returns-2 : tie.Need-returns-2
 unfolding offsetBytes
 returns-2 c =

@@ -14,26 +14,21 @@ use Rattle.answers.proofs.put_ends.Reads as put-ends-reads
 use Rattle.answers.proofs.put_hex.Reads as put-hex-reads
 use Rattle.answers.proofs.shape.Reads as shape-reads
 
--- src/lib.rt:241:26
 shape-requires : tie.Need-shape-requires
 shape-requires c κs = search needs
 
--- src/lib.rt:241:36
 marks-requires : tie.Need-marks-requires
 marks-requires c κs = search needs
 
--- src/lib.rt:241:21
 slice-aggregate-put-hex : tie.Need-slice-aggregate-put-hex
 slice-aggregate-put-hex c = search needs
 
--- src/lib.rt:241:9
 put-hex-requires : tie.Need-put-hex-requires
 put-hex-requires c κs =
     let s = c .before .before .before .before .before .before in
     let l = length-accepted (s .args .d) (s .args .text .now) in
     omega (arith, s .pre, length-line (acceptedBytes (s .args .d) (s .args .text .now)), l)
 
--- src/lib.rt:242:9
 put-ends-requires : tie.Need-put-ends-requires
 put-ends-requires c κs =
     let b3 = c .before .before .before in
@@ -44,7 +39,6 @@ put-ends-requires c κs =
     let r = hex-room _ (b3 .put-hex .ensures) in
     omega (arith, s .pre, n, l, r .0, r .1)
 
--- src/lib.rt:243:9
 put-hex-requires-2 : tie.Need-put-hex-requires-2
 put-hex-requires-2 c κs =
     let b3 = c .before .before .before in
@@ -57,7 +51,6 @@ put-hex-requires-2 c κs =
     let q = hex-room _ (b3 .put-ends .ensures) in
     omega (arith, s .pre, n, l, r .0, r .1, q .0, q .1)
 
--- src/lib.rt:244:5
 end-line-requires : tie.Need-end-line-requires
 end-line-requires c κs =
     let b3 = c .before .before .before in
@@ -72,11 +65,9 @@ end-line-requires c κs =
     let p = hex-room _ (b3 .put-hex2 .ensures) in
     omega (arith, s .pre, n, l, r .0, r .1, q .0, q .1, p .0, p .1)
 
--- src/lib.rt:236:1
 same-length : tie.Need-same-length
 same-length c = search needs
 
--- src/lib.rt:236:1
 returns : tie.Need-returns
 returns c =
     let b2 = c .before .before in

@@ -17,35 +17,27 @@ use Rattle.answers.proofs.put_time.Reads as put-time-reads
 use Rattle.answers.proofs.twos.Reads as twos-reads
 use Rattle.answers.proofs.word.Reads as word-reads
 
--- src/lib.rt:193:27
 twos-requires : tie.Need-twos-requires
 twos-requires c κs = search needs
 
--- src/lib.rt:193:22
 word-requires : tie.Need-word-requires
 word-requires c κs = search needs
 
--- src/lib.rt:193:21
 slice-aggregate-put-hex : tie.Need-slice-aggregate-put-hex
 slice-aggregate-put-hex c = search needs
 
--- src/lib.rt:193:9
 put-hex-requires : tie.Need-put-hex-requires
 put-hex-requires c κs = search needs
 
--- src/lib.rt:194:23
 month-byte-requires : tie.Need-month-byte-requires
 month-byte-requires c κs = search needs
 
--- src/lib.rt:194:42
 day-byte-requires : tie.Need-day-byte-requires
 day-byte-requires c κs = search needs
 
--- src/lib.rt:194:21
 slice-aggregate-put-hex-2 : tie.Need-slice-aggregate-put-hex-2
 slice-aggregate-put-hex-2 c = search needs
 
--- src/lib.rt:194:9
 put-hex-requires-2 : tie.Need-put-hex-requires-2
 put-hex-requires-2 c κs =
     let b6 = c .before .before .before .before .before .before in
@@ -54,7 +46,6 @@ put-hex-requires-2 c κs =
     let e = ap length (b9 .word .ensures) in
     omega (arith, r .0, r .1, e)
 
--- src/lib.rt:195:5
 put-time-requires : tie.Need-put-time-requires
 put-time-requires c κs =
     let b3 = c .before .before .before in
@@ -65,11 +56,9 @@ put-time-requires c κs =
     let q = hex-room _ (b3 .put-hex2 .ensures) in
     omega (arith, r .0, r .1, e, q .0, q .1)
 
--- src/lib.rt:186:1
 same-length : tie.Need-same-length
 same-length c = search needs
 
--- src/lib.rt:186:1
 returns : tie.Need-returns
 returns c =
     let b2 = c .before .before in

@@ -9,11 +9,9 @@ use Rattle.answers.proofs.put_ends.Reads as reads
 use Rattle.answers.proofs.put_ends.Lts as lts
 use Rattle.answers.proofs.put_datetime.Reads as put-datetime-reads
 
--- src/lib.rt:204:23
 enum-known-v : tie.Need-enum-known-v
 enum-known-v c = search needs
 
--- src/lib.rt:204:29
 put-datetime-requires : tie.Need-put-datetime-requires
 put-datetime-requires c κs =
     let b2 = c .before .before in
@@ -21,11 +19,9 @@ put-datetime-requires c κs =
     let e = one-end (s .args .v) _ (ends-at (b2 .v .given .1)) in
     omega (arith, e, s .pre)
 
--- src/lib.rt:205:26
 enum-known-v-2 : tie.Need-enum-known-v-2
 enum-known-v-2 c = search needs
 
--- src/lib.rt:205:32
 put-datetime-requires-2 : tie.Need-put-datetime-requires-2
 put-datetime-requires-2 c κs =
     let b2 = c .before .before in
@@ -33,11 +29,9 @@ put-datetime-requires-2 c κs =
     let e = one-end (s .args .v) _ (ends-after (b2 .v2 .given .1)) in
     omega (arith, e, s .pre)
 
--- src/lib.rt:206:27
 enum-known-v-3 : tie.Need-enum-known-v-3
 enum-known-v-3 c = search needs
 
--- src/lib.rt:206:33
 put-datetime-requires-3 : tie.Need-put-datetime-requires-3
 put-datetime-requires-3 c κs =
     let b2 = c .before .before in
@@ -45,11 +39,9 @@ put-datetime-requires-3 c κs =
     let e = one-end (s .args .v) _ (ends-before (b2 .v3 .given .1)) in
     omega (arith, e, s .pre)
 
--- src/lib.rt:207:28
 enum-known-v-4 : tie.Need-enum-known-v-4
 enum-known-v-4 c = search needs
 
--- src/lib.rt:208:17
 put-datetime-requires-4 : tie.Need-put-datetime-requires-4
 put-datetime-requires-4 c κs =
     let b2 = c .before .before in
@@ -57,7 +49,6 @@ put-datetime-requires-4 c κs =
     let e = two-ends (s .args .v) _ _ (ends-between (b2 .v4 .given .1)) in
     omega (arith, e, s .pre)
 
--- src/lib.rt:209:13
 put-datetime-requires-5 : tie.Need-put-datetime-requires-5
 put-datetime-requires-5 c κs =
     let b3 = c .before .before .before in
@@ -68,44 +59,36 @@ put-datetime-requires-5 c κs =
     let n = length-datetime (b6 .v4 .given .0 .0) in
     omega (arith, e, s .pre, r .0, r .1, n)
 
--- src/lib.rt:199:1
 same-length : tie.Need-same-length
 same-length c = search needs
 
--- src/lib.rt:199:1
 returns : tie.Need-returns
 returns c =
     let b2 = c .before .before in
     let b5 = b2 .before .before .before in
     hex-as (ends-at (b5 .v .given .1)) (b2 .put-datetime .ensures)
 
--- src/lib.rt:199:1
 same-length-2 : tie.Need-same-length-2
 same-length-2 c = search needs
 
--- src/lib.rt:199:1
 returns-2 : tie.Need-returns-2
 returns-2 c =
     let b2 = c .before .before in
     let b5 = b2 .before .before .before in
     hex-as (ends-after (b5 .v2 .given .1)) (b2 .put-datetime2 .ensures)
 
--- src/lib.rt:199:1
 same-length-3 : tie.Need-same-length-3
 same-length-3 c = search needs
 
--- src/lib.rt:199:1
 returns-3 : tie.Need-returns-3
 returns-3 c =
     let b2 = c .before .before in
     let b5 = b2 .before .before .before in
     hex-as (ends-before (b5 .v3 .given .1)) (b2 .put-datetime3 .ensures)
 
--- src/lib.rt:199:1
 same-length-4 : tie.Need-same-length-4
 same-length-4 c = search needs
 
--- src/lib.rt:199:1
 returns-4 : tie.Need-returns-4
 returns-4 c =
     let b2 = c .before .before in

@@ -20,70 +20,55 @@ Inv-loop t out₀ at i₀ out i = (sets out (at + 2 * i) (hexText (drop i t)) �
 abbrev μ-loop : tie.MeasureT-loop
 μ-loop t out₀ at i₀ out i = length t - i
 
--- src/lib.rt:162:5
 loop-holds : tie.Need-loop-holds Inv-loop μ-loop
 loop-holds c =
     let s = c .before .before in
     let e : s .args .at + 2 * 0 ≡ s .args .at = omega arith in
     (rw e, omega arith, refl)
 
--- src/lib.rt:163:32
 shared-slice-read-high : tie.Need-shared-slice-read-high Inv-loop μ-loop
 shared-slice-read-high c = omega arith
 
--- src/lib.rt:163:27
 high-requires : tie.Need-high-requires Inv-loop μ-loop
 high-requires c κs = search needs
 
--- src/lib.rt:163:18
 mul-out : tie.Need-mul-out Inv-loop μ-loop
 mul-out c = omega arith
 
--- src/lib.rt:163:13
 add-out : tie.Need-add-out Inv-loop μ-loop
 add-out c = omega arith
 
--- src/lib.rt:163:9
 slice-write-out : tie.Need-slice-write-out Inv-loop μ-loop
 slice-write-out c =
     let b3 = c .before .before .before in
     omega (arith, b3 .loop .inv .2)
 
--- src/lib.rt:164:35
 shared-slice-read-low : tie.Need-shared-slice-read-low Inv-loop μ-loop
 shared-slice-read-low c = omega arith
 
--- src/lib.rt:164:31
 low-requires : tie.Need-low-requires Inv-loop μ-loop
 low-requires c κs = search needs
 
--- src/lib.rt:164:18
 mul-out-2 : tie.Need-mul-out-2 Inv-loop μ-loop
 mul-out-2 c = omega arith
 
--- src/lib.rt:164:13
 add-out-2 : tie.Need-add-out-2 Inv-loop μ-loop
 add-out-2 c = omega arith
 
--- src/lib.rt:164:13
 add-out-3 : tie.Need-add-out-3 Inv-loop μ-loop
 add-out-3 c = omega arith
 
--- src/lib.rt:164:9
 slice-write-out-2 : tie.Need-slice-write-out-2 Inv-loop μ-loop
 slice-write-out-2 c =
     let b5 = c .before .before .before .before .before in
     simp length-set (omega (arith, b5 .loop .inv .2))
 
--- src/lib.rt:165:9
 add-i : tie.Need-add-i Inv-loop μ-loop
 add-i c = omega arith
 
--- src/lib.rt:162:5
 loop-less : tie.Need-loop-less Inv-loop μ-loop
 loop-less c = omega arith
 
--- src/lib.rt:162:5
 loop-again : tie.Need-loop-again Inv-loop μ-loop
 loop-again c =
     let b2 = c .before .before in
@@ -92,25 +77,21 @@ loop-again c =
     let s = b5 .before .before .before in
     (rw (b2 .high .ensures, c .low .ensures) (next-digits (s .args .t .now) (b5 .loop .out) (s .args .at) (b5 .loop .i) (b4 .loop-test .taken)) ∙ b5 .loop .inv .0, omega arith, simp length-set (b5 .loop .inv .2))
 
--- src/lib.rt:167:10
 mul-result : tie.Need-mul-result Inv-loop μ-loop
 mul-result c =
     let b1 = c .before in
     omega (arith, b1 .loop .inv .1, b1 .loop .inv .2)
 
--- src/lib.rt:167:5
 add-result : tie.Need-add-result Inv-loop μ-loop
 add-result c =
     let b1 = c .before in
     omega (arith, b1 .loop .inv .1, b1 .loop .inv .2)
 
--- src/lib.rt:157:1
 same-length : tie.Need-same-length Inv-loop μ-loop
 same-length c =
     let b1 = c .before in
     b1 .loop .inv .2
 
--- src/lib.rt:157:1
 returns : tie.Need-returns Inv-loop μ-loop
 returns c =
     let b1 = c .before in

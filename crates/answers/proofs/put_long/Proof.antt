@@ -11,35 +11,27 @@ use Rattle.answers.proofs.put_long.Lts as lts
 use Rattle.answers.proofs.put_hex.Reads as put-hex-reads
 use Rattle.answers.proofs.word.Reads as word-reads
 
--- src/lib.rt:244:27
 cast-word : tie.Need-cast-word
 cast-word c = omega arith
 
--- src/lib.rt:244:22
 word-requires : tie.Need-word-requires
 word-requires c κs = search needs
 
--- src/lib.rt:244:21
 slice-aggregate-put-hex : tie.Need-slice-aggregate-put-hex
 slice-aggregate-put-hex c = search needs
 
--- src/lib.rt:244:9
 put-hex-requires : tie.Need-put-hex-requires
 put-hex-requires c κs = search needs
 
--- src/lib.rt:245:19
 cast-word-2 : tie.Need-cast-word-2
 cast-word-2 c = omega arith
 
--- src/lib.rt:245:14
 word-requires-2 : tie.Need-word-requires-2
 word-requires-2 c κs = search needs
 
--- src/lib.rt:245:13
 slice-aggregate-put-hex-2 : tie.Need-slice-aggregate-put-hex-2
 slice-aggregate-put-hex-2 c = search needs
 
--- src/lib.rt:245:5
 put-hex-requires-2 : tie.Need-put-hex-requires-2
 put-hex-requires-2 c κs =
     let b2 = c .before .before in
@@ -50,11 +42,9 @@ put-hex-requires-2 c κs =
     let g = ap length (b2 .word2 .ensures) in
     omega (arith, r .0, r .1, e, g)
 
--- src/lib.rt:240:1
 same-length : tie.Need-same-length
 same-length c = search needs
 
--- src/lib.rt:240:1
 returns : tie.Need-returns
 returns c =
     let b2 = c .before .before in

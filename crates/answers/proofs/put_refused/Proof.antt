@@ -13,19 +13,15 @@ use Rattle.answers.proofs.put_hex.Reads as put-hex-reads
 use Rattle.answers.proofs.put_long.Reads as put-long-reads
 use Rattle.refusals.proofs.number.Reads as number-reads
 
--- src/lib.rt:263:23
 number-requires : tie.Need-number-requires
 number-requires c κs = search needs
 
--- src/lib.rt:263:21
 slice-aggregate-put-hex : tie.Need-slice-aggregate-put-hex
 slice-aggregate-put-hex c = search needs
 
--- src/lib.rt:263:9
 put-hex-requires : tie.Need-put-hex-requires
 put-hex-requires c κs = search needs
 
--- src/lib.rt:264:9
 put-long-requires : tie.Need-put-long-requires
 put-long-requires c κs =
     let b3 = c .before .before .before in
@@ -33,7 +29,6 @@ put-long-requires c κs =
     let r = hex-room _ (b3 .put-hex .ensures) in
     omega (arith, s .pre, r .0, r .1)
 
--- src/lib.rt:265:9
 put-long-requires-2 : tie.Need-put-long-requires-2
 put-long-requires-2 c κs =
     let b3 = c .before .before .before in
@@ -43,7 +38,6 @@ put-long-requires-2 c κs =
     let q = hex-room _ (b3 .put-long .ensures) in
     omega (arith, s .pre, r .0, r .1, q .0, q .1)
 
--- src/lib.rt:266:5
 end-line-requires : tie.Need-end-line-requires
 end-line-requires c κs =
     let b3 = c .before .before .before in
@@ -55,11 +49,9 @@ end-line-requires c κs =
     let p = hex-room _ (b3 .put-long2 .ensures) in
     omega (arith, s .pre, r .0, r .1, q .0, q .1, p .0, p .1)
 
--- src/lib.rt:257:1
 same-length : tie.Need-same-length
 same-length c = search needs
 
--- src/lib.rt:257:1
 returns : tie.Need-returns
 returns c =
     let b2 = c .before .before in

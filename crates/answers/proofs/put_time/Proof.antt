@@ -11,39 +11,30 @@ use Rattle.answers.proofs.put_time.Lts as lts
 use Rattle.answers.proofs.offset_bytes.Reads as offset-bytes-reads
 use Rattle.answers.proofs.put_hex.Reads as put-hex-reads
 
--- src/lib.rt:176:39
 enum-told : tie.Need-enum-told
 enum-told c = search needs
 
--- src/lib.rt:176:39
 slice-aggregate-put-hex : tie.Need-slice-aggregate-put-hex
 slice-aggregate-put-hex c = search needs
 
--- src/lib.rt:176:31
 put-hex-requires : tie.Need-put-hex-requires
 put-hex-requires c κs = search needs
 
--- src/lib.rt:177:30
 enum-known-t : tie.Need-enum-known-t
 enum-known-t c = search needs
 
--- src/lib.rt:179:29
 slice-aggregate-put-hex-2 : tie.Need-slice-aggregate-put-hex-2
 slice-aggregate-put-hex-2 c = search needs
 
--- src/lib.rt:179:17
 put-hex-requires-2 : tie.Need-put-hex-requires-2
 put-hex-requires-2 c κs = search needs
 
--- src/lib.rt:180:22
 offset-bytes-requires : tie.Need-offset-bytes-requires
 offset-bytes-requires c κs = search needs
 
--- src/lib.rt:180:21
 slice-aggregate-put-hex-3 : tie.Need-slice-aggregate-put-hex-3
 slice-aggregate-put-hex-3 c = search needs
 
--- src/lib.rt:180:13
 put-hex-requires-3 : tie.Need-put-hex-requires-3
 put-hex-requires-3 c κs =
     let b2 = c .before .before in
@@ -52,22 +43,18 @@ put-hex-requires-3 c κs =
     let e = ap length (b2 .offset-bytes .ensures) ∙ length-offset _ in
     omega (arith, r .0, r .1, e)
 
--- src/lib.rt:171:1
 same-length : tie.Need-same-length
 same-length c = search needs
 
--- src/lib.rt:171:1
 returns : tie.Need-returns
 returns c =
     let b2 = c .before .before in
     let b5 = b2 .before .before .before in
     hex-as (no-time (b5 .enum-told .given .1)) (b2 .put-hex .ensures)
 
--- src/lib.rt:171:1
 same-length-2 : tie.Need-same-length-2
 same-length-2 c = search needs
 
--- src/lib.rt:171:1
 returns-2 : tie.Need-returns-2
 returns-2 c =
     let b2 = c .before .before in

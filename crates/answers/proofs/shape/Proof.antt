@@ -6,38 +6,30 @@ use Rattle.answers.proofs.shape.Tie as tie
 use Rattle.answers.proofs.shape.Reads as reads
 use Rattle.answers.proofs.shape.Lts as lts
 
--- src/lib.rt:98:29
 enum-told : tie.Need-enum-told
 enum-told c = search needs
 
--- src/lib.rt:99:32
 enum-told-2 : tie.Need-enum-told-2
 enum-told-2 c = search needs
 
--- src/lib.rt:100:33
 enum-told-3 : tie.Need-enum-told-3
 enum-told-3 c = search needs
 
--- src/lib.rt:101:37
 enum-told-4 : tie.Need-enum-told-4
 enum-told-4 c = search needs
 
--- src/lib.rt:94:1
 returns : tie.Need-returns
 unfolding shape
 returns c = simp (c .enum-told .given .1)
 
--- src/lib.rt:94:1
 returns-2 : tie.Need-returns-2
 unfolding shape
 returns-2 c = simp (c .enum-told2 .given .1)
 
--- src/lib.rt:94:1
 returns-3 : tie.Need-returns-3
 unfolding shape
 returns-3 c = simp (c .enum-told3 .given .1)
 
--- src/lib.rt:94:1
 returns-4 : tie.Need-returns-4
 unfolding shape
 returns-4 c = simp (c .enum-told4 .given .1)

@@ -6,27 +6,22 @@ use Rattle.answers.proofs.shift_bytes.Tie as tie
 use Rattle.answers.proofs.shift_bytes.Reads as reads
 use Rattle.answers.proofs.shift_bytes.Lts as lts
 
--- src/lib.rt:76:28
 enum-told : tie.Need-enum-told
 enum-told c = search needs
 
--- src/lib.rt:78:13
 enum-known-o : tie.Need-enum-known-o
 enum-known-o c = search needs
 
--- src/lib.rt:83:17
 returns : tie.Need-returns
 unfolding shiftBytes
 returns c =
     let b2 = c .before .before in
     simp (b2 .o .given .1, c .if1 .taken)
 
--- src/lib.rt:72:1
 returns-2 : tie.Need-returns-2
 unfolding shiftBytes
 returns-2 c = simp (c .enum-told .given .1)
 
--- src/lib.rt:72:1
 returns-3 : tie.Need-returns-3
 unfolding shiftBytes
 returns-3 c =

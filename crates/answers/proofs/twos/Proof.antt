@@ -10,51 +10,43 @@ use Rattle.answers.proofs.twos.Tie as tie
 use Rattle.answers.proofs.twos.Reads as reads
 use Rattle.answers.proofs.twos.Lts as lts
 
--- src/lib.rt:45:17
 cast-y : tie.Need-cast-y
 cast-y c =
     let s = c .before in
     wide-fits (s .args .year) (s .fits .year)
 
--- src/lib.rt:46:29
 sub-result : tie.Need-sub-result
 sub-result c =
     let s = c .before in
     minus-fits (s .args .year) (s .fits .year) (c .if1 .taken)
 
--- src/lib.rt:46:28
 cast-result : tie.Need-cast-result
 cast-result c =
     let s = c .before in
     rw (minus-read (s .args .year) (s .fits .year) (c .if1 .taken)) (tt, fits-abs (s .args .year) (s .fits .year))
 
--- src/lib.rt:46:28
 sub-result-2 : tie.Need-sub-result-2
 sub-result-2 c =
     let s = c .before in
     let b = below (s .args .year) (rw (toZ-ofZ w32 (s .args .year) (s .fits .year)) at (c .if1 .taken)) in
     rw (minus-read (s .args .year) (s .fits .year) (c .if1 .taken)) (omega (arith, b .0))
 
--- src/lib.rt:46:16
 sub-result-3 : tie.Need-sub-result-3
 sub-result-3 c =
     let s = c .before in
     rw (minus-read (s .args .year) (s .fits .year) (c .if1 .taken)) (let f = fits-abs (s .args .year) (s .fits .year) .fits in omega arith)
 
--- src/lib.rt:46:9
 returns : tie.Need-returns
 returns c =
     let s = c .before in
     let b = below (s .args .year) (rw (toZ-ofZ w32 (s .args .year) (s .fits .year)) at (c .if1 .taken)) in
     rw (minus-read (s .args .year) (s .fits .year) (c .if1 .taken)) (b .1)
 
--- src/lib.rt:48:5
 cast-result-2 : tie.Need-cast-result-2
 cast-result-2 c =
     let s = c .before in
     not-negative (s .args .year) (s .fits .year) (c .if1 .left)
 
--- src/lib.rt:41:1
 returns-2 : tie.Need-returns-2
 returns-2 c =
     let s = c .before in

@@ -13,31 +13,24 @@ use Rattle.answers.proofs.ends_length.Reads as ends-length-reads
 use Rattle.answers.proofs.no_room.Reads as no-room-reads
 use Rattle.answers.proofs.put_accepted.Reads as put-accepted-reads
 
--- src/lib.rt:297:29
 ends-length-requires : tie.Need-ends-length-requires
 ends-length-requires c κs = search needs
 
--- src/lib.rt:297:25
 add-if1 : tie.Need-add-if1
 add-if1 c = omega arith
 
--- src/lib.rt:297:25
 add-if1-2 : tie.Need-add-if1-2
 add-if1-2 c = omega arith
 
--- src/lib.rt:297:20
 mul-if1 : tie.Need-mul-if1
 mul-if1 c = omega arith
 
--- src/lib.rt:297:20
 add-if1-3 : tie.Need-add-if1-3
 add-if1-3 c = omega arith
 
--- src/lib.rt:298:9
 no-room-requires : tie.Need-no-room-requires
 no-room-requires c κs = search needs
 
--- src/lib.rt:298:9
 returns : tie.Need-returns
 returns c =
     let b1 = c .before in
@@ -48,7 +41,6 @@ returns c =
     let n = length-line (acceptedBytes (a .d) (a .text .now)) in
     no-line (acceptedLine (a .d) (a .text .now)) (a .out .now) (omega (arith, l, n, b2 .ends-length .ensures .0, b1 .if1 .taken)) (c .no-room .ensures)
 
--- src/lib.rt:300:19
 put-accepted-requires : tie.Need-put-accepted-requires
 put-accepted-requires c κs =
     let b1 = c .before in
@@ -59,11 +51,9 @@ put-accepted-requires c κs =
     let n = length-line (acceptedBytes (a .d) (a .text .now)) in
     omega (arith, l, n, b2 .ends-length .ensures .0, b1 .if1 .left)
 
--- src/lib.rt:291:1
 same-length : tie.Need-same-length
 same-length c = search needs
 
--- src/lib.rt:291:1
 returns-2 : tie.Need-returns-2
 returns-2 c =
     let b2 = c .before .before in

@@ -12,27 +12,21 @@ use Rattle.answers.proofs.write_answer.Lts as lts
 use Rattle.answers.proofs.write_date.Reads as write-date-reads
 use Rattle.answers.proofs.write_refused.Reads as write-refused-reads
 
--- src/lib.rt:321:28
 enum-known-r : tie.Need-enum-known-r
 enum-known-r c = search needs
 
--- src/lib.rt:321:34
 write-date-requires : tie.Need-write-date-requires
 write-date-requires c κs = search needs
 
--- src/lib.rt:322:27
 enum-known-r-2 : tie.Need-enum-known-r-2
 enum-known-r-2 c = search needs
 
--- src/lib.rt:322:33
 write-refused-requires : tie.Need-write-refused-requires
 write-refused-requires c κs = search needs
 
--- src/lib.rt:316:1
 same-length : tie.Need-same-length
 same-length c = search needs
 
--- src/lib.rt:316:1
 returns : tie.Need-returns
 returns c =
     let b2 = c .before .before in
@@ -42,11 +36,9 @@ returns c =
     let q = b2 .write-date .ensures in
     (q .0 ∙ ap (λ (x : ReadDate). answer false (answerLine x) (length (s .args .out .now))) e, q .1 ∙ ap (λ (x : ReadDate). afterwards false (answerLine x) (s .args .out .now)) e)
 
--- src/lib.rt:316:1
 same-length-2 : tie.Need-same-length-2
 same-length-2 c = search needs
 
--- src/lib.rt:316:1
 returns-2 : tie.Need-returns-2
 unfolding answerLine
 returns-2 c =

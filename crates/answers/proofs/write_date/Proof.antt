@@ -17,19 +17,15 @@ use Rattle.answers.proofs.write_accepted.Reads as write-accepted-reads
 use Rattle.answers.proofs.write_refused.Reads as write-refused-reads
 use Rattle.writer.proofs.write_date.Reads as write-date-reads
 
--- src/lib.rt:309:33
 slice-aggregate-write-date : tie.Need-slice-aggregate-write-date
 slice-aggregate-write-date c = search needs
 
--- src/lib.rt:309:11
 write-date-requires : tie.Need-write-date-requires
 write-date-requires c κs = search needs
 
--- src/lib.rt:310:23
 enum-known-n : tie.Need-enum-known-n
 enum-known-n c = search needs
 
--- src/lib.rt:310:47
 array-share-prefix-text : tie.Need-array-share-prefix-text
 array-share-prefix-text c =
     let b1 = c .before in
@@ -37,7 +33,6 @@ array-share-prefix-text c =
     let s = b4 .before .before .before in
     text-in (s .args .d) (b4 .write-date .ensures .1 .1) _ refl (b4 .write-date .ensures .0) (b4 .write-date .ensures .1 .0) (b1 .n .given .1)
 
--- src/lib.rt:310:47
 slice-aggregate-write-accepted : tie.Need-slice-aggregate-write-accepted
 slice-aggregate-write-accepted c =
     let b2 = c .before .before in
@@ -45,7 +40,6 @@ slice-aggregate-write-accepted c =
     let s = b5 .before .before .before in
     sym (length-take-le _ _ (text-in (s .args .d) (b5 .write-date .ensures .1 .1) _ refl (b5 .write-date .ensures .0) (b5 .write-date .ensures .1 .0) (b2 .n .given .1)))
 
--- src/lib.rt:310:29
 write-accepted-requires : tie.Need-write-accepted-requires
 write-accepted-requires c κs =
     let b3 = c .before .before .before in
@@ -53,19 +47,15 @@ write-accepted-requires c κs =
     let s = b6 .before .before .before in
     text-short (s .args .d) (b6 .write-date .ensures .1 .1) _ refl (b6 .write-date .ensures .0) (b6 .write-date .ensures .1 .0) (b3 .n .given .1)
 
--- src/lib.rt:311:26
 enum-known-e : tie.Need-enum-known-e
 enum-known-e c = search needs
 
--- src/lib.rt:311:32
 write-refused-requires : tie.Need-write-refused-requires
 write-refused-requires c κs = search needs
 
--- src/lib.rt:304:1
 same-length : tie.Need-same-length
 same-length c = search needs
 
--- src/lib.rt:304:1
 returns : tie.Need-returns
 returns c =
     let b2 = c .before .before in
@@ -76,11 +66,9 @@ returns c =
     let q = b2 .write-accepted .ensures in
     (q .0 ∙ ap (λ (t : List ℕ). answer false t (length (s .args .out .now))) l, q .1 ∙ ap (λ (t : List ℕ). afterwards false t (s .args .out .now)) l)
 
--- src/lib.rt:304:1
 same-length-2 : tie.Need-same-length-2
 same-length-2 c = search needs
 
--- src/lib.rt:304:1
 returns-2 : tie.Need-returns-2
 returns-2 c =
     let b2 = c .before .before in

@@ -11,11 +11,9 @@ use Rattle.answers.proofs.write_refused.Lts as lts
 use Rattle.answers.proofs.no_room.Reads as no-room-reads
 use Rattle.answers.proofs.put_refused.Reads as put-refused-reads
 
--- src/lib.rt:285:9
 no-room-requires : tie.Need-no-room-requires
 no-room-requires c κs = search needs
 
--- src/lib.rt:285:9
 returns : tie.Need-returns
 returns c =
     let s = c .before .before .before in
@@ -23,15 +21,12 @@ returns c =
     let n = length-line (refusedBytes (s .args .e)) in
     no-line (refusedLine (s .args .e)) (s .args .out .now) (omega (arith, l, n)) (c .no-room .ensures)
 
--- src/lib.rt:287:19
 put-refused-requires : tie.Need-put-refused-requires
 put-refused-requires c κs = search needs
 
--- src/lib.rt:280:1
 same-length : tie.Need-same-length
 same-length c = search needs
 
--- src/lib.rt:280:1
 returns-2 : tie.Need-returns-2
 returns-2 c =
     let b2 = c .before .before in

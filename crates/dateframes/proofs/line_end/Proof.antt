@@ -3,14 +3,15 @@ use lib.ListN.{length}
 use native.Mathlib.Omega.{arith}
 use Rattle.dateframes.proofs.line_end.Statement.{statement}
 use Rattle.dateframes.proofs.line_end.Tie as tie
-use Rattle.dateframes.proofs.line_end.Reads as reads
-use Rattle.dateframes.proofs.line_end.Lts as lts
 
 abbrev Inv-loop : tie.InvT-loop
 Inv-loop s at i₀ i = (at ≤ i) × (i ≤ length s)
 
 abbrev μ-loop : tie.MeasureT-loop
 μ-loop s at i₀ i = length s - i
+
+skip-blocks-requires : tie.Need-skip-blocks-requires Inv-loop μ-loop
+skip-blocks-requires c κs = omega arith
 
 loop-holds : tie.Need-loop-holds Inv-loop μ-loop
 loop-holds c = omega arith
@@ -39,6 +40,7 @@ line-end-spec =
     (tie.spec
     Inv-loop
     μ-loop
+    skip-blocks-requires
     loop-holds
     shared-slice-read-if1
     returns

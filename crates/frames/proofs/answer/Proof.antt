@@ -12,19 +12,15 @@ use Rattle.frames.proofs.answer.Lts as lts
 use Rattle.answers.proofs.write_answer.Reads as write-answer-reads
 use Rattle.frames.proofs.read.Reads as read-reads
 
--- src/lib.rt:373:27
 read-requires : tie.Need-read-requires
 read-requires c κs = search needs
 
--- src/lib.rt:373:5
 write-answer-requires : tie.Need-write-answer-requires
 write-answer-requires c κs = search needs
 
--- src/lib.rt:369:1
 same-length : tie.Need-same-length
 same-length c = search needs
 
--- src/lib.rt:369:1
 returns : tie.Need-returns
 returns c =
     let b2 = c .before .before in

@@ -12,19 +12,15 @@ use Rattle.frames.proofs.answer_long.Lts as lts
 use Rattle.answers.proofs.write_answer.Reads as write-answer-reads
 use Rattle.frames.proofs.bad_frame.Reads as bad-frame-reads
 
--- src/lib.rt:381:27
 bad-frame-requires : tie.Need-bad-frame-requires
 bad-frame-requires c κs = search needs
 
--- src/lib.rt:381:5
 write-answer-requires : tie.Need-write-answer-requires
 write-answer-requires c κs = search needs
 
--- src/lib.rt:377:1
 same-length : tie.Need-same-length
 same-length c = search needs
 
--- src/lib.rt:377:1
 returns : tie.Need-returns
 returns c =
     let b2 = c .before .before in

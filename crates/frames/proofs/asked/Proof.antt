@@ -6,22 +6,18 @@ use Rattle.frames.proofs.asked.Tie as tie
 use Rattle.frames.proofs.asked.Reads as reads
 use Rattle.frames.proofs.asked.Lts as lts
 
--- src/lib.rt:78:1
 returns : tie.Need-returns
 unfolding asked pick
 returns c = simp (c .match .keys1)
 
--- src/lib.rt:78:1
 returns-2 : tie.Need-returns-2
 unfolding asked pick
 returns-2 c = simp (c .match .keys2)
 
--- src/lib.rt:78:1
 returns-3 : tie.Need-returns-3
 unfolding asked pick
 returns-3 c = simp (c .match .keys3)
 
--- src/lib.rt:78:1
 returns-4 : tie.Need-returns-4
 unfolding asked pick
 returns-4 c = simp (ne-eqb _ _ (c .match .rest .1), ne-eqb _ _ (c .match .rest .0 .1), ne-eqb _ _ (c .match .rest .0 .0 .1))

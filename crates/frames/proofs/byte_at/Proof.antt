@@ -6,15 +6,12 @@ use Rattle.frames.proofs.byte_at.Tie as tie
 use Rattle.frames.proofs.byte_at.Reads as reads
 use Rattle.frames.proofs.byte_at.Lts as lts
 
--- src/lib.rt:30:16
 shared-slice-read-result : tie.Need-shared-slice-read-result
 shared-slice-read-result c = search needs
 
--- src/lib.rt:30:9
 returns : tie.Need-returns
 returns c = refl
 
--- src/lib.rt:26:1
 returns-2 : tie.Need-returns-2
 returns-2 c =
     let s = c .before in

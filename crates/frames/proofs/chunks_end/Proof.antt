@@ -16,39 +16,30 @@ Inv-loop f at n p₀ k₀ p k = (endOf f p k ≡ endOf f at n) × (p + 265 * k �
 abbrev μ-loop : tie.MeasureT-loop
 μ-loop f at n p₀ k₀ p k = k
 
--- src/lib.rt:42:5
 loop-holds : tie.Need-loop-holds Inv-loop μ-loop
 loop-holds c = (refl, omega arith, omega arith)
 
--- src/lib.rt:43:30
 add-byte-at : tie.Need-add-byte-at Inv-loop μ-loop
 add-byte-at c = search needs
 
--- src/lib.rt:43:13
 byte-at-requires : tie.Need-byte-at-requires Inv-loop μ-loop
 byte-at-requires c κs = search needs
 
--- src/lib.rt:44:19
 cast-p : tie.Need-cast-p Inv-loop μ-loop
 cast-p c = search needs
 
--- src/lib.rt:44:14
 add-p : tie.Need-add-p Inv-loop μ-loop
 add-p c = search needs
 
--- src/lib.rt:44:9
 add-p-2 : tie.Need-add-p-2 Inv-loop μ-loop
 add-p-2 c = search needs
 
--- src/lib.rt:45:9
 sub-k : tie.Need-sub-k Inv-loop μ-loop
 sub-k c = search needs
 
--- src/lib.rt:42:5
 loop-less : tie.Need-loop-less Inv-loop μ-loop
 loop-less c = omega arith
 
--- src/lib.rt:42:5
 loop-again : tie.Need-loop-again Inv-loop μ-loop
 loop-again c =
     let b1 = c .before in
@@ -57,7 +48,6 @@ loop-again c =
     let e : (b2 .loop .p + (10 + c .byte-at .result)) ≡ b2 .loop .p + 10 + c .byte-at .result = omega arith in
     (rw (e, c .byte-at .ensures) (sym (end-next (s .args .f .now) (b2 .loop .p) (b2 .loop .k) (b1 .loop-test .taken))) ∙ b2 .loop .inv .0, omega arith, omega arith)
 
--- src/lib.rt:36:1
 returns : tie.Need-returns Inv-loop μ-loop
 returns c =
     let b1 = c .before in

@@ -7,11 +7,9 @@ use Rattle.frames.proofs.has_list.Reads as reads
 use Rattle.frames.proofs.has_list.Lts as lts
 use Rattle.frames.proofs.byte_at.Reads as byte-at-reads
 
--- src/lib.rt:63:5
 byte-at-requires : tie.Need-byte-at-requires
 byte-at-requires c κs = search needs
 
--- src/lib.rt:60:1
 returns : tie.Need-returns
 unfolding hasList
 returns c = simp (← c .byte-at .ensures)

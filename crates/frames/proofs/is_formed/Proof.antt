@@ -8,56 +8,45 @@ use Rattle.frames.proofs.is_formed.Lts as lts
 use Rattle.frames.proofs.one_fills.Reads as one-fills-reads
 use Rattle.frames.proofs.three_fill.Reads as three-fill-reads
 
--- src/lib.rt:115:30
 enum-told : tie.Need-enum-told
 enum-told c = search needs
 
--- src/lib.rt:115:30
 one-fills-requires : tie.Need-one-fills-requires
 one-fills-requires c κs = search needs
 
--- src/lib.rt:116:30
 enum-told-2 : tie.Need-enum-told-2
 enum-told-2 c = search needs
 
--- src/lib.rt:116:30
 one-fills-requires-2 : tie.Need-one-fills-requires-2
 one-fills-requires-2 c κs = search needs
 
--- src/lib.rt:117:35
 enum-told-3 : tie.Need-enum-told-3
 enum-told-3 c = search needs
 
--- src/lib.rt:117:35
 three-fill-requires : tie.Need-three-fill-requires
 three-fill-requires c κs = search needs
 
--- src/lib.rt:118:31
 enum-told-4 : tie.Need-enum-told-4
 enum-told-4 c = search needs
 
--- src/lib.rt:111:1
 returns : tie.Need-returns
 unfolding formed
 returns c =
     let b1 = c .before in
     simp (b1 .enum-told .given .1, ← c .one-fills .ensures)
 
--- src/lib.rt:111:1
 returns-2 : tie.Need-returns-2
 unfolding formed
 returns-2 c =
     let b1 = c .before in
     simp (b1 .enum-told2 .given .1, ← c .one-fills2 .ensures)
 
--- src/lib.rt:111:1
 returns-3 : tie.Need-returns-3
 unfolding formed
 returns-3 c =
     let b1 = c .before in
     simp (b1 .enum-told3 .given .1, ← c .three-fill .ensures)
 
--- src/lib.rt:111:1
 returns-4 : tie.Need-returns-4
 unfolding formed
 returns-4 c = simp (c .enum-told4 .given .1)

@@ -10,23 +10,18 @@ use Rattle.frames.proofs.list_end.Lts as lts
 use Rattle.frames.proofs.byte_at.Reads as byte-at-reads
 use Rattle.frames.proofs.chunks_end.Reads as chunks-end-reads
 
--- src/lib.rt:55:9
 byte-at-requires : tie.Need-byte-at-requires
 byte-at-requires c κs = search needs
 
--- src/lib.rt:56:19
 add-chunks-end : tie.Need-add-chunks-end
 add-chunks-end c = search needs
 
--- src/lib.rt:56:27
 cast-chunks-end : tie.Need-cast-chunks-end
 cast-chunks-end c = search needs
 
--- src/lib.rt:56:5
 chunks-end-requires : tie.Need-chunks-end-requires
 chunks-end-requires c κs = search needs
 
--- src/lib.rt:51:1
 returns : tie.Need-returns
 returns c =
     let b1 = c .before in

@@ -9,11 +9,9 @@ use Rattle.frames.proofs.one_fills.Reads as reads
 use Rattle.frames.proofs.one_fills.Lts as lts
 use Rattle.frames.proofs.list_end.Reads as list-end-reads
 
--- src/lib.rt:93:5
 list-end-requires : tie.Need-list-end-requires
 list-end-requires c κs = search needs
 
--- src/lib.rt:90:1
 returns : tie.Need-returns
 returns c =
     let s = c .before .before in

@@ -10,19 +10,15 @@ use Rattle.frames.proofs.optional_end.Lts as lts
 use Rattle.frames.proofs.has_list.Reads as has-list-reads
 use Rattle.frames.proofs.list_end.Reads as list-end-reads
 
--- src/lib.rt:71:8
 has-list-requires : tie.Need-has-list-requires
 has-list-requires c κs = search needs
 
--- src/lib.rt:72:28
 add-list-end : tie.Need-add-list-end
 add-list-end c = search needs
 
--- src/lib.rt:72:9
 list-end-requires : tie.Need-list-end-requires
 list-end-requires c κs = search needs
 
--- src/lib.rt:72:9
 returns : tie.Need-returns
 unfolding optionalEnd pick
 returns c =
@@ -31,11 +27,9 @@ returns c =
     let q = c .list-end .ensures in
     (simp (← b2 .has-list .ensures, b1 .if1 .taken, ← q .0), omega (arith, q .1))
 
--- src/lib.rt:74:5
 add-result : tie.Need-add-result
 add-result c = search needs
 
--- src/lib.rt:67:1
 returns-2 : tie.Need-returns-2
 unfolding optionalEnd pick
 returns-2 c =

@@ -19,56 +19,45 @@ Inv-loop f from n text₀ m i₀ text i = (sets text (m + i) (partAt f (from + i
 abbrev μ-loop : tie.MeasureT-loop
 μ-loop f from n text₀ m i₀ text i = n - i
 
--- src/lib.rt:170:5
 loop-holds : tie.Need-loop-holds Inv-loop μ-loop
 loop-holds c =
     let e : c .args .n - 0 ≡ c .args .n = omega arith in
     (rw (add-zero (c .args .m), add-zero (c .args .from)) (ap (λ (x : ℕ). sets (c .args .text .now) (c .args .m) (partAt (c .args .f .now) (c .args .from) x)) e), omega arith, refl)
 
--- src/lib.rt:171:25
 add-text : tie.Need-add-text Inv-loop μ-loop
 add-text c = search needs
 
--- src/lib.rt:171:23
 shared-slice-read-text : tie.Need-shared-slice-read-text Inv-loop μ-loop
 shared-slice-read-text c = search needs
 
--- src/lib.rt:171:14
 add-text-2 : tie.Need-add-text-2 Inv-loop μ-loop
 add-text-2 c = search needs
 
--- src/lib.rt:171:9
 slice-write-text : tie.Need-slice-write-text Inv-loop μ-loop
 slice-write-text c =
     let b2 = c .before .before in
     omega (arith, b2 .loop .inv .2)
 
--- src/lib.rt:172:9
 add-i : tie.Need-add-i Inv-loop μ-loop
 add-i c = search needs
 
--- src/lib.rt:170:5
 loop-less : tie.Need-loop-less Inv-loop μ-loop
 loop-less c = omega arith
 
--- src/lib.rt:170:5
 loop-again : tie.Need-loop-again Inv-loop μ-loop
 loop-again c =
     let b2 = c .before .before in
     let s = b2 .before in
     (next-byte (s .args .f .now) (b2 .loop .text) (s .args .from) (s .args .n) (s .args .m) (b2 .loop .i) (s .pre .0) (omega arith) ∙ b2 .loop .inv .0, omega arith, length-set (b2 .loop .text) _ _ ∙ b2 .loop .inv .2)
 
--- src/lib.rt:174:5
 add-result : tie.Need-add-result Inv-loop μ-loop
 add-result c = search needs
 
--- src/lib.rt:165:1
 same-length : tie.Need-same-length Inv-loop μ-loop
 same-length c =
     let b1 = c .before in
     b1 .loop .inv .2
 
--- src/lib.rt:165:1
 returns : tie.Need-returns Inv-loop μ-loop
 returns c =
     let b1 = c .before in

@@ -12,95 +12,72 @@ use Rattle.frames.proofs.put_row.Lts as lts
 use Rattle.frames.proofs.byte_at.Reads as byte-at-reads
 use Rattle.frames.proofs.word_at.Reads as word-at-reads
 
--- src/lib.rt:141:16
 byte-at-requires : tie.Need-byte-at-requires
 byte-at-requires c κs = search needs
 
--- src/lib.rt:141:16
 cast-table : tie.Need-cast-table
 cast-table c = search needs
 
--- src/lib.rt:141:5
 mul-table : tie.Need-mul-table
 mul-table c = search needs
 
--- src/lib.rt:141:5
 slice-write-table : tie.Need-slice-write-table
 slice-write-table c = search needs
 
--- src/lib.rt:142:31
 add-byte-at : tie.Need-add-byte-at
 add-byte-at c = search needs
 
--- src/lib.rt:142:20
 byte-at-requires-2 : tie.Need-byte-at-requires-2
 byte-at-requires-2 c κs = search needs
 
--- src/lib.rt:142:20
 cast-table-2 : tie.Need-cast-table-2
 cast-table-2 c = search needs
 
--- src/lib.rt:142:11
 add-table : tie.Need-add-table
 add-table c = search needs
 
--- src/lib.rt:142:5
 mul-table-2 : tie.Need-mul-table-2
 mul-table-2 c = search needs
 
--- src/lib.rt:142:5
 slice-write-table-2 : tie.Need-slice-write-table-2
 slice-write-table-2 c = simp length-set (omega arith)
 
--- src/lib.rt:143:31
 add-word-at : tie.Need-add-word-at
 add-word-at c = search needs
 
--- src/lib.rt:143:20
 word-at-requires : tie.Need-word-at-requires
 word-at-requires c κs = search needs
 
--- src/lib.rt:143:11
 add-table-2 : tie.Need-add-table-2
 add-table-2 c = search needs
 
--- src/lib.rt:143:5
 mul-table-3 : tie.Need-mul-table-3
 mul-table-3 c = search needs
 
--- src/lib.rt:143:5
 slice-write-table-3 : tie.Need-slice-write-table-3
 slice-write-table-3 c = simp length-set (omega arith)
 
--- src/lib.rt:144:31
 add-word-at-2 : tie.Need-add-word-at-2
 add-word-at-2 c = search needs
 
--- src/lib.rt:144:20
 word-at-requires-2 : tie.Need-word-at-requires-2
 word-at-requires-2 c κs = search needs
 
--- src/lib.rt:144:11
 add-table-3 : tie.Need-add-table-3
 add-table-3 c = search needs
 
--- src/lib.rt:144:5
 mul-table-4 : tie.Need-mul-table-4
 mul-table-4 c = search needs
 
--- src/lib.rt:144:5
 slice-write-table-4 : tie.Need-slice-write-table-4
 slice-write-table-4 c = simp length-set (omega arith)
 
--- src/lib.rt:145:5
 add-result : tie.Need-add-result
 add-result c = search needs
 
--- src/lib.rt:137:1
 same-length : tie.Need-same-length
 same-length c = search needs
 
--- src/lib.rt:137:1
 returns : tie.Need-returns
 unfolding rowAt
 returns c =

@@ -21,11 +21,9 @@ Inv-loop f at n table₀ k p₀ left₀ j₀ table p left j = (sets table j (tab
 abbrev μ-loop : tie.MeasureT-loop
 μ-loop f at n table₀ k p₀ left₀ j₀ table p left j = left
 
--- src/lib.rt:156:5
 loop-holds : tie.Need-loop-holds Inv-loop μ-loop
 loop-holds c = (refl, refl, refl, refl)
 
--- src/lib.rt:157:9
 put-row-requires : tie.Need-put-row-requires Inv-loop μ-loop
 put-row-requires c κs =
     let b2 = c .before .before in
@@ -33,7 +31,6 @@ put-row-requires c κs =
     let a = end-above (s .args .f .now) (b2 .loop .p) (b2 .loop .left) in
     (omega (arith, a, b2 .loop .inv .1), omega (arith, b2 .loop .inv .2, b2 .loop .inv .3))
 
--- src/lib.rt:158:30
 add-byte-at : tie.Need-add-byte-at Inv-loop μ-loop
 add-byte-at c =
     let b5 = c .before .before .before .before .before in
@@ -41,19 +38,15 @@ add-byte-at c =
     let a = end-above (s .args .f .now) (b5 .loop .p) (b5 .loop .left) in
     omega (arith, a, b5 .loop .inv .1)
 
--- src/lib.rt:158:19
 byte-at-requires : tie.Need-byte-at-requires Inv-loop μ-loop
 byte-at-requires c κs = search needs
 
--- src/lib.rt:158:19
 cast-p : tie.Need-cast-p Inv-loop μ-loop
 cast-p c = search needs
 
--- src/lib.rt:158:14
 add-p : tie.Need-add-p Inv-loop μ-loop
 add-p c = search needs
 
--- src/lib.rt:158:9
 add-p-2 : tie.Need-add-p-2 Inv-loop μ-loop
 add-p-2 c =
     let b6 = c .before .before .before .before .before .before in
@@ -61,15 +54,12 @@ add-p-2 c =
     let a = end-above (s .args .f .now) (b6 .loop .p) (b6 .loop .left) in
     omega (arith, a, b6 .loop .inv .1)
 
--- src/lib.rt:159:9
 sub-left : tie.Need-sub-left Inv-loop μ-loop
 sub-left c = search needs
 
--- src/lib.rt:156:5
 loop-less : tie.Need-loop-less Inv-loop μ-loop
 loop-less c = omega arith
 
--- src/lib.rt:156:5
 loop-again : tie.Need-loop-again Inv-loop μ-loop
 loop-again c =
     let b3 = c .before .before .before in
@@ -85,13 +75,11 @@ loop-again c =
       kept q ∙ b6 .loop .inv .3,
     )
 
--- src/lib.rt:149:1
 same-length : tie.Need-same-length Inv-loop μ-loop
 same-length c =
     let b1 = c .before in
     b1 .loop .inv .3
 
--- src/lib.rt:149:1
 returns : tie.Need-returns Inv-loop μ-loop
 returns c =
     let b1 = c .before in

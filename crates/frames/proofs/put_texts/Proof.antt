@@ -21,11 +21,9 @@ Inv-loop f at n text₀ m p₀ left₀ j₀ text p left j = (sets text j (textOf
 abbrev μ-loop : tie.MeasureT-loop
 μ-loop f at n text₀ m p₀ left₀ j₀ text p left j = left
 
--- src/lib.rt:185:5
 loop-holds : tie.Need-loop-holds Inv-loop μ-loop
 loop-holds c = (refl, refl, omega arith, refl, refl)
 
--- src/lib.rt:186:30
 add-byte-at : tie.Need-add-byte-at Inv-loop μ-loop
 add-byte-at c =
     let b1 = c .before in
@@ -33,15 +31,12 @@ add-byte-at c =
     let a = chunk-inside (s .args .f .now) (b1 .loop .p) (b1 .loop .left) (c .loop-test .taken) in
     omega (arith, a, b1 .loop .inv .1)
 
--- src/lib.rt:186:19
 byte-at-requires : tie.Need-byte-at-requires Inv-loop μ-loop
 byte-at-requires c κs = search needs
 
--- src/lib.rt:186:19
 cast-len : tie.Need-cast-len Inv-loop μ-loop
 cast-len c = search needs
 
--- src/lib.rt:187:25
 add-put-part : tie.Need-add-put-part Inv-loop μ-loop
 add-put-part c =
     let b1 = c .before in
@@ -50,7 +45,6 @@ add-put-part c =
     let a = chunk-inside (s .args .f .now) (b2 .loop .p) (b2 .loop .left) (b1 .loop-test .taken) in
     omega (arith, a, b2 .loop .inv .1)
 
--- src/lib.rt:187:9
 put-part-requires : tie.Need-put-part-requires Inv-loop μ-loop
 put-part-requires c κs =
     let b1 = c .before in
@@ -60,11 +54,9 @@ put-part-requires c κs =
     let a = chunk-inside (s .args .f .now) (b3 .loop .p) (b3 .loop .left) (b2 .loop-test .taken) in
     (omega (arith, a, b3 .loop .inv .1, b1 .byte-at .ensures), omega (arith, a, b3 .loop .inv .1, b3 .loop .inv .2, b3 .loop .inv .4, b1 .byte-at .ensures))
 
--- src/lib.rt:188:14
 add-p : tie.Need-add-p Inv-loop μ-loop
 add-p c = search needs
 
--- src/lib.rt:188:9
 add-p-2 : tie.Need-add-p-2 Inv-loop μ-loop
 add-p-2 c =
     let b4 = c .before .before .before .before in
@@ -74,15 +66,12 @@ add-p-2 c =
     let a = chunk-inside (s .args .f .now) (b6 .loop .p) (b6 .loop .left) (b5 .loop-test .taken) in
     omega (arith, a, b6 .loop .inv .1, b4 .byte-at .ensures)
 
--- src/lib.rt:189:9
 sub-left : tie.Need-sub-left Inv-loop μ-loop
 sub-left c = search needs
 
--- src/lib.rt:185:5
 loop-less : tie.Need-loop-less Inv-loop μ-loop
 loop-less c = omega arith
 
--- src/lib.rt:185:5
 loop-again : tie.Need-loop-again Inv-loop μ-loop
 loop-again c =
     let b2 = c .before .before in
@@ -104,13 +93,11 @@ loop-again c =
       kept q ∙ l .inv .4,
     )
 
--- src/lib.rt:178:1
 same-length : tie.Need-same-length Inv-loop μ-loop
 same-length c =
     let b1 = c .before in
     b1 .loop .inv .4
 
--- src/lib.rt:178:1
 returns : tie.Need-returns Inv-loop μ-loop
 returns c =
     let b1 = c .before in

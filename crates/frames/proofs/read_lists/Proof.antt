@@ -1,7 +1,7 @@
 use mathlib.Core.Path.{_≡_, refl, sym, ap, _∙_}
 use native.Mathlib.Omega.{arith}
 use lib.Seq.{length-take-le}
-use Rattle.frames.specs.Frame.{readLists}
+use Rattle.frames.specs.Room.{readLists}
 use borrow.Author.Needs.{needs}
 use Rattle.frames.proofs.read_lists.Statement.{statement}
 use Rattle.frames.proofs.read_lists.Tie as tie
@@ -9,79 +9,61 @@ use Rattle.frames.proofs.read_lists.Reads as reads
 use Rattle.frames.proofs.read_lists.Lts as lts
 use Rattle.reader.proofs.parse_three_fields.Reads as parse-three-fields-reads
 
--- src/lib.rt:270:9
 slice-aggregate-parse-three-fields : tie.Need-slice-aggregate-parse-three-fields
 slice-aggregate-parse-three-fields c =
     let s = c .before .before .before in
     sym (length-take-le _ _ (omega (arith, s .pre .0)))
 
--- src/lib.rt:271:9
 slice-aggregate-parse-three-fields-2 : tie.Need-slice-aggregate-parse-three-fields-2
 slice-aggregate-parse-three-fields-2 c =
     let s = c .before .before .before .before in
     sym (length-take-le _ _ (omega (arith, s .pre .1)))
 
--- src/lib.rt:273:9
 sub-parse-three-fields : tie.Need-sub-parse-three-fields
 sub-parse-three-fields c = search needs
 
--- src/lib.rt:273:9
 part-parse-three-fields-start : tie.Need-part-parse-three-fields-start
 part-parse-three-fields-start c = search needs
 
--- src/lib.rt:273:9
 part-parse-three-fields-end : tie.Need-part-parse-three-fields-end
 part-parse-three-fields-end c = search needs
 
--- src/lib.rt:274:9
 mul-parse-three-fields : tie.Need-mul-parse-three-fields
 mul-parse-three-fields c = search needs
 
--- src/lib.rt:274:9
 sub-parse-three-fields-2 : tie.Need-sub-parse-three-fields-2
 sub-parse-three-fields-2 c = search needs
 
--- src/lib.rt:274:9
 part-parse-three-fields-start-2 : tie.Need-part-parse-three-fields-start-2
 part-parse-three-fields-start-2 c = search needs
 
--- src/lib.rt:274:9
 part-parse-three-fields-end-2 : tie.Need-part-parse-three-fields-end-2
 part-parse-three-fields-end-2 c = search needs
 
--- src/lib.rt:276:9
 sub-parse-three-fields-3 : tie.Need-sub-parse-three-fields-3
 sub-parse-three-fields-3 c = search needs
 
--- src/lib.rt:276:9
 part-parse-three-fields-start-3 : tie.Need-part-parse-three-fields-start-3
 part-parse-three-fields-start-3 c = search needs
 
--- src/lib.rt:276:9
 part-parse-three-fields-end-3 : tie.Need-part-parse-three-fields-end-3
 part-parse-three-fields-end-3 c = search needs
 
--- src/lib.rt:277:9
 mul-parse-three-fields-2 : tie.Need-mul-parse-three-fields-2
 mul-parse-three-fields-2 c = search needs
 
--- src/lib.rt:277:9
 sub-parse-three-fields-4 : tie.Need-sub-parse-three-fields-4
 sub-parse-three-fields-4 c = search needs
 
--- src/lib.rt:277:9
 part-parse-three-fields-start-4 : tie.Need-part-parse-three-fields-start-4
 part-parse-three-fields-start-4 c = search needs
 
--- src/lib.rt:277:9
 part-parse-three-fields-end-4 : tie.Need-part-parse-three-fields-end-4
 part-parse-three-fields-end-4 c = search needs
 
--- src/lib.rt:269:5
 parse-three-fields-requires : tie.Need-parse-three-fields-requires
 parse-three-fields-requires c κs = search needs
 
--- src/lib.rt:258:1
 returns : tie.Need-returns
 unfolding readLists
 returns c = c .parse-three-fields .ensures

@@ -12,30 +12,24 @@ use Rattle.frames.proofs.byte_at.Reads as byte-at-reads
 use Rattle.frames.proofs.list_end.Reads as list-end-reads
 use Rattle.frames.proofs.optional_end.Reads as optional-end-reads
 
--- src/lib.rt:100:9
 list-end-requires : tie.Need-list-end-requires
 list-end-requires c κs = search needs
 
--- src/lib.rt:101:9
 optional-end-requires : tie.Need-optional-end-requires
 optional-end-requires c κs = omega (arith, c .list-end .ensures .1)
 
--- src/lib.rt:102:8
 byte-at-requires : tie.Need-byte-at-requires
 byte-at-requires c κs = search needs
 
--- src/lib.rt:103:12
 byte-at-requires-2 : tie.Need-byte-at-requires-2
 byte-at-requires-2 c κs = search needs
 
--- src/lib.rt:104:20
 optional-end-requires-2 : tie.Need-optional-end-requires-2
 optional-end-requires-2 c κs =
     let b4 = c .before .before .before .before in
     let b5 = b4 .before in
     omega (arith, b5 .list-end .ensures .1, b4 .optional-end .ensures .1)
 
--- src/lib.rt:104:13
 returns : tie.Need-returns
 unfolding threeFill isFlag
 returns c =
@@ -49,7 +43,6 @@ returns c =
     let d = b5 .optional-end .ensures .0 in
     simp (← m, ← d, ← b4 .byte-at .ensures, ← b2 .byte-at2 .ensures, le-leb _ _ (b3 .if1 .taken), le-leb _ _ (b1 .if2 .taken), ← c .optional-end2 .ensures .0)
 
--- src/lib.rt:97:1
 returns-2 : tie.Need-returns-2
 unfolding threeFill isFlag
 returns-2 c =
@@ -62,7 +55,6 @@ returns-2 c =
     let d = b4 .optional-end .ensures .0 in
     simp (← m, ← d, ← b3 .byte-at .ensures, ← b1 .byte-at2 .ensures, le-leb _ _ (b2 .if1 .taken), lt-leb _ _ (c .if2 .left))
 
--- src/lib.rt:97:1
 returns-3 : tie.Need-returns-3
 unfolding threeFill isFlag
 returns-3 c =

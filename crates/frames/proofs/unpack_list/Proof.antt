@@ -13,36 +13,30 @@ use Rattle.frames.proofs.byte_at.Reads as byte-at-reads
 use Rattle.frames.proofs.put_rows.Reads as put-rows-reads
 use Rattle.frames.proofs.put_texts.Reads as put-texts-reads
 
--- src/lib.rt:208:13
 byte-at-requires : tie.Need-byte-at-requires
 byte-at-requires c κs = search needs
 
--- src/lib.rt:208:13
 cast-n : tie.Need-cast-n
 cast-n c = search needs
 
--- src/lib.rt:209:26
 add-put-texts : tie.Need-add-put-texts
 add-put-texts c =
     let s = c .before .before .before .before in
     let l = list-starts (s .pre .0) (s .args .at) (s .args .m) (s .args .k) (s .pre .1) (s .pre .2) (s .pre .3) in
     omega arith
 
--- src/lib.rt:209:9
 put-texts-requires : tie.Need-put-texts-requires
 put-texts-requires c κs =
     let b1 = c .before in
     let s = b1 .before .before .before .before in
     (rw (b1 .byte-at .ensures) (s .pre .1), s .pre .0 .for-text, omega (arith, s .pre .2))
 
--- src/lib.rt:212:28
 add-put-rows : tie.Need-add-put-rows
 add-put-rows c =
     let s = c .before .before .before .before .before .before .before .before in
     let l = list-starts (s .pre .0) (s .args .at) (s .args .m) (s .args .k) (s .pre .1) (s .pre .2) (s .pre .3) in
     omega arith
 
--- src/lib.rt:212:16
 put-rows-requires : tie.Need-put-rows-requires
 put-rows-requires c κs =
     let b5 = c .before .before .before .before .before in
@@ -50,15 +44,12 @@ put-rows-requires c κs =
     let r = rows-fit (s .pre .0) (s .args .at) (s .args .m) (s .args .k) (s .pre .1) (s .pre .2) (s .pre .3) in
     (rw (b5 .byte-at .ensures) (omega (arith, s .pre .1, s .pre .0 .small)), rw (b5 .byte-at .ensures) r)
 
--- src/lib.rt:202:1
 same-length : tie.Need-same-length
 same-length c = search needs
 
--- src/lib.rt:202:1
 same-length-2 : tie.Need-same-length-2
 same-length-2 c = search needs
 
--- src/lib.rt:202:1
 returns : tie.Need-returns
 returns c =
     let b2 = c .before .before in

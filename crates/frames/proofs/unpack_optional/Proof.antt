@@ -10,11 +10,9 @@ use Rattle.frames.proofs.unpack_optional.Lts as lts
 use Rattle.frames.proofs.has_list.Reads as has-list-reads
 use Rattle.frames.proofs.unpack_list.Reads as unpack-list-reads
 
--- src/lib.rt:223:8
 has-list-requires : tie.Need-has-list-requires
 has-list-requires c κs = search needs
 
--- src/lib.rt:224:31
 add-unpack-list : tie.Need-add-unpack-list
 add-unpack-list c =
     let b1 = c .before in
@@ -23,7 +21,6 @@ add-unpack-list c =
     let l = list-starts (s .pre .0) (s .args .at + 1) (s .args .m) (s .args .k) (omega (arith, i, s .pre .1)) (omega (arith, s .pre .2)) (omega (arith, s .pre .3)) in
     omega arith
 
--- src/lib.rt:224:9
 unpack-list-requires : tie.Need-unpack-list-requires
 unpack-list-requires c κs =
     let b2 = c .before .before in
@@ -32,15 +29,12 @@ unpack-list-requires c κs =
     let i = present (s .args .f .now) (s .args .at) (sym (b3 .has-list .ensures) ∙ b2 .if1 .taken) in
     (s .pre .0, omega (arith, i, s .pre .1), omega (arith, s .pre .2), omega (arith, s .pre .3))
 
--- src/lib.rt:224:9
 same-length : tie.Need-same-length
 same-length c = search needs
 
--- src/lib.rt:224:9
 same-length-2 : tie.Need-same-length-2
 same-length-2 c = search needs
 
--- src/lib.rt:224:9
 returns : tie.Need-returns
 returns c =
     let b4 = c .before .before .before .before in
@@ -49,7 +43,6 @@ returns c =
     let s = b8 .before .before .before .before in
     present-puts (s .args .f .now) (s .args .at) (sym (b8 .has-list .ensures) ∙ b7 .if1 .taken) (b4 .unpack-list .ensures .0) (b4 .unpack-list .ensures .1 .0) (b4 .unpack-list .ensures .1 .1 .0) (b4 .unpack-list .ensures .1 .1 .1)
 
--- src/lib.rt:217:1
 returns-2 : tie.Need-returns-2
 returns-2 c =
     let b1 = c .before in

@@ -7,75 +7,57 @@ use Rattle.frames.proofs.word_at.Reads as reads
 use Rattle.frames.proofs.word_at.Lts as lts
 use Rattle.frames.proofs.byte_at.Reads as byte-at-reads
 
--- src/lib.rt:129:13
 byte-at-requires : tie.Need-byte-at-requires
 byte-at-requires c κs = search needs
 
--- src/lib.rt:129:13
 cast-a : tie.Need-cast-a
 cast-a c = search needs
 
--- src/lib.rt:130:24
 add-byte-at : tie.Need-add-byte-at
 add-byte-at c = search needs
 
--- src/lib.rt:130:13
 byte-at-requires-2 : tie.Need-byte-at-requires-2
 byte-at-requires-2 c κs = search needs
 
--- src/lib.rt:130:13
 cast-b : tie.Need-cast-b
 cast-b c = search needs
 
--- src/lib.rt:131:24
 add-byte-at-2 : tie.Need-add-byte-at-2
 add-byte-at-2 c = search needs
 
--- src/lib.rt:131:13
 byte-at-requires-3 : tie.Need-byte-at-requires-3
 byte-at-requires-3 c κs = search needs
 
--- src/lib.rt:131:13
 cast-c : tie.Need-cast-c
 cast-c c = search needs
 
--- src/lib.rt:132:24
 add-byte-at-3 : tie.Need-add-byte-at-3
 add-byte-at-3 c = search needs
 
--- src/lib.rt:132:13
 byte-at-requires-4 : tie.Need-byte-at-requires-4
 byte-at-requires-4 c κs = search needs
 
--- src/lib.rt:132:13
 cast-d : tie.Need-cast-d
 cast-d c = search needs
 
--- src/lib.rt:133:7
 mul-result : tie.Need-mul-result
 mul-result c = search needs
 
--- src/lib.rt:133:7
 add-result : tie.Need-add-result
 add-result c = search needs
 
--- src/lib.rt:133:6
 mul-result-2 : tie.Need-mul-result-2
 mul-result-2 c = search needs
 
--- src/lib.rt:133:6
 add-result-2 : tie.Need-add-result-2
 add-result-2 c = search needs
 
--- src/lib.rt:133:5
 mul-result-3 : tie.Need-mul-result-3
 mul-result-3 c = search needs
 
--- src/lib.rt:133:5
 add-result-3 : tie.Need-add-result-3
 add-result-3 c = search needs
 
--- src/lib.rt:125:1
 returns : tie.Need-returns
 unfolding wordAt
 returns c =

@@ -18,27 +18,21 @@ Inv-loop line i₀ all₀ i all = (all && allDigits (drop i line) ≡ allDigits 
 abbrev μ-loop : tie.MeasureT-loop
 μ-loop line i₀ all₀ i all = length line - i
 
--- src/lib.rt:36:5
 loop-holds : tie.Need-loop-holds Inv-loop μ-loop
 loop-holds c = (refl, omega arith)
 
--- src/lib.rt:37:30
 shared-slice-read-is-digit : tie.Need-shared-slice-read-is-digit Inv-loop μ-loop
 shared-slice-read-is-digit c = search needs
 
--- src/lib.rt:37:21
 is-digit-requires : tie.Need-is-digit-requires Inv-loop μ-loop
 is-digit-requires c κs = search needs
 
--- src/lib.rt:38:9
 add-i : tie.Need-add-i Inv-loop μ-loop
 add-i c = search needs
 
--- src/lib.rt:36:5
 loop-less : tie.Need-loop-less Inv-loop μ-loop
 loop-less c = omega arith
 
--- src/lib.rt:36:5
 loop-again : tie.Need-loop-again Inv-loop μ-loop
 loop-again c =
     let b2 = c .before .before in
@@ -47,7 +41,6 @@ loop-again c =
     let e : b3 .loop .i + 1 ≡ suc (b3 .loop .i) = omega arith in
     (and-assoc (b3 .loop .all) (c .is-digit .result) _ ∙ rw (c .is-digit .ensures, e, ← next-is (s .args .line .now) (b3 .loop .i) (b2 .loop-test .taken)) (b3 .loop .inv .0), omega arith)
 
--- src/lib.rt:31:1
 returns : tie.Need-returns Inv-loop μ-loop
 returns c =
     let b1 = c .before in

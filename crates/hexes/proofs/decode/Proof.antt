@@ -9,35 +9,29 @@ use Rattle.hexes.proofs.decode.Lts as lts
 use Rattle.hexes.proofs.all_digits.Reads as all-digits-reads
 use Rattle.hexes.proofs.put_bytes.Reads as put-bytes-reads
 
--- src/lib.rt:63:9
 returns : tie.Need-returns
 returns c =
     let s = c .before .before .before in
     odd (s .args .line .now) (s .args .frame .now) (c .if1 .taken)
 
--- src/lib.rt:66:9
 returns-2 : tie.Need-returns-2
 returns-2 c =
     let b1 = c .before in
     let s = b1 .before .before .before in
     long (s .args .line .now) (s .args .frame .now) (b1 .if1 .left) (c .if2 .taken)
 
--- src/lib.rt:68:8
 all-digits-requires : tie.Need-all-digits-requires
 all-digits-requires c κs = search needs
 
--- src/lib.rt:69:9
 put-bytes-requires : tie.Need-put-bytes-requires
 put-bytes-requires c κs =
     let b1 = c .before in
     let b2 = b1 .before in
     (sym (b2 .all-digits .ensures) ∙ b1 .if3 .taken, omega arith)
 
--- src/lib.rt:70:9
 same-length : tie.Need-same-length
 same-length c = search needs
 
--- src/lib.rt:70:9
 returns-3 : tie.Need-returns-3
 returns-3 c =
     let b2 = c .before .before in
@@ -49,7 +43,6 @@ returns-3 c =
     let g = good (s .args .line .now) (s .args .frame .now) (b7 .if1 .left) (omega arith) e in
     (g .0, b2 .put-bytes .ensures ∙ g .1)
 
--- src/lib.rt:58:1
 returns-4 : tie.Need-returns-4
 returns-4 c =
     let b1 = c .before in

@@ -5,15 +5,12 @@ use Rattle.hexes.proofs.digit.Tie as tie
 use Rattle.hexes.proofs.digit.Reads as reads
 use Rattle.hexes.proofs.digit.Lts as lts
 
--- src/lib.rt:27:14
 mul-result : tie.Need-mul-result
 mul-result c = search needs
 
--- src/lib.rt:27:5
 add-result : tie.Need-add-result
 add-result c = search needs
 
--- src/lib.rt:23:1
 returns : tie.Need-returns
 returns c = value-is (c .args .b) (c .pre)
 

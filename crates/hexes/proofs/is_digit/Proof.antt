@@ -5,7 +5,6 @@ use Rattle.hexes.proofs.is_digit.Tie as tie
 use Rattle.hexes.proofs.is_digit.Reads as reads
 use Rattle.hexes.proofs.is_digit.Lts as lts
 
--- src/lib.rt:16:1
 returns : tie.Need-returns
 unfolding isDigit
 returns c = refl

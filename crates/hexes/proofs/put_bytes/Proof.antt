@@ -19,70 +19,56 @@ Inv-loop line frame₀ half i₀ frame i = (sets frame i (bytesOf (drop (2 * i) 
 abbrev μ-loop : tie.MeasureT-loop
 μ-loop line frame₀ half i₀ frame i = half - i
 
--- src/lib.rt:50:5
 loop-holds : tie.Need-loop-holds Inv-loop μ-loop
 loop-holds c = (refl, omega arith, refl)
 
--- src/lib.rt:51:31
 mul-digit : tie.Need-mul-digit Inv-loop μ-loop
 mul-digit c = search needs
 
--- src/lib.rt:51:26
 shared-slice-read-digit : tie.Need-shared-slice-read-digit Inv-loop μ-loop
 shared-slice-read-digit c = search needs
 
--- src/lib.rt:51:20
 digit-requires : tie.Need-digit-requires Inv-loop μ-loop
 digit-requires c κs =
     let b2 = c .before .before in
     let s = b2 .before .before .before in
     each-digit (s .args .line .now) (2 * b2 .loop .i) (s .pre .0) (omega arith)
 
--- src/lib.rt:51:20
 mul-frame : tie.Need-mul-frame Inv-loop μ-loop
 mul-frame c = omega (arith, c .digit .ensures .1)
 
--- src/lib.rt:51:57
 mul-digit-2 : tie.Need-mul-digit-2 Inv-loop μ-loop
 mul-digit-2 c = search needs
 
--- src/lib.rt:51:57
 add-digit : tie.Need-add-digit Inv-loop μ-loop
 add-digit c = search needs
 
--- src/lib.rt:51:52
 shared-slice-read-digit-2 : tie.Need-shared-slice-read-digit-2 Inv-loop μ-loop
 shared-slice-read-digit-2 c = search needs
 
--- src/lib.rt:51:46
 digit-requires-2 : tie.Need-digit-requires-2 Inv-loop μ-loop
 digit-requires-2 c κs =
     let b4 = c .before .before .before .before in
     let s = b4 .before .before .before in
     each-digit (s .args .line .now) (2 * b4 .loop .i + 1) (s .pre .0) (omega arith)
 
--- src/lib.rt:51:20
 add-frame : tie.Need-add-frame Inv-loop μ-loop
 add-frame c =
     let b2 = c .before .before in
     omega (arith, b2 .digit .ensures .1, c .digit2 .ensures .1)
 
--- src/lib.rt:51:9
 slice-write-frame : tie.Need-slice-write-frame Inv-loop μ-loop
 slice-write-frame c =
     let b5 = c .before .before .before .before .before in
     let s = b5 .before .before .before in
     omega (arith, b5 .loop .inv .2, s .pre .1)
 
--- src/lib.rt:52:9
 add-i : tie.Need-add-i Inv-loop μ-loop
 add-i c = search needs
 
--- src/lib.rt:50:5
 loop-less : tie.Need-loop-less Inv-loop μ-loop
 loop-less c = omega arith
 
--- src/lib.rt:50:5
 loop-again : tie.Need-loop-again Inv-loop μ-loop
 loop-again c =
     let b2 = c .before .before in
@@ -90,13 +76,11 @@ loop-again c =
     let s = b5 .before .before .before in
     (rw (b2 .digit .ensures .0, c .digit2 .ensures .0) (next-byte (s .args .line .now) (b5 .loop .frame) (b5 .loop .i) (omega arith)) ∙ b5 .loop .inv .0, omega arith, length-set (b5 .loop .frame) _ _ ∙ b5 .loop .inv .2)
 
--- src/lib.rt:44:1
 same-length : tie.Need-same-length Inv-loop μ-loop
 same-length c =
     let b1 = c .before in
     b1 .loop .inv .2
 
--- src/lib.rt:44:1
 returns : tie.Need-returns Inv-loop μ-loop
 returns c =
     let b1 = c .before in

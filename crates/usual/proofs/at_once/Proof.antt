@@ -1,0 +1,23 @@
+use Rattle.usual.specs.Once.{atOnce}
+use Rattle.chars.specs.Pick.{pick}
+use borrow.Author.Needs.{needs}
+use Rattle.usual.proofs.at_once.Statement.{statement}
+use Rattle.usual.proofs.at_once.Tie as tie
+
+is-one-normal-requires : tie.Need-is-one-normal-requires
+is-one-normal-requires c κs = search needs
+
+match-text-requires : tie.Need-match-text-requires
+match-text-requires c κs = search needs
+
+returns : tie.Need-returns
+unfolding atOnce pick
+returns c = simp (← c .before .before .is-one-normal .ensures, c .before .if1 .taken, ← c .match-text .ensures)
+
+returns-2 : tie.Need-returns-2
+unfolding atOnce pick
+returns-2 c = simp (← c .before .is-one-normal .ensures, c .if1 .left)
+
+pub at-once-spec : {M : Type 1} → statement M
+at-once-spec =
+    tie.close (tie.spec is-one-normal-requires match-text-requires returns returns-2)

@@ -1,0 +1,18 @@
+-- Which lists are read at once, and what is read of them. No public contract rests on it.
+use Prim.Native.Nat.{ℕ}
+use mathlib.Core.Bool.{Bool, _&&_}
+use mathlib.Core.List.{List}
+use lib.Dec.{eqb}
+use lib.ListN.{length, getD}
+use Rattle.chars.specs.Pick.{pick}
+use Rattle.strict.specs.declared.Matched.{Matched}
+use Rattle.strict.specs.declared.Matched.the-variants.{NotStrict}
+use Rattle.strict.specs.Matcher.{strict}
+
+-- a list of one Normal chunk with all of the bytes
+unfoldable pub oneNormal : List ℕ → List ℕ → Bool
+oneNormal b table = eqb (length table) 4 && (eqb (getD table 0 0) 0 && eqb (getD table 1 0) (length b))
+
+-- what the strict grammar says of the bytes of such a list
+unfoldable pub atOnce : List ℕ → List ℕ → Matched
+atOnce b table = pick (oneNormal b table) (strict b) NotStrict

@@ -1,0 +1,49 @@
+// The readers as callers have them: a list of one Normal chunk whose text the strict grammar derives is read at once, where it stands, and any
+// other list by the way for all. Both ways give the same, since what the strict reader accepts has the ported reader's Date.
+ghost use mathlib.Core.Path.{_≡_};
+ghost use Rattle.reader.specs.Field.{parsed, parsedStrict};
+ghost use Rattle.usual.specs.Once as once;
+use datefield::ReadDate;
+use strict::Matched;
+
+// Whether a list is one Normal chunk with all of the bytes.
+fn is_one_normal(bytes: &[u8], table: &[u64]) -> bool
+    ensures { λ r. ⌜ r ≡ once.oneNormal (now (bytes .entry)) (now (table .entry)) ⌝ }
+{
+    if table.len() == 4 {
+        if table[0] == 0 {
+            return table[1] == bytes.len() as u64;
+        }
+    }
+    false
+}
+
+// What the strict grammar says of such a list's bytes; no other list is looked at.
+fn at_once(bytes: &[u8], table: &[u64]) -> Matched
+    ensures { λ r. ⌜ r ≡ once.atOnce (now (bytes .entry)) (now (table .entry)) ⌝ }
+{
+    if is_one_normal(bytes, table) {
+        return strict::match_text(bytes);
+    }
+    Matched::NotStrict
+}
+
+// A date field, read as the Rust reads it.
+pub fn parse(bytes: &[u8], table: &[u64]) -> ReadDate
+    ensures { λ r. ⌜ r ≡ parsed (now (bytes .entry)) (now (table .entry)) ⌝ }
+{
+    match at_once(bytes, table) {
+        Matched::Strict(d) => ReadDate::Accepted(d),
+        Matched::NotStrict => reader::parse(bytes, table),
+    }
+}
+
+// A date field, read by the strict grammar alone.
+pub fn parse_strict(bytes: &[u8], table: &[u64]) -> ReadDate
+    ensures { λ r. ⌜ r ≡ parsedStrict (now (bytes .entry)) (now (table .entry)) ⌝ }
+{
+    match at_once(bytes, table) {
+        Matched::Strict(d) => ReadDate::Accepted(d),
+        Matched::NotStrict => reader::parse_strict(bytes, table),
+    }
+}
