@@ -101,6 +101,17 @@ static void self_check(void)
     check(knobstream_compare(month, later) == -1 && knobstream_compare(later, month) == 1, "less and greater");
     check(knobstream_compare(month, month) == 0 && knobstream_compare(year, month) == 2, "equal and none");
 
+    static const char frame[] = "01010003000000000000000334393f";
+    uint8_t line[KNOBSTREAM_LINE_ROOM];
+    memset(line, 0xAA, sizeof line);
+    check(gave(knobstream_answer_frame((const uint8_t *)frame, strlen(frame), line, sizeof line), line,
+               "00000100000801ffff00000000000000323034393f\n"),
+          "the answer to a frame");
+    memset(line, 0xAA, sizeof line);
+    check(gave(knobstream_answer_frame(NULL, 0, line, 35), line, "0e00000000000000000000000000000000\n"), "no frame");
+    w = knobstream_answer_frame(NULL, 0, line, 34);
+    check(w.refusal == KNOBSTREAM_NO_ROOM && w.length == 0, "no room for the answer");
+
     check(strcmp(knobstream_refusal_name(KNOBSTREAM_TOO_LONG), "TooLong") == 0 && *knobstream_refusal_name(99) == 0,
           "the names of refusals");
 }

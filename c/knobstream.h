@@ -8,9 +8,9 @@
  * value, so there is nothing to free.
  *
  * No call allocates, keeps state, takes a lock or traps: every number and
- * every byte has an answer. A call uses at most 8,192 bytes of stack; this is
- * measured, not proved. Calls may run at once in any number of threads, if no
- * two of them have the same `out`.
+ * every byte has an answer. A call uses at most 8,192 bytes of stack, the one
+ * that answers a frame at most 65,536; this is measured, not proved. Calls may
+ * run at once in any number of threads, if no two of them have the same `out`.
  *
  * What the caller owes: a pointer that is readable (for `out` writable) for as
  * many elements as are said, a table that is aligned as uint64_t is, and
@@ -72,14 +72,17 @@ static inline const char *knobstream_refusal_name(unsigned refusal)
     return refusal < sizeof names / sizeof *names ? names[refusal] : "";
 }
 
-/* The limits of a chunk list, the room that every written text and all written
- * fields have enough of, and the stack that a call uses at most. */
+/* The limits of a chunk list, the room that every written text, all written
+ * fields and every answer to a frame have enough of, and the stack that a call
+ * uses at most, and the one that answers a frame. */
 enum {
     KNOBSTREAM_MAX_CHUNKS = 64,
     KNOBSTREAM_MAX_BYTES = 4096,
     KNOBSTREAM_TEXT_ROOM = 40,
     KNOBSTREAM_FIELDS_ROOM = 79,
-    KNOBSTREAM_STACK = 8192
+    KNOBSTREAM_LINE_ROOM = 139,
+    KNOBSTREAM_STACK = 8192,
+    KNOBSTREAM_FRAME_STACK = 65536
 };
 
 /* The kinds of a chunk. */
@@ -199,6 +202,14 @@ static inline knobstream_written knobstream_date_fields(
 /* How the first stands to the second: -1 less, 0 equal, 1 greater, 2 none of
  * these, as 2000 and 2000-02, or times of which one has an offset. */
 int32_t knobstream_compare(knobstream_datetime first, knobstream_datetime second);
+
+/* The answer to a frame, which is a line of hexadecimal digits without its line
+ * feed, as the program dateframes gives it: a line of digits with a line feed,
+ * at the front of `out`. A line that is no frame is answered too, by the number
+ * 14 and the place 0, 0. docs/RULES.md, section 15, has the format. */
+knobstream_written knobstream_answer_frame(
+    const uint8_t *line, size_t line_len,
+    uint8_t *out, size_t out_len);
 
 #ifdef __cplusplus
 }

@@ -10,7 +10,7 @@
 #include <stdlib.h>
 #include <string.h>
 
-enum { STACK = 64 * 1024, LONG = KNOBSTREAM_MAX_BYTES, CHUNKS = KNOBSTREAM_MAX_CHUNKS };
+enum { STACK = 128 * 1024, LONG = KNOBSTREAM_MAX_BYTES, CHUNKS = KNOBSTREAM_MAX_CHUNKS };
 
 static uint8_t *stack, paint;
 static const uint8_t *top, *low; /* where the stack pointer stood before the call, and how far down the call went */
@@ -25,7 +25,9 @@ static knobstream_date date;
 static knobstream_answer answer;
 static knobstream_written written;
 static int32_t order;
-static uint8_t out[KNOBSTREAM_FIELDS_ROOM];
+static uint8_t out[KNOBSTREAM_LINE_ROOM];
+static uint8_t line[2 * 8192];
+static size_t digits;
 
 #define LENT(l) (l).bytes, (l).length, (l).table, (l).rows
 
@@ -45,19 +47,21 @@ ON_A_THREAD(parse_strict, answer = knobstream_parse_strict(LENT(field)))
 ON_A_THREAD(parse_three_fields, answer = knobstream_parse_three_fields(LENT(field), 1, LENT(month), 1, LENT(day)))
 ON_A_THREAD(write_date, written = knobstream_date_text(&date, out, sizeof out))
 ON_A_THREAD(write_fields, written = knobstream_date_fields(&date, out, sizeof out))
+ON_A_THREAD(answer_frame, written = knobstream_answer_frame(line, digits, out, sizeof out))
 ON_A_THREAD(compare, order = knobstream_compare(date.first, date.second))
 
 static struct {
     const char *name;
     void *(*on_a_thread)(void *);
-    size_t most;
+    size_t allowed, most;
 } calls[] = {
-    { "knobstream_parse", parse, 0 },
-    { "knobstream_parse_strict", parse_strict, 0 },
-    { "knobstream_parse_three_fields", parse_three_fields, 0 },
-    { "knobstream_write_date", write_date, 0 },
-    { "knobstream_write_fields", write_fields, 0 },
-    { "knobstream_compare", compare, 0 },
+    { "knobstream_parse", parse, KNOBSTREAM_STACK, 0 },
+    { "knobstream_parse_strict", parse_strict, KNOBSTREAM_STACK, 0 },
+    { "knobstream_parse_three_fields", parse_three_fields, KNOBSTREAM_STACK, 0 },
+    { "knobstream_write_date", write_date, KNOBSTREAM_STACK, 0 },
+    { "knobstream_write_fields", write_fields, KNOBSTREAM_STACK, 0 },
+    { "knobstream_compare", compare, KNOBSTREAM_STACK, 0 },
+    { "knobstream_answer_frame", answer_frame, KNOBSTREAM_FRAME_STACK, 0 },
 };
 
 #define COUNT(array) (sizeof(array) / sizeof *(array))
@@ -105,6 +109,44 @@ static void fill(struct list *l, const char *text, size_t length, size_t chunks,
     }
 }
 
+/* A byte of the frame, if it still goes in. */
+static void put(uint64_t byte)
+{
+    if (digits + 2 <= sizeof line) {
+        line[digits++] = "0123456789abcdef"[byte / 16 % 16];
+        line[digits++] = "0123456789abcdef"[byte % 16];
+    }
+}
+
+/* A list, as a frame has it. */
+static void put_list(const struct list *l)
+{
+    put(l->rows / 4);
+    for (size_t i = 0, at = 0; i < l->rows; at += l->table[i + 1], i += 4) {
+        put(l->table[i]);
+        put(l->table[i + 1]);
+        for (int shift = 24; shift >= 0; shift -= 8)
+            put(l->table[i + 2] >> shift);
+        for (int shift = 24; shift >= 0; shift -= 8)
+            put(l->table[i + 3] >> shift);
+        for (size_t k = 0; k < l->table[i + 1]; k++)
+            put(l->bytes[at + k]);
+    }
+}
+
+/* The frame that asks for the field, or for the three fields. */
+static void put_frame(uint8_t operation)
+{
+    digits = 0;
+    put(operation);
+    put_list(&field);
+    if (operation == 3) {
+        put(1);
+        put_list(&month);
+        put(0);
+    }
+}
+
 /* Date fields, then year fields; and month fields. */
 static const char *const texts[] = {
     "", "2000", "49", "-0049", "2000-02-29", " 2000 - 2 - 9 ~", "2000-02-29T10:20:30Z", "2000-02-29T10:20:30+02:30%",
@@ -129,6 +171,7 @@ int main(void)
                     fill(&month, months[i % COUNT(months)], lengths[n], numbers[m], kind);
                     fill(&day, "31", lengths[n], numbers[m], kind);
                     date = knobstream_parse(LENT(field)).date;
+                    put_frame(i % 3 + 1);
                     measure();
                 }
     /* the longest text that a date has */
@@ -139,7 +182,7 @@ int main(void)
     int over = 0;
     for (size_t i = 0; i < COUNT(calls); i++) {
         printf("%s\t%zu\n", calls[i].name, calls[i].most);
-        over |= calls[i].most > KNOBSTREAM_STACK;
+        over |= calls[i].most > calls[i].allowed;
     }
     return over;
 }

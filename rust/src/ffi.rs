@@ -103,6 +103,12 @@ extern "C" {
         approximate: u8,
     ) -> Written;
     fn knobstream_compare(first: Datetime, second: Datetime) -> i32;
+    fn knobstream_answer_frame(
+        line: *const u8,
+        line_len: usize,
+        out: *mut u8,
+        out_len: usize,
+    ) -> Written;
 }
 
 /// The bytes of a chunk list and its table.
@@ -178,11 +184,19 @@ fn text(w: Written, out: &[u8]) -> Result<&str, u8> {
     let text = &out[..w.length];
     debug_assert!(text.is_ascii());
     // SAFETY: by the writers' contracts the bytes that they store are digits,
-    // letters and signs of ASCII.
+    // letters, signs and line feeds of ASCII.
     Ok(unsafe { std::str::from_utf8_unchecked(text) })
 }
 
 pub fn compare(first: Datetime, second: Datetime) -> i32 {
     // SAFETY: the call takes any numbers.
     unsafe { knobstream_compare(first, second) }
+}
+
+pub fn answer_frame<'a>(line: &[u8], out: &'a mut [u8]) -> Result<&'a str, u8> {
+    let (bytes, room) = (out.as_mut_ptr(), out.len());
+    // SAFETY: `line` is readable for the call and `out` readable and writable.
+    // The call keeps nothing of them and stores within `out` alone.
+    let w = unsafe { knobstream_answer_frame(line.as_ptr(), line.len(), bytes, room) };
+    text(w, out)
 }

@@ -29,6 +29,22 @@ use std::ops::Range;
 
 use ffi::List;
 
+/// The bytes of the longest answer to a frame.
+pub const LINE_ROOM: usize = 139;
+
+/// The answer to a frame, a line of hexadecimal digits without its line feed,
+/// as the program dateframes gives it: a line with its line feed. A line that
+/// is no frame is answered too, as refused.
+///
+/// ```
+/// let mut room = [0; knobstream::LINE_ROOM];
+/// let line = knobstream::answer_frame(b"01010003000000000000000334393f", &mut room);
+/// assert_eq!(line, "00000100000801ffff00000000000000323034393f\n");
+/// ```
+pub fn answer_frame<'a>(line: &[u8], room: &'a mut [u8; LINE_ROOM]) -> &'a str {
+    ffi::answer_frame(line, room).unwrap_or("")
+}
+
 /// A place in the file, in bytes.
 pub type Span = Range<usize>;
 

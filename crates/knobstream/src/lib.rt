@@ -1,22 +1,19 @@
 // The calls for C and Rust, over numbers, lent slices and plain structs. None has a `requires`: every number and every slice is taken, the
 // empty slice with a null pointer too.
-// A struct is returned arm by arm where its parts would else meet again in registers, and a usual text is read at once, without formatting.
+// A struct is returned arm by arm where its parts would else meet again in registers.
 ghost use mathlib.Core.Path.{_≡_};
-ghost use mathlib.Core.List.{[], _∷_};
-ghost use Prim.Native.Nat.{_<_};
-ghost use lib.ListN.{length, getD};
-ghost use lib.IntN.{pos};
-ghost use Rattle.chars.specs.Classes.{isAsciiDigit};
-ghost use Rattle.strict.specs.Digits.{digits};
+ghost use mathlib.Core.Bool.{false};
+ghost use lib.ListN.{length};
 ghost use Rattle.reader.specs.Field.{parsed, parsedStrict};
 ghost use Rattle.reader.specs.Fields.{threeFields};
 ghost use Rattle.order.specs.Order.{order};
 ghost use Rattle.writer.specs.Texts.{panics, dateText};
 ghost use Rattle.writer.specs.Fields.{fieldsText};
 ghost use Rattle.writer.specs.Answers.{answer, afterwards};
+ghost use Rattle.answers.specs.Answer.{answerLine};
+ghost use Rattle.frames.specs.Frame.{lineRead};
 ghost use Rattle.knobstream.specs.Plain as plain;
 ghost use Rattle.knobstream.specs.Back as back;
-ghost use Rattle.knobstream.specs.Quick as quick;
 use datefield::ReadDate;
 use dates::Date;
 use dates::DateValue;
@@ -458,186 +455,6 @@ fn date_of(p: PlainDate) -> Date
     }
 }
 
-// ---- usual texts, read at once
-
-// A point in the form that Dates are written in, if the text is one.
-enum QuickPoint {
-    Found(Datetime),
-    NotFound,
-}
-
-// Two such points with a slash between them.
-enum QuickRange {
-    Both(Datetime, Datetime),
-    NotBoth,
-}
-
-// Whether a list is one Normal chunk.
-fn is_one_normal(bytes: &[u8], table: &[u64]) -> bool
-    ensures { λ r. ⌜ r ≡ quick.oneNormal (now (bytes .entry)) (now (table .entry)) ⌝ }
-{
-    if table.len() == 4 {
-        if table[0] == 0 {
-            return table[1] == bytes.len() as u64;
-        }
-    }
-    false
-}
-
-fn is_digit(b: u8) -> bool
-    ensures { λ r. ⌜ r ≡ isAsciiDigit b ⌝ }
-{
-    48 <= b && b <= 57
-}
-
-// The number that two digits are; 100 for bytes that are none.
-fn two(a: u8, b: u8) -> u8
-    ensures { λ r. ⌜ (r < 100 → a ∷ b ∷ [] ≡ digits 2 r) ⌝ }
-{
-    if is_digit(a) {
-        if is_digit(b) {
-            return (a - 48) * 10 + (b - 48);
-        }
-    }
-    100
-}
-
-fn wide(n: u8) -> u16
-    ensures { λ r. ⌜ r ≡ n ⌝ }
-{
-    n as u16
-}
-
-// The number that four digits are; 10000 for bytes that are none.
-fn four(a: u8, b: u8, c: u8, d: u8) -> u16
-    ensures { λ r. ⌜ (r < 10000 → a ∷ b ∷ c ∷ d ∷ [] ≡ digits 4 r) ⌝ }
-{
-    let high = two(a, b);
-    let low = two(c, d);
-    if high < 100 {
-        if low < 100 {
-            return wide(high) * 100 + wide(low);
-        }
-    }
-    10000
-}
-
-fn year_of(n: u16) -> i32
-    ensures { λ r. ⌜ r ≡ pos n ⌝ }
-{
-    n as i32
-}
-
-// dddd, dddd-mm or dddd-mm-dd.
-fn quick_point(s: &[u8]) -> QuickPoint
-    ensures { λ r. ⌜ quick.Point r (now (s .entry)) ⌝ }
-{
-    let n = s.len();
-    if n < 4 {
-        return QuickPoint::NotFound;
-    }
-    let y = four(s[0], s[1], s[2], s[3]);
-    if 9999 < y {
-        return QuickPoint::NotFound;
-    }
-    let year = year_of(y);
-    if n == 4 {
-        return QuickPoint::Found(Datetime::new(
-            year,
-            OptionMonth::NoMonth,
-            OptionDay::NoDay,
-            OptionTime::NoTime,
-        ));
-    }
-    if n < 7 {
-        return QuickPoint::NotFound;
-    }
-    if s[4] != b'-' {
-        return QuickPoint::NotFound;
-    }
-    let m = two(s[5], s[6]);
-    if m == 0 {
-        return QuickPoint::NotFound;
-    }
-    if 12 < m {
-        return QuickPoint::NotFound;
-    }
-    let month = Month(m - 1);
-    if n == 7 {
-        return QuickPoint::Found(Datetime::new(
-            year,
-            OptionMonth::SomeMonth(month),
-            OptionDay::NoDay,
-            OptionTime::NoTime,
-        ));
-    }
-    if n != 10 {
-        return QuickPoint::NotFound;
-    }
-    if s[7] != b'-' {
-        return QuickPoint::NotFound;
-    }
-    let d = two(s[8], s[9]);
-    if d == 0 {
-        return QuickPoint::NotFound;
-    }
-    if dates::days_in_month(month, year) < d {
-        return QuickPoint::NotFound;
-    }
-    QuickPoint::Found(Datetime::new(
-        year,
-        OptionMonth::SomeMonth(month),
-        OptionDay::SomeDay(Day(d - 1)),
-        OptionTime::NoTime,
-    ))
-}
-
-// Where a slash stands behind such a point, or the end.
-fn slash_of(s: &[u8]) -> usize
-    ensures { λ r. ⌜ (r < length (now (s .entry)) → getD (now (s .entry)) r 0 ≡ 47) ⌝ }
-{
-    let n = s.len();
-    if 4 < n {
-        if s[4] == b'/' {
-            return 4;
-        }
-        if 7 < n {
-            if s[7] == b'/' {
-                return 7;
-            }
-            if 10 < n {
-                if s[10] == b'/' {
-                    return 10;
-                }
-            }
-        }
-    }
-    n
-}
-
-// Two such points with a slash between them.
-fn quick_range(s: &[u8]) -> QuickRange
-    ensures { λ r. ⌜ quick.Range r (now (s .entry)) ⌝ }
-{
-    let k = slash_of(s);
-    if k < s.len() {
-        match quick_point(&s[..k]) {
-            QuickPoint::Found(a) => match quick_point(&s[k + 1..]) {
-                QuickPoint::Found(b) => {
-                    return QuickRange::Both(a, b);
-                }
-                QuickPoint::NotFound => {
-                    return QuickRange::NotBoth;
-                }
-            },
-            QuickPoint::NotFound => {
-                return QuickRange::NotBoth;
-            }
-        }
-    }
-    QuickRange::NotBoth
-}
-
 // ---- the calls
 
 // A date field, read as the Rust reads it.
@@ -645,22 +462,7 @@ fn quick_range(s: &[u8]) -> QuickRange
 pub extern "C" fn knobstream_parse(bytes: &[u8], table: &[u64]) -> PlainRead
     ensures { λ r. ⌜ r ≡ plain.read (parsed (now (bytes .entry)) (now (table .entry))) ⌝ }
 {
-    if is_one_normal(bytes, table) {
-        match quick_point(bytes) {
-            QuickPoint::Found(d) => {
-                return read_one(0, d, false, false);
-            }
-            QuickPoint::NotFound => match quick_range(bytes) {
-                QuickRange::Both(a, b) => {
-                    return read_two(a, b, false, false);
-                }
-                QuickRange::NotBoth => {
-                    return plain_read(reader::parse(bytes, table));
-                }
-            },
-        }
-    }
-    plain_read(reader::parse(bytes, table))
+    plain_read(usual::parse(bytes, table))
 }
 
 // A date field, read by the strict grammar alone.
@@ -668,22 +470,7 @@ pub extern "C" fn knobstream_parse(bytes: &[u8], table: &[u64]) -> PlainRead
 pub extern "C" fn knobstream_parse_strict(bytes: &[u8], table: &[u64]) -> PlainRead
     ensures { λ r. ⌜ r ≡ plain.read (parsedStrict (now (bytes .entry)) (now (table .entry))) ⌝ }
 {
-    if is_one_normal(bytes, table) {
-        match quick_point(bytes) {
-            QuickPoint::Found(d) => {
-                return read_one(0, d, false, false);
-            }
-            QuickPoint::NotFound => match quick_range(bytes) {
-                QuickRange::Both(a, b) => {
-                    return read_two(a, b, false, false);
-                }
-                QuickRange::NotBoth => {
-                    return plain_read(reader::parse_strict(bytes, table));
-                }
-            },
-        }
-    }
-    plain_read(reader::parse_strict(bytes, table))
+    plain_read(usual::parse_strict(bytes, table))
 }
 
 // The fields year, month and day; a list is absent if the number before it is 0, and then is not looked at.
@@ -767,4 +554,13 @@ pub extern "C" fn knobstream_compare(a: PlainDatetime, b: PlainDatetime) -> i32
     let x = datetime_of(a);
     let y = datetime_of(b);
     plain_order(order::partial_cmp(x, y))
+}
+
+// The answer to a line of hexadecimal digits, as a line at the front of the lent buffer; without room for it nothing is stored.
+#[no_mangle]
+pub extern "C" fn knobstream_answer_frame(line: &[u8], out: &mut [u8]) -> PlainWritten
+    ensures { λ r. ⌜ r ≡ plain.written (answer false (answerLine (lineRead (now (line .entry)))) (length (now (out .entry)))) ⌝ }
+    ensures { λ r. ⌜ now (out .exit) ≡ afterwards false (answerLine (lineRead (now (line .entry)))) (now (out .entry)) ⌝ }
+{
+    plain_written(frames::answer(line, out))
 }
