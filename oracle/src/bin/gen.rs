@@ -10,9 +10,11 @@ use oracle::{PORTED, STRICT};
 
 const USAGE: &str = "usage: gen list
        gen many N SEED
+       gen import N SEED
 
 list   the fixed list; its last line has no line feed
-many   N frames by a seed";
+many   N frames by a seed, most of them odd, for comparing
+import N frames by a seed as an import file has them, for measuring";
 
 fn main() -> ExitCode {
     let args: Vec<String> = env::args().skip(1).collect();
@@ -21,6 +23,10 @@ fn main() -> ExitCode {
         ["list"] => fixed(out),
         ["many", n, seed] => match (n.parse(), seed.parse()) {
             (Ok(n), Ok(seed)) => many(n, seed, out),
+            _ => return fail(USAGE),
+        },
+        ["import", n, seed] => match (n.parse(), seed.parse()) {
+            (Ok(n), Ok(seed)) => import(n, seed, out),
             _ => return fail(USAGE),
         },
         _ => return fail(USAGE),
@@ -1161,4 +1167,83 @@ fn day_field(rng: &mut Rng) -> String {
     } else {
         mutated(rng, text)
     }
+}
+
+// Frames as an import file has them.
+
+fn import(n: u64, seed: u64, out: &mut impl Write) -> io::Result<()> {
+    let mut rng = Rng(seed);
+    for _ in 0..n {
+        let start = rng.below(1 << 20) as u32;
+        let line = hex(&imported(&mut rng, start));
+        out.write_all(line.as_bytes())?;
+        out.write_all(b"\n")?;
+    }
+    Ok(())
+}
+
+/// Of a hundred frames seventy ask the ported reader, five the strict one, and twenty-five have three fields.
+fn imported(rng: &mut Rng, start: u32) -> Vec<u8> {
+    let operation = match rng.below(100) {
+        0..70 => PORTED,
+        70..75 => STRICT,
+        _ => return imported_fields(rng, start),
+    };
+    let text = imported_date(rng);
+    if rng.percent(4) {
+        // A group in braces is a chunk of its own.
+        let (left, right) = text.split_at(boundary(rng, &text));
+        let first = normal(start, left);
+        let second = piece(1, first.end, right);
+        return one(operation, &[first, second]);
+    }
+    one(operation, &[normal(start, text)])
+}
+
+fn imported_date(rng: &mut Rng) -> String {
+    let mut day = |parts: usize| {
+        let text = format!("{:04}-{:02}-{:02}", 1000 + rng.below(1030), 1 + rng.below(12), 1 + rng.below(28));
+        text[..[4, 7, 10][parts]].to_string()
+    };
+    let (year, month, date) = (day(0), day(1), day(2));
+    match rng.below(100) {
+        0..38 => year,
+        38..52 => month,
+        52..76 => date,
+        76..82 => format!("{year}/{}", 2030 + rng.below(70)),
+        82..84 => format!("{month}/2031-02"),
+        84..86 => format!("{date}/2031-02-03"),
+        86..88 => format!("{year}/.."),
+        88 => format!("../{year}"),
+        89..92 => format!("{}XX", &year[..2]),
+        92 => format!("{year}-XX"),
+        93..95 => format!("{year}{}", rng.pick(&["?", "~", "%"])),
+        95 => format!("{date}T10:20:30Z"),
+        96 => year[2..].to_string(),
+        97 => format!(" {year} "),
+        98 => rng.pick(&["forthcoming", "n.d.", "in press", "", "1900-02-29", "2000-13"]).to_string(),
+        _ => format!("{year} é"),
+    }
+}
+
+fn imported_fields(rng: &mut Rng, start: u32) -> Vec<u8> {
+    let year = match rng.below(20) {
+        0 => format!("{} BC", 1 + rng.below(900)),
+        1 => format!("{}", 1 + rng.below(999)),
+        _ => format!("{}", 1000 + rng.below(1030)),
+    };
+    let month = match rng.below(10) {
+        0..4 => format!("{}", 1 + rng.below(12)),
+        4..7 => MONTH_NAMES[rng.below(12)][..3].to_string(),
+        7 | 8 => MONTH_NAMES[rng.below(12)].to_string(),
+        _ => format!("{}~{}", rng.pick(&MONTH_NAMES), 1 + rng.below(28)).replace('~', "\u{a0}"),
+    };
+    let day = format!("{}", 1 + rng.below(28));
+    let month = rng.percent(70).then(|| [normal(start + 20, month)]);
+    let day = rng.percent(40).then(|| [normal(start + 40, day)]);
+    three(
+        &[normal(start, year)],
+        month.as_ref().map(|m| &m[..]),
+        day.as_ref().map(|d| &d[..]),
+    )
 }
