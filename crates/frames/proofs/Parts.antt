@@ -16,12 +16,13 @@ use Rattle.hexes.specs.Hex.{isHex, bytesOf, half, decoded, decodedInto}
 use Rattle.hexes.proofs.Laws.{length-bytes}
 use Rattle.writer.specs.Answers.{Put}
 use Rattle.writer.proofs.Puts.{kept, both, at-front}
+use Rattle.reader.specs.Fields.{threeFields}
 use Rattle.frames.specs.declared.Operation.{Operation}
 use Rattle.frames.specs.declared.Operation.the-variants.{Ported, Strict, ThreeFields, Unknown}
 use Rattle.frames.specs.Lists.{byteAt, endOf, rowAt, tableOf, textOf, listEnd, listTable, listText, isFlag, hasList, optionalEnd, optionalTable, optionalText}
-use Rattle.frames.specs.Room.{Room, readBy, listBy, readLists}
+use Rattle.frames.specs.Room.{Room, operationOf, listOperation, readBy, listBy, readLists, isSingle, textStart, rowLength, Threefold}
 use Rattle.frames.specs.Frame.{oneFills, threeFill, monthAt, dayAt, asked, formed, readOf, badFrame, frameRead, lineRead}
-use Rattle.frames.proofs.Places.{end-above, text-behind, table-behind}
+use Rattle.frames.proofs.Places.{end-above, length-row, text-behind, table-behind}
 
 -- a text at a place of a buffer with room for it
 module _ {t l l' : List ℕ} {m j : ℕ} (p : Put t l m l' j) (room : m + length t ≤ length l) where
@@ -91,24 +92,67 @@ module _ {f text table : List ℕ} (w : Room f text table) (fills : oneFills f �
   pub table-is : {table' : List ℕ} {j : ℕ} → Put (listTable f 1) table 0 table' j → take j table' ≡ listTable f 1
   table-is p = first-is p table-room
 
--- a single chunk that fills a frame stands there as it is
-pub record Single (f : List ℕ) : Type 0 where
-  pub long : 12 ≤ length f
-  pub text-there : take (length f - 12) (drop 12 f) ≡ listText f 1
-  pub row-there : rowAt f 2 ≡ listTable f 1
+-- a list of one chunk stands in a frame as it is
+pub record OneChunk (f : List ℕ) (at e : ℕ) : Type 0 where
+  pub long : at + 11 ≤ e
+  pub text-there : take (e - (at + 11)) (drop (at + 11) f) ≡ listText f at
+  pub row-there : rowAt f (at + 1) ≡ listTable f at
 
-pub single : (f : List ℕ) {n : ℕ} → oneFills f ≡ true → n ≡ byteAt f 1 → n ≡ 1 → Single f
+pub one-chunk : (f : List ℕ) (at e : ℕ) → byteAt f at ≡ 1 → e ≡ listEnd f at → OneChunk f at e
 unfolding endOf textOf tableOf
-single f {n} fills en e1 =
-    let one : byteAt f 1 ≡ 1 = sym en ∙ e1 in
-    let ends : endOf f 2 (byteAt f 1) ≡ length f = eqb-true (listEnd f 1) (length f) fills in
-    let at : 2 + 10 + byteAt f 3 ≡ length f = rw one at ends in
-    let k : length f - 12 ≡ byteAt f 3 = omega (arith, at) in
+one-chunk f at e one ee =
+    let n = byteAt f (at + 1 + 1) in
+    let ends : e ≡ at + 1 + 10 + n = rw one at ee in
+    let k : e - (at + 11) ≡ n = omega (arith, ends) in
+    let b : at + 11 ≡ at + 1 + 10 = omega arith in
     record {
-      long = omega (arith, at);
-      text-there = rw (one, k) (sym (append-nil (take (byteAt f 3) (drop 12 f))));
-      row-there = rw one (sym (append-nil (rowAt f 2)));
+      long = omega (arith, ends);
+      text-there = rw (one, k, b) (sym (append-nil (take n (drop (at + 1 + 10) f))));
+      row-there = rw one (sym (append-nil (rowAt f (at + 1))));
     }
+
+-- one that fills a frame
+pub single : (f : List ℕ) {n : ℕ} → oneFills f ≡ true → n ≡ byteAt f 1 → n ≡ 1 → OneChunk f 1 (length f)
+single f fills en e1 = one-chunk f 1 (length f) (sym en ∙ e1) (sym (eqb-true (listEnd f 1) (length f) fills))
+
+-- one that may be absent
+pub record MaybeChunk (f : List ℕ) (at e : ℕ) : Type 0 where
+  pub starts : textStart (hasList f at) at ≤ e
+  pub in-row : rowLength (hasList f at) ≤ 4
+  pub text-is-there : take (e - textStart (hasList f at) at) (drop (textStart (hasList f at) at) f) ≡ optionalText f at
+  pub row-is-there : take (rowLength (hasList f at)) (rowAt f (at + 2)) ≡ optionalTable f at
+
+pub maybe-chunk : (f : List ℕ) (at e : ℕ) → isSingle f at ≡ true → e ≡ optionalEnd f at → MaybeChunk f at e
+unfolding isSingle textStart rowLength optionalEnd optionalText optionalTable rowAt pick
+maybe-chunk f at e s ee = by-presence (hasList f at) refl
+  where
+    there : hasList f at ≡ true → MaybeChunk f at e
+    there h =
+        let one = eqb-true (byteAt f (at + 1)) 1 (rw h at s) in
+        let o = one-chunk f (at + 1) e one (rw h at ee) in
+        let b : at + 12 ≡ at + 1 + 11 = omega arith in
+        let k : at + 2 ≡ at + 1 + 1 = omega arith in
+        record {
+          starts = rw h (omega (arith, o .long));
+          in-row = rw h (omega arith);
+          text-is-there = rw (h, b) (o .text-there);
+          row-is-there = rw (h, k) (o .row-there);
+        }
+
+    absent : hasList f at ≡ false → MaybeChunk f at e
+    absent h =
+        let g : e ≡ at + 1 = rw h at ee in
+        let k : e - (at + 1) ≡ 0 = omega (arith, g) in
+        record {
+          starts = rw h (omega (arith, g));
+          in-row = rw h (omega arith);
+          text-is-there = rw (h, k) refl;
+          row-is-there = rw h refl;
+        }
+
+    by-presence : (b : Bool) → hasList f at ≡ b → MaybeChunk f at e
+    by-presence true h = there h
+    by-presence false h = absent h
 
 -- three lists that fill a frame
 and-both : (a b : Bool) → a && b ≡ true → (a ≡ true) × (b ≡ true)
@@ -123,13 +167,56 @@ optional-above f at =
 pub same-room : {f b t b' t' : List ℕ} → Room f b t → length b' ≡ length b → length t' ≡ length t → Room f b' t'
 same-room w e g = record { small = w .small; for-text = omega (arith, w .for-text, e); for-table = omega (arith, w .for-table, g) }
 
+module _ (f : List ℕ) (fills : threeFill f ≡ true) {ma da : ℕ} (em : ma ≡ monthAt f) (ed : da ≡ optionalEnd f ma) where
+  pub all-filled : optionalEnd f da ≡ length f
+  unfolding threeFill
+  all-filled =
+      rw (ed, em)
+      (eqb-true (optionalEnd f (dayAt f)) (length f) (and-both (isFlag f (dayAt f)) _ (and-both (isFlag f (monthAt f)) _ fills .1) .1))
+
+-- three lists of one chunk each, where they stand
+pub record There (f : List ℕ) (ma da : ℕ) : Type 0 where
+  pub year-chunk : OneChunk f 1 ma
+  pub month-chunk : MaybeChunk f ma da
+  pub day-chunk : MaybeChunk f da (length f)
+  pub month-before : ma < da
+  pub day-before : da < length f
+
+module _ {f : List ℕ} {ma da : ℕ} (w : Threefold f ma da) where
+  pub are-there : There f ma da
+  are-there =
+      let a = optional-above f ma in
+      let b = optional-above f da in
+      let e = all-filled f (w .fills) (w .month-there) (w .day-there) in
+      record {
+        year-chunk = one-chunk f 1 ma (w .one-year) (w .month-there);
+        month-chunk = maybe-chunk f ma da (w .one-month) (w .day-there);
+        day-chunk = maybe-chunk f da (length f) (w .one-day) (sym e);
+        month-before = omega (arith, w .day-there);
+        day-before = omega (arith, e);
+      }
+
+  pub month-starts : {hm : Bool} {m : ℕ} → hm ≡ hasList f ma → m ≡ textStart hm ma → m ≤ da
+  month-starts eh em = rw (em, eh) (are-there .month-chunk .starts)
+
+  pub day-starts : {hd : Bool} {d : ℕ} → hd ≡ hasList f da → d ≡ textStart hd da → d ≤ length f
+  day-starts eg ed = rw (ed, eg) (are-there .day-chunk .starts)
+
+  pub there-read : {hm hd : Bool} {m d i j : ℕ} {y mr dr : List ℕ} → hm ≡ hasList f ma → hd ≡ hasList f da → m ≡ textStart hm ma → d ≡ textStart hd da
+      → i ≡ rowLength hm → j ≡ rowLength hd → y ≡ rowAt f 2 → mr ≡ rowAt f (ma + 2) → dr ≡ rowAt f (da + 2)
+      → threeFields (take (ma - 12) (drop 12 f)) y hm (take (da - m) (drop m f)) (take i mr) hd (take (length f - d) (drop d f)) (take j dr) ≡ readOf ThreeFields f
+  unfolding readOf
+  there-read eh eg em ed ei ej ey er es =
+      let t = are-there in
+      let a = t .year-chunk in
+      let b = t .month-chunk in
+      let c = t .day-chunk in
+      rw (em, ed, ei, ej, ey, er, es, eh, eg, a .text-there, a .row-there, b .text-is-there, b .row-is-there, c .text-is-there, c .row-is-there, ← w .month-there, ← w .day-there)
+
 -- `ma` and `da` are the places of the month list and the day list as they were found
 module _ {f text table : List ℕ} (w : Room f text table) (fills : threeFill f ≡ true) {ma da : ℕ} (em : ma ≡ monthAt f) (ed : da ≡ optionalEnd f ma) where
   all-end : optionalEnd f da ≡ length f
-  unfolding threeFill
-  all-end =
-      rw (ed, em)
-      (eqb-true (optionalEnd f (dayAt f)) (length f) (and-both (isFlag f (dayAt f)) _ (and-both (isFlag f (monthAt f)) _ fills .1) .1))
+  all-end = all-filled f fills em ed
 
   pub year-asks : Room f text table × (listEnd f 1 ≤ length f) × (0 ≤ 1) × (2 * 0 ≤ 1)
   year-asks = (w, (let a = optional-above f ma in let b = optional-above f da in omega (arith, all-end, em, ed)), omega arith, omega arith)
@@ -185,17 +272,41 @@ pub one-of-strict : (f : List ℕ) → formed Strict f ≡ true → oneFills f �
 unfolding formed
 one-of-strict f e = e
 
-pub ported-of-one : (f : List ℕ) → oneFills f ≡ true → formed Ported f ≡ true
-unfolding formed
-ported-of-one f e = e
+-- the operation that was found
+pub op-is : (f : List ℕ) {n : ℕ} {op o : Operation} → n ≡ byteAt f 0 → op ≡ asked n → op ≡ o → operationOf f ≡ o
+op-is f en eo e = sym (ap asked en) ∙ sym eo ∙ e
 
-pub strict-of-one : (f : List ℕ) → oneFills f ≡ true → formed Strict f ≡ true
-unfolding formed
-strict-of-one f e = e
+-- so many numbers of a row
+pub row-short : (has : Bool) {n : ℕ} → n ≡ rowLength has → n ≤ 4
+unfolding rowLength pick
+row-short true e = omega (arith, e)
+row-short false e = omega (arith, e)
 
-pub of-three : (f : List ℕ) → threeFill f ≡ true → formed ThreeFields f ≡ true
+pub row-taken : (f : List ℕ) (at : ℕ) (has : Bool) {n : ℕ} {r : List ℕ} → n ≡ rowLength has → r ≡ rowAt f at → n ≤ length r
+row-taken f at has e er = let l = length-row f at in let h = row-short has e in rw er (omega arith)
+
+-- a frame that asks for an operation is one of it
+pub list-formed : (f : List ℕ) (strict : Bool) → oneFills f ≡ true → operationOf f ≡ listOperation strict → formed (operationOf f) f ≡ true
+unfolding formed listOperation
+list-formed f true e a = rw a e
+list-formed f false e a = rw a e
+
+pub list-by : (f : List ℕ) (strict : Bool) → operationOf f ≡ listOperation strict → readOf (operationOf f) f ≡ listBy strict f
+unfolding readBy readOf listOperation
+list-by f true a = rw a
+list-by f false a = rw a
+
+pub three-formed : (f : List ℕ) → threeFill f ≡ true → operationOf f ≡ ThreeFields → formed (operationOf f) f ≡ true
 unfolding formed
-of-three f e = e
+three-formed f e a = rw a e
+
+pub strict-asked : (f : List ℕ) → operationOf f ≡ Strict → operationOf f ≡ listOperation true
+unfolding listOperation
+strict-asked f a = a
+
+pub ported-asked : (f : List ℕ) → operationOf f ≡ Ported → operationOf f ≡ listOperation false
+unfolding listOperation
+ported-asked f a = a
 
 pub by-ported : (f : List ℕ) → listBy false f ≡ readOf Ported f
 unfolding readBy readOf

@@ -1,13 +1,19 @@
 -- The buffers that the lists of a frame are taken apart in. No public contract rests on it.
-use Prim.Native.Nat.{ℕ, _*_, _-_, _≤_}
+use Prim.Native.Nat.{ℕ, _+_, _*_, _-_, _≤_}
+use mathlib.Core.Path.{_≡_}
 use mathlib.Core.Bool.{Bool, true, false}
 use mathlib.Core.List.{List}
+use lib.Dec.{eqb}
 use lib.ListN.{length, take, drop}
+use Rattle.chars.specs.Pick.{pick}
 use Rattle.datefield.specs.declared.ReadDate.{ReadDate}
 use Rattle.reader.specs.Field.{parsed, parsedStrict}
 use Rattle.reader.specs.Fields.{threeFields}
 use Rattle.frames.specs.declared.Unpacked.{Unpacked}
-use Rattle.frames.specs.Lists.{listTable, listText}
+use Rattle.frames.specs.declared.Operation.{Operation}
+use Rattle.frames.specs.declared.Operation.the-variants.{Ported, Strict}
+use Rattle.frames.specs.Lists.{byteAt, listTable, listText, hasList, optionalEnd}
+use Rattle.frames.specs.Frame.{asked, threeFill, monthAt}
 
 -- a frame of the size that is admitted, and buffers with room for its lists
 pub record Room (f text table : List ℕ) : Type 0 where
@@ -17,6 +23,15 @@ pub record Room (f text table : List ℕ) : Type 0 where
   pub for-text : length f ≤ length text
   -- room for the tables
   pub for-table : length f ≤ 2 * length table
+
+-- the operation that a frame's first byte asks for
+abbrev pub operationOf : List ℕ → Operation
+operationOf f = asked (byteAt f 0)
+
+-- the operation that reads a list by the strict reader or the ported one
+unfoldable pub listOperation : Bool → Operation
+listOperation true = Strict
+listOperation false = Ported
 
 -- a list by the strict reader or the ported one
 unfoldable pub readBy : Bool → List ℕ → List ℕ → ReadDate
@@ -33,3 +48,32 @@ readLists text table hasMonth hasDay y m d =
     threeFields (take (y .text) text) (take (y .table) table)
     hasMonth (take (m .text - y .text) (drop (y .text) text)) (take (m .table - y .table) (drop (y .table) table))
     hasDay (take (d .text - m .text) (drop (m .text) text)) (take (d .table - m .table) (drop (m .table) table))
+
+-- whether a list that may be absent has no other chunk than one
+unfoldable pub isSingle : List ℕ → ℕ → Bool
+isSingle f at = pick (hasList f at) (eqb (byteAt f (at + 1)) 1) true
+
+-- where the text of such a list begins; if the list is absent, the place behind it
+unfoldable pub textStart : Bool → ℕ → ℕ
+textStart has at = pick has (at + 12) (at + 1)
+
+-- how many numbers its table has
+unfoldable pub rowLength : Bool → ℕ
+rowLength has = pick has 4 0
+
+-- a frame of three fields with one chunk each, and the places of its month list and its day list
+pub record Threefold (f : List ℕ) (ma da : ℕ) : Type 0 where
+  -- its size
+  pub small : length f ≤ 8192
+  -- the lists fill it
+  pub fills : threeFill f ≡ true
+  -- the place of the month list
+  pub month-there : ma ≡ monthAt f
+  -- the place of the day list
+  pub day-there : da ≡ optionalEnd f ma
+  -- one chunk for the year
+  pub one-year : byteAt f 1 ≡ 1
+  -- at most one for the month
+  pub one-month : isSingle f ma ≡ true
+  -- and for the day
+  pub one-day : isSingle f da ≡ true

@@ -8,7 +8,7 @@ ghost use Rattle.writer.specs.Answers as writing;
 ghost use Rattle.writer.specs.Answers.{Put};
 ghost use Rattle.answers.specs.Answer.{answerLine};
 ghost use Rattle.frames.specs.Lists as list;
-ghost use Rattle.frames.specs.Room.{Room, readBy, listBy, readLists};
+ghost use Rattle.frames.specs.Room.{Room, operationOf, listOperation, readBy, listBy, readLists, isSingle, textStart, rowLength, Threefold};
 ghost use Rattle.frames.specs.declared.Operation.the-variants.{Ported, Strict, ThreeFields};
 ghost use Rattle.frames.specs.Frame as spec;
 use datefield::ReadDate;
@@ -330,11 +330,12 @@ fn three_in(f: &[u8], text: &mut [u8], table: &mut [u64]) -> ReadDate
 }
 
 // A frame of any size. The large arrays stand in a function with several callers, which is not compiled into them: so no short frame pays
-// for their room on the stack.
-fn read_large(op: Operation, f: &[u8]) -> ReadDate
-    requires { ⌜ (length (now f) ≤ 8192) × (spec.formed op (now f) ≡ true) ⌝ }
-    ensures { λ r. ⌜ r ≡ spec.readOf op (now (f .entry)) ⌝ }
+// for their room on the stack. It looks at the operation itself, for with a given one it would be short enough to be.
+fn read_large(f: &[u8]) -> ReadDate
+    requires { ⌜ (length (now f) ≤ 8192) × (spec.formed (operationOf (now f)) (now f) ≡ true) ⌝ }
+    ensures { λ r. ⌜ r ≡ spec.readOf (operationOf (now (f .entry))) (now (f .entry)) ⌝ }
 {
+    let op = asked(byte_at(f, 0));
     let mut text = [0u8; 8192];
     let mut table = [0u64; 4096];
     match op {
@@ -348,7 +349,7 @@ fn read_large(op: Operation, f: &[u8]) -> ReadDate
 // One list that fills a frame. A single chunk is read where it stands; the chunks of any other are put together first, those of a short frame
 // in small arrays, which cost less to clear.
 fn read_list(strict: bool, f: &[u8]) -> ReadDate
-    requires { ⌜ (length (now f) ≤ 8192) × (spec.oneFills (now f) ≡ true) ⌝ }
+    requires { ⌜ (length (now f) ≤ 8192) × (spec.oneFills (now f) ≡ true) × (operationOf (now f) ≡ listOperation strict) ⌝ }
     ensures { λ r. ⌜ r ≡ listBy strict (now (f .entry)) ⌝ }
 {
     if byte_at(f, 1) == 1 {
@@ -360,23 +361,87 @@ fn read_list(strict: bool, f: &[u8]) -> ReadDate
         let mut table = [0u64; 128];
         return list_in(strict, f, &mut text, &mut table);
     }
-    if strict {
-        return read_large(Operation::Strict, f);
+    read_large(f)
+}
+
+// Whether a list that may be absent has no other chunk than one.
+fn is_single(f: &[u8], at: usize) -> bool
+    requires { ⌜ at < 800000 ⌝ }
+    ensures { λ r. ⌜ r ≡ isSingle (now (f .entry)) at ⌝ }
+{
+    if has_list(f, at) {
+        return byte_at(f, at + 1) == 1;
     }
-    read_large(Operation::Ported, f)
+    true
+}
+
+// Where the text of such a list begins; if the list is absent, the place behind it.
+fn text_start(has: bool, at: usize) -> usize
+    requires { ⌜ at < 800000 ⌝ }
+    ensures { λ r. ⌜ r ≡ textStart has at ⌝ }
+{
+    if has {
+        return at + 12;
+    }
+    at + 1
+}
+
+// How many numbers its table has.
+fn row_length(has: bool) -> usize
+    ensures { λ r. ⌜ r ≡ rowLength has ⌝ }
+{
+    if has {
+        return 4;
+    }
+    0
+}
+
+// Three fields of one chunk each, read where they stand.
+fn three_there(f: &[u8], month_at: usize, day_at: usize) -> ReadDate
+    requires { ⌜ Threefold (now f) «month_at» «day_at» ⌝ }
+    ensures { λ r. ⌜ r ≡ spec.readOf ThreeFields (now (f .entry)) ⌝ }
+{
+    let has_month = has_list(f, month_at);
+    let has_day = has_list(f, day_at);
+    let year = row_at(f, 2);
+    let month = row_at(f, month_at + 2);
+    let day = row_at(f, day_at + 2);
+    let m = text_start(has_month, month_at);
+    let d = text_start(has_day, day_at);
+    let i = row_length(has_month);
+    let j = row_length(has_day);
+    reader::parse_three_fields(
+        &f[12..month_at],
+        &year,
+        has_month,
+        &f[m..day_at],
+        &month[..i],
+        has_day,
+        &f[d..],
+        &day[..j],
+    )
 }
 
 // Three fields.
 fn read_three(f: &[u8]) -> ReadDate
-    requires { ⌜ (length (now f) ≤ 8192) × (spec.threeFill (now f) ≡ true) ⌝ }
+    requires { ⌜ (length (now f) ≤ 8192) × (spec.threeFill (now f) ≡ true) × (operationOf (now f) ≡ ThreeFields) ⌝ }
     ensures { λ r. ⌜ r ≡ spec.readOf ThreeFields (now (f .entry)) ⌝ }
 {
+    let month_at = list_end(f, 1);
+    let day_at = optional_end(f, month_at);
+    if byte_at(f, 1) == 1 {
+        if is_single(f, month_at) {
+            if is_single(f, day_at) {
+                return three_there(f, month_at, day_at);
+            }
+        }
+    }
     if f.len() <= 256 {
         let mut text = [0u8; 256];
         let mut table = [0u64; 128];
         return three_in(f, &mut text, &mut table);
     }
-    read_large(Operation::ThreeFields, f)
+    read_large(f)
 }
 
 // What is read of a frame; what is none is refused before anything is read.

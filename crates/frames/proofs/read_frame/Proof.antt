@@ -1,5 +1,5 @@
 use mathlib.Core.Path.{_∙_}
-use Rattle.frames.proofs.Parts.{is-formed, formed-read, unformed-read, one-of-ported, one-of-strict, by-ported, by-strict, three-of, nothing-read}
+use Rattle.frames.proofs.Parts.{is-formed, formed-read, unformed-read, one-of-ported, one-of-strict, by-ported, by-strict, three-of, nothing-read, op-is, ported-asked, strict-asked}
 use borrow.Author.Needs.{needs}
 use Rattle.frames.proofs.read_frame.Statement.{statement}
 use Rattle.frames.proofs.read_frame.Tie as tie
@@ -22,7 +22,7 @@ read-list-requires c κs =
     let b4 = b3 .before in
     let b5 = b4 .before in
     let s = b5 .before .before in
-    (s .pre, one-of-ported (s .args .f .now) (is-formed (s .args .f .now) (b5 .byte-at .ensures) (b4 .asked .ensures) (b3 .is-formed .ensures) (c .before .before .if1 .taken) (c .enum-told .given .1)))
+    (s .pre, one-of-ported (s .args .f .now) (is-formed (s .args .f .now) (b5 .byte-at .ensures) (b4 .asked .ensures) (b3 .is-formed .ensures) (c .before .before .if1 .taken) (c .enum-told .given .1)), ported-asked (s .args .f .now) (op-is (s .args .f .now) (b5 .byte-at .ensures) (b4 .asked .ensures) (c .enum-told .given .1)))
 
 enum-told-2 : tie.Need-enum-told-2
 enum-told-2 c = search needs
@@ -33,7 +33,7 @@ read-list-requires-2 c κs =
     let b4 = b3 .before in
     let b5 = b4 .before in
     let s = b5 .before .before in
-    (s .pre, one-of-strict (s .args .f .now) (is-formed (s .args .f .now) (b5 .byte-at .ensures) (b4 .asked .ensures) (b3 .is-formed .ensures) (c .before .before .if1 .taken) (c .enum-told2 .given .1)))
+    (s .pre, one-of-strict (s .args .f .now) (is-formed (s .args .f .now) (b5 .byte-at .ensures) (b4 .asked .ensures) (b3 .is-formed .ensures) (c .before .before .if1 .taken) (c .enum-told2 .given .1)), strict-asked (s .args .f .now) (op-is (s .args .f .now) (b5 .byte-at .ensures) (b4 .asked .ensures) (c .enum-told2 .given .1)))
 
 enum-told-3 : tie.Need-enum-told-3
 enum-told-3 c = search needs
@@ -44,7 +44,7 @@ read-three-requires c κs =
     let b4 = b3 .before in
     let b5 = b4 .before in
     let s = b5 .before .before in
-    (s .pre, three-of (s .args .f .now) (is-formed (s .args .f .now) (b5 .byte-at .ensures) (b4 .asked .ensures) (b3 .is-formed .ensures) (c .before .before .if1 .taken) (c .enum-told3 .given .1)))
+    (s .pre, three-of (s .args .f .now) (is-formed (s .args .f .now) (b5 .byte-at .ensures) (b4 .asked .ensures) (b3 .is-formed .ensures) (c .before .before .if1 .taken) (c .enum-told3 .given .1)), op-is (s .args .f .now) (b5 .byte-at .ensures) (b4 .asked .ensures) (c .enum-told3 .given .1))
 
 enum-told-4 : tie.Need-enum-told-4
 enum-told-4 c = search needs

@@ -1,6 +1,6 @@
-use mathlib.Core.Path.{sym, _∙_}
+use mathlib.Core.Path.{_∙_}
 use native.Mathlib.Omega.{arith}
-use Rattle.frames.proofs.Parts.{Single, single, ported-of-one, strict-of-one, by-ported, by-strict}
+use Rattle.frames.proofs.Parts.{single, list-formed, list-by}
 use borrow.Author.Needs.{needs}
 use Rattle.frames.proofs.read_list.Statement.{statement}
 use Rattle.frames.proofs.read_list.Tie as tie
@@ -58,23 +58,13 @@ returns-2 c = search needs
 
 read-large-requires : tie.Need-read-large-requires
 read-large-requires c κs =
-    let s = c .before .before .before .before .before in
-    (s .pre .0, strict-of-one (s .args .f .now) (s .pre .1))
+    let s = c .before .before .before .before in
+    (s .pre .0, list-formed (s .args .f .now) (s .args .strict) (s .pre .1) (s .pre .2))
 
 returns-3 : tie.Need-returns-3
 returns-3 c =
-    let s = c .before .before .before .before .before .before in
-    rw (c .before .if3 .taken) (c .read-large .ensures ∙ sym (by-strict (s .args .f .now)))
-
-read-large-requires-2 : tie.Need-read-large-requires-2
-read-large-requires-2 c κs =
     let s = c .before .before .before .before .before in
-    (s .pre .0, ported-of-one (s .args .f .now) (s .pre .1))
-
-returns-4 : tie.Need-returns-4
-returns-4 c =
-    let s = c .before .before .before .before .before .before in
-    rw (c .before .if3 .left) (c .read-large2 .ensures ∙ sym (by-ported (s .args .f .now)))
+    c .read-large .ensures ∙ list-by (s .args .f .now) (s .args .strict) (s .pre .2)
 
 pub read-list-spec : {M : Type 1} → statement M
 read-list-spec =
@@ -93,6 +83,4 @@ read-list-spec =
     list-in-requires
     returns-2
     read-large-requires
-    returns-3
-    read-large-requires-2
-    returns-4)
+    returns-3)

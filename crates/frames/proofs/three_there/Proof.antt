@@ -1,0 +1,168 @@
+use Prim.Native.Nat.{_+_}
+use mathlib.Core.Path.{sym, _∙_}
+use native.Mathlib.Omega.{arith}
+use lib.Seq.{length-take-le}
+use Rattle.frames.proofs.Parts.{are-there, month-starts, day-starts, row-taken, there-read}
+use borrow.Author.Needs.{needs}
+use Rattle.frames.proofs.three_there.Statement.{statement}
+use Rattle.frames.proofs.three_there.Tie as tie
+
+has-list-requires : tie.Need-has-list-requires
+has-list-requires c κs = search needs
+
+has-list-requires-2 : tie.Need-has-list-requires-2
+has-list-requires-2 c κs = search needs
+
+row-at-requires : tie.Need-row-at-requires
+row-at-requires c κs = search needs
+
+add-row-at : tie.Need-add-row-at
+add-row-at c =
+    let s = c .before .before .before .before in
+    let t = are-there (s .pre) in
+    omega (arith, s .pre .small, t .year-chunk .long, t .month-before, t .day-before)
+
+row-at-requires-2 : tie.Need-row-at-requires-2
+row-at-requires-2 c κs =
+    let s = c .before .before .before .before in
+    let t = are-there (s .pre) in
+    omega (arith, s .pre .small, t .year-chunk .long, t .month-before, t .day-before)
+
+add-row-at-2 : tie.Need-add-row-at-2
+add-row-at-2 c =
+    let s = c .before .before .before .before .before in
+    let t = are-there (s .pre) in
+    omega (arith, s .pre .small, t .year-chunk .long, t .month-before, t .day-before)
+
+row-at-requires-3 : tie.Need-row-at-requires-3
+row-at-requires-3 c κs =
+    let s = c .before .before .before .before .before in
+    let t = are-there (s .pre) in
+    omega (arith, s .pre .small, t .year-chunk .long, t .month-before, t .day-before)
+
+text-start-requires : tie.Need-text-start-requires
+text-start-requires c κs =
+    let s = c .before .before .before .before .before .before in
+    let t = are-there (s .pre) in
+    omega (arith, s .pre .small, t .year-chunk .long, t .month-before, t .day-before)
+
+text-start-requires-2 : tie.Need-text-start-requires-2
+text-start-requires-2 c κs =
+    let s = c .before .before .before .before .before .before .before in
+    let t = are-there (s .pre) in
+    omega (arith, s .pre .small, t .year-chunk .long, t .month-before, t .day-before)
+
+row-length-requires : tie.Need-row-length-requires
+row-length-requires c κs = search needs
+
+row-length-requires-2 : tie.Need-row-length-requires-2
+row-length-requires-2 c κs = search needs
+
+sub-parse-three-fields : tie.Need-sub-parse-three-fields
+sub-parse-three-fields c =
+    let s = c .before .before .before .before .before .before .before .before .before .before in
+    let t = are-there (s .pre) in
+    omega (arith, s .pre .small, t .year-chunk .long, t .month-before, t .day-before)
+
+part-parse-three-fields-start : tie.Need-part-parse-three-fields-start
+part-parse-three-fields-start c =
+    let s = c .before .before .before .before .before .before .before .before .before .before in
+    let t = are-there (s .pre) in
+    omega (arith, s .pre .small, t .year-chunk .long, t .month-before, t .day-before)
+
+part-parse-three-fields-end : tie.Need-part-parse-three-fields-end
+part-parse-three-fields-end c =
+    let s = c .before .before .before .before .before .before .before .before .before .before in
+    let t = are-there (s .pre) in
+    omega (arith, s .pre .small, t .year-chunk .long, t .month-before, t .day-before)
+
+slice-aggregate-parse-three-fields : tie.Need-slice-aggregate-parse-three-fields
+slice-aggregate-parse-three-fields c = search needs
+
+sub-parse-three-fields-2 : tie.Need-sub-parse-three-fields-2
+sub-parse-three-fields-2 c =
+    let s = c .before .before .before .before .before .before .before .before .before .before .before .before in
+    let t = are-there (s .pre) in
+    omega (arith, s .pre .small, t .year-chunk .long, t .month-before, t .day-before, month-starts (s .pre) (c .before .before .before .before .before .before .before .before .before .before .has-list .ensures) (c .before .before .before .before .before .text-start .ensures))
+
+part-parse-three-fields-start-2 : tie.Need-part-parse-three-fields-start-2
+part-parse-three-fields-start-2 c =
+    let s = c .before .before .before .before .before .before .before .before .before .before .before .before in
+    let t = are-there (s .pre) in
+    omega (arith, s .pre .small, t .year-chunk .long, t .month-before, t .day-before, month-starts (s .pre) (c .before .before .before .before .before .before .before .before .before .before .has-list .ensures) (c .before .before .before .before .before .text-start .ensures))
+
+part-parse-three-fields-end-2 : tie.Need-part-parse-three-fields-end-2
+part-parse-three-fields-end-2 c =
+    let s = c .before .before .before .before .before .before .before .before .before .before .before .before in
+    let t = are-there (s .pre) in
+    omega (arith, s .pre .small, t .year-chunk .long, t .month-before, t .day-before, month-starts (s .pre) (c .before .before .before .before .before .before .before .before .before .before .has-list .ensures) (c .before .before .before .before .before .text-start .ensures))
+
+array-share-prefix-month : tie.Need-array-share-prefix-month
+array-share-prefix-month c = row-taken (c .before .before .before .before .before .before .before .before .before .before .before .before .before .args .f .now) (c .before .before .before .before .before .before .before .before .before .before .before .before .before .args .month-at + 2) (c .before .before .before .before .before .before .before .before .before .before .before .has-list .result) (c .before .before .before .before .row-length .ensures) (c .before .before .before .before .before .before .before .before .row-at2 .ensures)
+
+slice-aggregate-parse-three-fields-2 : tie.Need-slice-aggregate-parse-three-fields-2
+slice-aggregate-parse-three-fields-2 c = sym (length-take-le _ _ (row-taken (c .before .before .before .before .before .before .before .before .before .before .before .before .before .before .args .f .now) (c .before .before .before .before .before .before .before .before .before .before .before .before .before .before .args .month-at + 2) (c .before .before .before .before .before .before .before .before .before .before .before .before .has-list .result) (c .before .before .before .before .before .row-length .ensures) (c .before .before .before .before .before .before .before .before .before .row-at2 .ensures)))
+
+sub-parse-three-fields-3 : tie.Need-sub-parse-three-fields-3
+sub-parse-three-fields-3 c =
+    let s = c .before .before .before .before .before .before .before .before .before .before .before .before .before .before in
+    let t = are-there (s .pre) in
+    omega (arith, s .pre .small, t .year-chunk .long, t .month-before, t .day-before, day-starts (s .pre) (c .before .before .before .before .before .before .before .before .before .before .before .has-list2 .ensures) (c .before .before .before .before .before .before .text-start2 .ensures))
+
+part-parse-three-fields-start-3 : tie.Need-part-parse-three-fields-start-3
+part-parse-three-fields-start-3 c =
+    let s = c .before .before .before .before .before .before .before .before .before .before .before .before .before .before in
+    let t = are-there (s .pre) in
+    omega (arith, s .pre .small, t .year-chunk .long, t .month-before, t .day-before, day-starts (s .pre) (c .before .before .before .before .before .before .before .before .before .before .before .has-list2 .ensures) (c .before .before .before .before .before .before .text-start2 .ensures))
+
+part-parse-three-fields-end-3 : tie.Need-part-parse-three-fields-end-3
+part-parse-three-fields-end-3 c =
+    let s = c .before .before .before .before .before .before .before .before .before .before .before .before .before .before in
+    let t = are-there (s .pre) in
+    omega (arith, s .pre .small, t .year-chunk .long, t .month-before, t .day-before, day-starts (s .pre) (c .before .before .before .before .before .before .before .before .before .before .before .has-list2 .ensures) (c .before .before .before .before .before .before .text-start2 .ensures))
+
+array-share-prefix-day : tie.Need-array-share-prefix-day
+array-share-prefix-day c = row-taken (c .before .before .before .before .before .before .before .before .before .before .before .before .before .before .before .args .f .now) (c .before .before .before .before .before .before .before .before .before .before .before .before .before .before .before .args .day-at + 2) (c .before .before .before .before .before .before .before .before .before .before .before .before .has-list2 .result) (c .before .before .before .before .before .row-length2 .ensures) (c .before .before .before .before .before .before .before .before .before .row-at3 .ensures)
+
+slice-aggregate-parse-three-fields-3 : tie.Need-slice-aggregate-parse-three-fields-3
+slice-aggregate-parse-three-fields-3 c = sym (length-take-le _ _ (row-taken (c .before .before .before .before .before .before .before .before .before .before .before .before .before .before .before .before .args .f .now) (c .before .before .before .before .before .before .before .before .before .before .before .before .before .before .before .before .args .day-at + 2) (c .before .before .before .before .before .before .before .before .before .before .before .before .before .has-list2 .result) (c .before .before .before .before .before .before .row-length2 .ensures) (c .before .before .before .before .before .before .before .before .before .before .row-at3 .ensures)))
+
+parse-three-fields-requires : tie.Need-parse-three-fields-requires
+parse-three-fields-requires c κs = search needs
+
+returns : tie.Need-returns
+returns c =
+    let s = c .before .before .before .before .before .before .before .before .before .before .before .before .before .before .before .before .before in
+    c .parse-three-fields .ensures ∙ there-read (s .pre) (c .before .before .before .before .before .before .before .before .before .before .before .before .before .before .before .has-list .ensures) (c .before .before .before .before .before .before .before .before .before .before .before .before .before .before .has-list2 .ensures) (c .before .before .before .before .before .before .before .before .before .before .text-start .ensures) (c .before .before .before .before .before .before .before .before .before .text-start2 .ensures) (c .before .before .before .before .before .before .before .before .row-length .ensures) (c .before .before .before .before .before .before .before .row-length2 .ensures) (c .before .before .before .before .before .before .before .before .before .before .before .before .before .row-at .ensures) (c .before .before .before .before .before .before .before .before .before .before .before .before .row-at2 .ensures) (c .before .before .before .before .before .before .before .before .before .before .before .row-at3 .ensures)
+
+pub three-there-spec : {M : Type 1} → statement M
+three-there-spec =
+    tie.close
+    (tie.spec
+    has-list-requires
+    has-list-requires-2
+    row-at-requires
+    add-row-at
+    row-at-requires-2
+    add-row-at-2
+    row-at-requires-3
+    text-start-requires
+    text-start-requires-2
+    row-length-requires
+    row-length-requires-2
+    sub-parse-three-fields
+    part-parse-three-fields-start
+    part-parse-three-fields-end
+    slice-aggregate-parse-three-fields
+    sub-parse-three-fields-2
+    part-parse-three-fields-start-2
+    part-parse-three-fields-end-2
+    array-share-prefix-month
+    slice-aggregate-parse-three-fields-2
+    sub-parse-three-fields-3
+    part-parse-three-fields-start-3
+    part-parse-three-fields-end-3
+    array-share-prefix-day
+    slice-aggregate-parse-three-fields-3
+    parse-three-fields-requires
+    returns)
