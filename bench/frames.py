@@ -9,8 +9,11 @@ A line each: call, bytes, and the largest frame in it with its function."""
 import re, subprocess, sys
 
 MOVED = re.compile(r'sub +\$(0x[0-9a-f]+),%rsp')
-# what is pushed is popped, what is subtracted is added
-UNDONE = re.compile(r'pop|add +\$0x[0-9a-f]+,%rsp')
+# a large frame is taken a page at a time, in a loop up to a place; the page that the loop subtracts counts as the last of them
+PROBED = re.compile(r'sub +\$(0x[0-9a-f]+),%r11')
+PAGE = 0x1000
+# what is pushed is popped, what is subtracted is added; where such a loop ends is only compared
+UNDONE = re.compile(r'pop|add +\$0x[0-9a-f]+,%rsp|cmp +%r11,%rsp')
 BELOW = re.compile(r'-(0x[0-9a-f]+)\(%rsp')
 CALLED = re.compile(r'R_X86_64_PLT32\t(?:\.text\.)?(\S+?)-0x4')
 
@@ -30,6 +33,8 @@ def functions(library):
             found[name][0] += 8
         elif moved := MOVED.match(code):
             found[name][0] += int(moved[1], 16)
+        elif probed := PROBED.match(code):
+            found[name][0] += int(probed[1], 16) - PAGE
         elif called := CALLED.search(code):
             found[name][2].add(called[1])
         elif code.startswith('call') or re.search(r',%[re]?sp\b', code) and not UNDONE.match(code):

@@ -1,2 +1,3 @@
 pub mod Plain
 pub mod Back
+pub mod Quick

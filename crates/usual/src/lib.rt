@@ -7,7 +7,7 @@ use datefield::ReadDate;
 use strict::Matched;
 
 // Whether a list is one Normal chunk with all of the bytes.
-fn is_one_normal(bytes: &[u8], table: &[u64]) -> bool
+pub fn is_one_normal(bytes: &[u8], table: &[u64]) -> bool
     ensures { λ r. ⌜ r ≡ once.oneNormal (now (bytes .entry)) (now (table .entry)) ⌝ }
 {
     if table.len() == 4 {
