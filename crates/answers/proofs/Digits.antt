@@ -10,6 +10,7 @@ use lib.ListN.{length, getD, drop, set, length-append, drop-of-length-le}
 use lib.Seq.{sets, drop-cons}
 use borrow.Author.Tests.{ltb-true}
 use lib.Bits.{bitAnd, bitOr}
+use Rattle.chars.proofs.Spelled.{bytesAt, entries}
 use Rattle.dates.specs.declared.TimeOffset.{TimeOffset}
 use Rattle.dates.specs.declared.TimeOffset.the-variants.{Utc, Offset}
 use Rattle.dates.specs.declared.OptionOffset.{OptionOffset}
@@ -25,7 +26,7 @@ use Rattle.refusals.specs.declared.Refusal.{Refusal}
 use Rattle.refusals.specs.Refusal.{number}
 use Rattle.writer.specs.Answers.{Put}
 use Rattle.writer.proofs.Puts.{as-text, both, kept}
-use Rattle.answers.specs.Answer.{glyph, hexText, wordBytes, twos, monthByte, dayByte, bit, marks, shiftBytes, offsetBytes, timeBytes, datetimeBytes, shape, endsBytes, longBytes, acceptedBytes, refusedBytes, lineOf}
+use Rattle.answers.specs.Answer.{glyph, hexText, wordBytes, twos, monthByte, dayByte, bit, marks, shiftBytes, offsetBytes, timeBytes, datetimeBytes, shape, endsBytes, longBytes, bytesWith, acceptedBytes, refusedBytes, lineOf, oneLine, twoLine, acceptedLine}
 
 -- two digits a byte
 pub length-hex : (t : List ℕ) → length (hexText t) ≡ 2 * length t
@@ -105,53 +106,41 @@ pub length-datetime : (d : Datetime) → length (datetimeBytes d) ≡ 13
 unfolding datetimeBytes
 length-datetime d = let e = length-time (d .time) in omega arith
 
-pub no-time : {t : OptionTime} → t ≡ NoTime → timeBytes t ≡ 0 ∷ 0 ∷ 0 ∷ 0 ∷ 0 ∷ 0 ∷ 0 ∷ []
+pub no-time : {t : OptionTime} → t ≡ NoTime → 0 ∷ 0 ∷ 0 ∷ 0 ∷ 0 ∷ 0 ∷ 0 ∷ [] ≡ timeBytes t
 unfolding timeBytes
-no-time e = rw e
+no-time e = rw e refl
 
-pub some-time : {t : OptionTime} {u : Time} {o : List ℕ} → t ≡ SomeTime u → o ≡ offsetBytes (u .offset) → timeBytes t ≡ (1 ∷ u .hour ∷ u .minute ∷ u .second ∷ []) ++ o
+pub some-time : {t : OptionTime} {u : Time} {o : List ℕ} → t ≡ SomeTime u → o ≡ offsetBytes (u .offset) → (1 ∷ u .hour ∷ u .minute ∷ u .second ∷ []) ++ bytesAt 3 0 o ≡ timeBytes t
 unfolding timeBytes
-some-time e g = rw (e, g)
+some-time {u = u} {o = o} e g = rw e (ap (λ (l : List ℕ). 1 ∷ u .hour ∷ u .minute ∷ u .second ∷ l) (entries 3 o (ap length g ∙ length-offset (u .offset)) ∙ g))
 
-pub datetime-is : (d : Datetime) {n m k : ℕ} {w : List ℕ} → n ≡ twos (d .year) → w ≡ wordBytes n → m ≡ monthByte (d .month) → k ≡ dayByte (d .day)
-    → datetimeBytes d ≡ w ++ ((m ∷ k ∷ []) ++ timeBytes (d .time))
+pub datetime-is : (d : Datetime) {n m k : ℕ} {w t : List ℕ} → n ≡ twos (d .year) → w ≡ wordBytes n → m ≡ monthByte (d .month) → k ≡ dayByte (d .day) → t ≡ timeBytes (d .time)
+    → bytesAt 4 0 w ++ ((m ∷ k ∷ []) ++ bytesAt 7 0 t) ≡ datetimeBytes d
 unfolding datetimeBytes
-datetime-is d en ew em ek = rw (ew, en, em, ek)
-
--- one Datetime, or two
-pub ends-at : {v : DateValue} {d : Datetime} → v ≡ At d → endsBytes v ≡ datetimeBytes d
-unfolding endsBytes
-ends-at e = rw e
-
-pub ends-after : {v : DateValue} {d : Datetime} → v ≡ After d → endsBytes v ≡ datetimeBytes d
-unfolding endsBytes
-ends-after e = rw e
-
-pub ends-before : {v : DateValue} {d : Datetime} → v ≡ Before d → endsBytes v ≡ datetimeBytes d
-unfolding endsBytes
-ends-before e = rw e
-
-pub ends-between : {v : DateValue} {a b : Datetime} → v ≡ Between a b → endsBytes v ≡ datetimeBytes a ++ datetimeBytes b
-unfolding endsBytes
-ends-between e = rw e
-
-pub one-end : (v : DateValue) (d : Datetime) → endsBytes v ≡ datetimeBytes d → 13 ≡ length (endsBytes v)
-one-end v d e = sym (ap length e ∙ length-datetime d)
-
-pub two-ends : (v : DateValue) (a b : Datetime) → endsBytes v ≡ datetimeBytes a ++ datetimeBytes b → 26 ≡ length (endsBytes v)
-two-ends v a b e =
-    let n = ap length e ∙ length-append (datetimeBytes a) (datetimeBytes b) in
-    let x = length-datetime a in
-    let y = length-datetime b in
-    omega arith
+datetime-is d {m = m} {k = k} {w = w} {t = t} en ew em ek et =
+    ap (λ (l : List ℕ). l ++ ((m ∷ k ∷ []) ++ bytesAt 7 0 t)) (entries 4 w (ap length ew))
+    ∙ ap (λ (l : List ℕ). w ++ ((m ∷ k ∷ []) ++ l)) (entries 7 t (ap length et ∙ length-time (d .time)))
+    ∙ rw (ew, en, em, ek, et) refl
 
 -- the length of a line
 pub length-line : (b : List ℕ) → length (lineOf b) ≡ 2 * length b + 1
 length-line b = length-append (hexText b) (0x0A ∷ []) ∙ let e = length-hex b in omega arith
 
-pub length-accepted : (d : Date) (text : List ℕ) → length (acceptedBytes d text) ≡ 3 + length (endsBytes (d .value)) + length text
-unfolding acceptedBytes
-length-accepted d text = let e = length-append (endsBytes (d .value)) text in omega arith
+pub length-one : (n m : ℕ) (d : Datetime) (text : List ℕ) → length (oneLine n m d text) ≡ 2 * (16 + length text) + 1
+length-one n m d text =
+    length-line (bytesWith n m (datetimeBytes d) text)
+    ∙ let e = length-append (datetimeBytes d) text in
+    let f = length-datetime d in
+    omega arith
+
+pub length-two : (m : ℕ) (a b : Datetime) (text : List ℕ) → length (twoLine m a b text) ≡ 2 * (29 + length text) + 1
+length-two m a b text =
+    length-line (bytesWith 3 m (datetimeBytes a ++ datetimeBytes b) text)
+    ∙ let e = length-append (datetimeBytes a ++ datetimeBytes b) text in
+    let f = length-append (datetimeBytes a) (datetimeBytes b) in
+    let g = length-datetime a in
+    let h = length-datetime b in
+    omega arith
 
 pub length-refused : (e : Refusal) → length (refusedBytes e) ≡ 17
 unfolding refusedBytes
@@ -161,10 +150,23 @@ length-refused e = refl
 pub line-put : (b : List ℕ) {l m p : List ℕ} {j k : ℕ} → Put (hexText b) l 0 m j → Put (0x0A ∷ []) m j p k → Put (lineOf b) l 0 p k
 line-put b p q = both p q
 
-pub accepted-is : (d : Date) (text : List ℕ) {s m : ℕ} → s ≡ shape (d .value) → m ≡ marks (d .uncertain) (d .approximate)
-    → acceptedBytes d text ≡ (0 ∷ s ∷ m ∷ []) ++ (endsBytes (d .value) ++ text)
-unfolding acceptedBytes
-accepted-is d text es em = rw (es, em)
+-- the line of a Date, by what it has
+module _ (d : Date) (text : List ℕ) {m : ℕ} (em : m ≡ marks (d .uncertain) (d .approximate)) where
+  pub at-line : {a : Datetime} → d .value ≡ At a → oneLine 0 m a text ≡ acceptedLine d text
+  unfolding acceptedBytes shape endsBytes
+  at-line e = rw (e, em) refl
+
+  pub after-line : {a : Datetime} → d .value ≡ After a → oneLine 1 m a text ≡ acceptedLine d text
+  unfolding acceptedBytes shape endsBytes
+  after-line e = rw (e, em) refl
+
+  pub before-line : {a : Datetime} → d .value ≡ Before a → oneLine 2 m a text ≡ acceptedLine d text
+  unfolding acceptedBytes shape endsBytes
+  before-line e = rw (e, em) refl
+
+  pub between-line : {a b : Datetime} → d .value ≡ Between a b → twoLine m a b text ≡ acceptedLine d text
+  unfolding acceptedBytes shape endsBytes
+  between-line e = rw (e, em) refl
 
 pub refused-is : (e : Refusal) {n : ℕ} → n ≡ number (e .kind) → refusedBytes e ≡ (n ∷ []) ++ (longBytes (e .place .0) ++ longBytes (e .place .1))
 unfolding refusedBytes

@@ -77,9 +77,6 @@ module _ (d : Date) (h : panics d ≡ false → length (dateText d) ≤ 40) (tex
         rw (et, calm, size, fits-it calm)
         (let a = length-append (dateText d) (drop (length (dateText d)) text) in omega (arith, count))
 
-    pub text-short : length (take n text') ≤ 40
-    text-short = let e = ap length text-is in let m = h calm in omega arith
-
     pub date-line : acceptedLine d (take n text') ≡ answerLine (Accepted d)
     unfolding answerLine pick
     date-line = rw (text-is, calm)

@@ -101,9 +101,13 @@ bit false = 0
 unfoldable pub marks : Bool → Bool → ℕ
 marks uncertain approximate = bit uncertain + 2 * bit approximate
 
--- a Date with its written text: 00, its shape, its marks, its Datetimes, and the text
+-- 00, a shape, marks, Datetimes, and a text
+abbrev pub bytesWith : ℕ → ℕ → List ℕ → List ℕ → List ℕ
+bytesWith n m ends text = (0 ∷ n ∷ m ∷ []) ++ (ends ++ text)
+
+-- a Date with its written text
 unfoldable pub acceptedBytes : Date → List ℕ → List ℕ
-acceptedBytes d text = (0 ∷ shape (d .value) ∷ marks (d .uncertain) (d .approximate) ∷ []) ++ (endsBytes (d .value) ++ text)
+acceptedBytes d text = bytesWith (shape (d .value)) (marks (d .uncertain) (d .approximate)) (endsBytes (d .value)) text
 
 -- a refusal: its number, and its place from start to end
 unfoldable pub refusedBytes : Refusal → List ℕ
@@ -112,6 +116,14 @@ refusedBytes e = (number (e .kind) ∷ []) ++ (longBytes (e .place .0) ++ longBy
 -- a line: the digits of bytes and a line feed
 abbrev pub lineOf : List ℕ → List ℕ
 lineOf bytes = hexText bytes ++ (0x0A ∷ [])
+
+-- the line of a shape and marks by their numbers, with one Datetime
+abbrev pub oneLine : ℕ → ℕ → Datetime → List ℕ → List ℕ
+oneLine n m d text = lineOf (bytesWith n m (datetimeBytes d) text)
+
+-- the same with both ends of a range
+abbrev pub twoLine : ℕ → Datetime → Datetime → List ℕ → List ℕ
+twoLine m a b text = lineOf (bytesWith 3 m (datetimeBytes a ++ datetimeBytes b) text)
 
 -- the line of a Date, whose written text is given: a Date that cannot be written has none
 abbrev pub acceptedLine : Date → List ℕ → List ℕ

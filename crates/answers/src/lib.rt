@@ -4,6 +4,7 @@ ghost use mathlib.Core.Path.{_≡_};
 ghost use mathlib.Core.Bool.{false};
 ghost use mathlib.Core.List.{[], _∷_, _++_};
 ghost use Prim.Native.Nat.{_+_, _*_, _/_, _%_, _≤_, _<_};
+ghost use lib.Dec.{ltb};
 ghost use lib.ListN.{length};
 ghost use Rattle.writer.specs.Answers as writing;
 ghost use Rattle.writer.specs.Answers.{Put};
@@ -98,16 +99,44 @@ fn offset_bytes(o: OptionOffset) -> [u8; 3]
     }
 }
 
-// The shape of a point or a range.
-fn shape(v: DateValue) -> u8
-    ensures { λ r. ⌜ r ≡ spec.shape v ⌝ }
+// A time, and its offset; zeros if it is absent.
+fn time_bytes(t: OptionTime) -> [u8; 7]
+    ensures { λ r. ⌜ r ≡ spec.timeBytes t ⌝ }
 {
-    match v {
-        DateValue::At(_) => 0,
-        DateValue::After(_) => 1,
-        DateValue::Before(_) => 2,
-        DateValue::Between(_, _) => 3,
+    match t {
+        OptionTime::NoTime => [0, 0, 0, 0, 0, 0, 0],
+        OptionTime::SomeTime(t) => {
+            let offset = t.offset;
+            let o = offset_bytes(offset);
+            [1, t.hour, t.minute, t.second, o[0], o[1], o[2]]
+        }
     }
+}
+
+// A Datetime, in 13 bytes whatever it has: what is absent is ff or zeros.
+fn datetime_bytes(d: Datetime) -> [u8; 13]
+    ensures { λ r. ⌜ r ≡ spec.datetimeBytes d ⌝ }
+{
+    let month = d.month;
+    let day = d.day;
+    let time = d.time;
+    let y = word(twos(d.year));
+    let t = time_bytes(time);
+    [
+        y[0],
+        y[1],
+        y[2],
+        y[3],
+        month_byte(month),
+        day_byte(day),
+        t[0],
+        t[1],
+        t[2],
+        t[3],
+        t[4],
+        t[5],
+        t[6],
+    ]
 }
 
 // A mark is 1 where it stands.
@@ -168,62 +197,6 @@ fn put_hex(t: &[u8], out: &mut [u8], at: usize) -> usize
     at + 2 * i
 }
 
-// A time, and its offset; zeros if it is absent.
-fn put_time(t: OptionTime, out: &mut [u8], at: usize) -> usize
-    requires { ⌜ at + 14 ≤ length (now out) ⌝ }
-    ensures { λ r. ⌜ Put (spec.hexText (spec.timeBytes t)) (now (out .entry)) at (now (out .exit)) r ⌝ }
-{
-    match t {
-        OptionTime::NoTime => put_hex(&[0, 0, 0, 0, 0, 0, 0], out, at),
-        OptionTime::SomeTime(t) => {
-            let offset = t.offset;
-            let k = put_hex(&[1, t.hour, t.minute, t.second], out, at);
-            put_hex(&offset_bytes(offset), out, k)
-        }
-    }
-}
-
-// A Datetime, in 13 bytes whatever it has: what is absent is ff or zeros.
-fn put_datetime(d: Datetime, out: &mut [u8], at: usize) -> usize
-    requires { ⌜ at + 26 ≤ length (now out) ⌝ }
-    ensures { λ r. ⌜ Put (spec.hexText (spec.datetimeBytes d)) (now (out .entry)) at (now (out .exit)) r ⌝ }
-{
-    let month = d.month;
-    let day = d.day;
-    let time = d.time;
-    let i = put_hex(&word(twos(d.year)), out, at);
-    let j = put_hex(&[month_byte(month), day_byte(day)], out, i);
-    put_time(time, out, j)
-}
-
-// Each Datetime of a point or a range.
-fn put_ends(v: DateValue, out: &mut [u8], at: usize) -> usize
-    requires { ⌜ at + 2 * length (spec.endsBytes v) ≤ length (now out) ⌝ }
-    ensures { λ r. ⌜ Put (spec.hexText (spec.endsBytes v)) (now (out .entry)) at (now (out .exit)) r ⌝ }
-{
-    match v {
-        DateValue::At(d) => put_datetime(d, out, at),
-        DateValue::After(d) => put_datetime(d, out, at),
-        DateValue::Before(d) => put_datetime(d, out, at),
-        DateValue::Between(a, b) => {
-            let k = put_datetime(a, out, at);
-            put_datetime(b, out, k)
-        }
-    }
-}
-
-// How many bytes they have.
-fn ends_length(v: DateValue) -> usize
-    ensures { λ r. ⌜ (r ≡ length (spec.endsBytes v)) × (r < 27) ⌝ }
-{
-    match v {
-        DateValue::At(_) => 13,
-        DateValue::After(_) => 13,
-        DateValue::Before(_) => 13,
-        DateValue::Between(_, _) => 26,
-    }
-}
-
 // Each answer ends its line, so that an answer can be read as soon as it is written.
 fn end_line(out: &mut [u8], at: usize) -> usize
     requires { ⌜ at + 1 ≤ length (now out) ⌝ }
@@ -233,14 +206,25 @@ fn end_line(out: &mut [u8], at: usize) -> usize
     at + 1
 }
 
-// The line of a Date, whose written text is given.
-fn put_accepted(d: Date, text: &[u8], out: &mut [u8]) -> usize
-    requires { ⌜ length (spec.acceptedLine d (now text)) ≤ length (now out) ⌝ }
-    ensures { λ r. ⌜ Put (spec.acceptedLine d (now (text .entry))) (now (out .entry)) 0 (now (out .exit)) r ⌝ }
+// The line of a Date with one Datetime, whose written text is given.
+fn put_one(shape: u8, marks: u8, d: Datetime, text: &[u8], out: &mut [u8]) -> usize
+    requires { ⌜ length (spec.oneLine shape marks d (now text)) ≤ length (now out) ⌝ }
+    ensures { λ r. ⌜ Put (spec.oneLine shape marks d (now (text .entry))) (now (out .entry)) 0 (now (out .exit)) r ⌝ }
 {
-    let v = d.value;
-    let i = put_hex(&[0, shape(v), marks(d.uncertain, d.approximate)], out, 0);
-    let j = put_ends(v, out, i);
+    let i = put_hex(&[0, shape, marks], out, 0);
+    let j = put_hex(&datetime_bytes(d), out, i);
+    let k = put_hex(text, out, j);
+    end_line(out, k)
+}
+
+// The same with two.
+fn put_two(marks: u8, a: Datetime, b: Datetime, text: &[u8], out: &mut [u8]) -> usize
+    requires { ⌜ length (spec.twoLine marks a b (now text)) ≤ length (now out) ⌝ }
+    ensures { λ r. ⌜ Put (spec.twoLine marks a b (now (text .entry))) (now (out .entry)) 0 (now (out .exit)) r ⌝ }
+{
+    let h = put_hex(&[0, 3, marks], out, 0);
+    let i = put_hex(&datetime_bytes(a), out, h);
+    let j = put_hex(&datetime_bytes(b), out, i);
     let k = put_hex(text, out, j);
     end_line(out, k)
 }
@@ -287,17 +271,53 @@ fn write_refused(e: Refusal, out: &mut [u8]) -> Written
     Written::Done(put_refused(e, out))
 }
 
+// Whether a buffer is shorter than the line of so many bytes and a text.
+fn is_short(room: usize, bytes: usize, text: usize) -> bool
+    requires { ⌜ bytes ≤ 29 ⌝ }
+    ensures { λ r. ⌜ r ≡ ltb room (2 * (bytes + text) + 1) ⌝ }
+{
+    let least = 2 * bytes + 1;
+    if room < least {
+        return true;
+    }
+    (room - least) / 2 < text
+}
+
+// The line of a Date with one Datetime, by the numbers of its shape and its marks, whose written text is given, if there is room for it.
+pub fn write_one(shape: u8, marks: u8, d: Datetime, text: &[u8], out: &mut [u8]) -> Written
+    ensures { λ r. ⌜ r ≡ writing.answer false (spec.oneLine shape marks d (now (text .entry))) (length (now (out .entry))) ⌝ }
+    ensures { λ r. ⌜ now (out .exit) ≡ writing.afterwards false (spec.oneLine shape marks d (now (text .entry))) (now (out .entry)) ⌝ }
+{
+    if is_short(out.len(), 16, text.len()) {
+        return no_room();
+    }
+    Written::Done(put_one(shape, marks, d, text, out))
+}
+
+// The same of a range with two.
+pub fn write_two(marks: u8, a: Datetime, b: Datetime, text: &[u8], out: &mut [u8]) -> Written
+    ensures { λ r. ⌜ r ≡ writing.answer false (spec.twoLine marks a b (now (text .entry))) (length (now (out .entry))) ⌝ }
+    ensures { λ r. ⌜ now (out .exit) ≡ writing.afterwards false (spec.twoLine marks a b (now (text .entry))) (now (out .entry)) ⌝ }
+{
+    if is_short(out.len(), 29, text.len()) {
+        return no_room();
+    }
+    Written::Done(put_two(marks, a, b, text, out))
+}
+
 // The line of a Date, whose written text is given, if there is room for it.
 fn write_accepted(d: Date, text: &[u8], out: &mut [u8]) -> Written
-    requires { ⌜ length (now text) ≤ 40 ⌝ }
     ensures { λ r. ⌜ r ≡ writing.answer false (spec.acceptedLine d (now (text .entry))) (length (now (out .entry))) ⌝ }
     ensures { λ r. ⌜ now (out .exit) ≡ writing.afterwards false (spec.acceptedLine d (now (text .entry))) (now (out .entry)) ⌝ }
 {
     let v = d.value;
-    if out.len() < 2 * (3 + ends_length(v) + text.len()) + 1 {
-        return no_room();
+    let m = marks(d.uncertain, d.approximate);
+    match v {
+        DateValue::At(a) => write_one(0, m, a, text, out),
+        DateValue::After(a) => write_one(1, m, a, text, out),
+        DateValue::Before(a) => write_one(2, m, a, text, out),
+        DateValue::Between(a, b) => write_two(m, a, b, text, out),
     }
-    Written::Done(put_accepted(d, text, out))
 }
 
 // The line of a Date; where it has no written text, that of the refusal.

@@ -5,3 +5,4 @@ pub mod Encode
 pub mod Laws
 pub mod Table
 pub mod Uppers
+pub mod Spelled

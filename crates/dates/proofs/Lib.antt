@@ -1,3 +1,4 @@
 pub mod Signs
 pub mod Months
 pub mod Clock
+pub mod Lengths

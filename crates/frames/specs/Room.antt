@@ -1,9 +1,9 @@
--- The buffers that the lists of a frame are taken apart in. No public contract rests on it.
+-- The buffers that the lists of a frame are taken apart in, and the frames that need none. No public contract rests on it.
 use Prim.Native.Nat.{ℕ, _+_, _*_, _-_, _≤_}
 use mathlib.Core.Path.{_≡_}
-use mathlib.Core.Bool.{Bool, true, false}
+use mathlib.Core.Bool.{Bool, true, false, _&&_}
 use mathlib.Core.List.{List}
-use lib.Dec.{eqb}
+use lib.Dec.{eqb, leb}
 use lib.ListN.{length, take, drop}
 use Rattle.chars.specs.Pick.{pick}
 use Rattle.datefield.specs.declared.ReadDate.{ReadDate}
@@ -11,7 +11,7 @@ use Rattle.reader.specs.Field.{parsed, parsedStrict}
 use Rattle.reader.specs.Fields.{threeFields}
 use Rattle.frames.specs.declared.Unpacked.{Unpacked}
 use Rattle.frames.specs.declared.Operation.{Operation}
-use Rattle.frames.specs.declared.Operation.the-variants.{Ported, Strict}
+use Rattle.frames.specs.declared.Operation.the-variants.{Ported, Strict, ThreeFields, Unknown}
 use Rattle.frames.specs.Lists.{byteAt, listTable, listText, hasList, optionalEnd}
 use Rattle.frames.specs.Frame.{asked, threeFill, monthAt}
 
@@ -77,3 +77,16 @@ pub record Threefold (f : List ℕ) (ma da : ℕ) : Type 0 where
   pub one-month : isSingle f ma ≡ true
   -- and for the day
   pub one-day : isSingle f da ≡ true
+
+-- whether an operation reads one list as a date field
+unfoldable pub readsList : Operation → Bool
+readsList Ported = true
+readsList Strict = true
+readsList ThreeFields = false
+readsList Unknown = false
+
+-- a frame that asks for the reading of one Normal chunk, and is filled by it
+unfoldable pub isUsual : List ℕ → Bool
+isUsual f =
+    leb 12 (length f)
+    && (eqb (byteAt f 1) 1 && (eqb (byteAt f 2) 0 && (eqb (byteAt f 3) (length f - 12) && readsList (operationOf f))))

@@ -8,11 +8,12 @@ ghost use Rattle.writer.specs.Answers as writing;
 ghost use Rattle.writer.specs.Answers.{Put};
 ghost use Rattle.answers.specs.Answer.{answerLine};
 ghost use Rattle.frames.specs.Lists as list;
-ghost use Rattle.frames.specs.Room.{Room, operationOf, listOperation, readBy, listBy, readLists, isSingle, textStart, rowLength, Threefold};
+ghost use Rattle.frames.specs.Room.{Room, operationOf, listOperation, readBy, listBy, readLists, isSingle, textStart, rowLength, Threefold, readsList, isUsual};
 ghost use Rattle.frames.specs.declared.Operation.the-variants.{Ported, Strict, ThreeFields};
 ghost use Rattle.frames.specs.Frame as spec;
 use datefield::ReadDate;
 use hexes::Hex;
+use quick::UsualText;
 use refusals::FileSpan;
 use refusals::Kind;
 use writer::Written;
@@ -461,37 +462,88 @@ fn read_frame(f: &[u8]) -> ReadDate
     bad_frame()
 }
 
-// What is read of a line, with a buffer for its bytes.
-fn read_line(line: &[u8], frame: &mut [u8]) -> ReadDate
+// ---- the answer to a line
+
+// Whether an operation reads one list as a date field.
+fn reads_list(op: Operation) -> bool
+    ensures { λ r. ⌜ r ≡ readsList op ⌝ }
+{
+    match op {
+        Operation::Ported => true,
+        Operation::Strict => true,
+        Operation::ThreeFields => false,
+        Operation::Unknown => false,
+    }
+}
+
+// Whether a frame asks for the reading of one Normal chunk that fills it.
+fn is_usual(f: &[u8]) -> bool
+    ensures { λ r. ⌜ r ≡ isUsual (now (f .entry)) ⌝ }
+{
+    if f.len() < 12 {
+        return false;
+    }
+    if f[1] != 1 {
+        return false;
+    }
+    if f[2] != 0 {
+        return false;
+    }
+    if byte_at(f, 3) as usize != f.len() - 12 {
+        return false;
+    }
+    reads_list(asked(f[0]))
+}
+
+// The answer to any frame.
+fn answer_any(f: &[u8], out: &mut [u8]) -> Written
+    requires { ⌜ length (now f) ≤ 8192 ⌝ }
+    ensures { λ r. ⌜ r ≡ writing.answer false (answerLine (spec.frameRead (now (f .entry)))) (length (now (out .entry))) ⌝ }
+    ensures { λ r. ⌜ now (out .exit) ≡ writing.afterwards false (answerLine (spec.frameRead (now (f .entry)))) (now (out .entry)) ⌝ }
+{
+    answers::write_answer(read_frame(f), out)
+}
+
+// The answer to a frame. A usual text is that of its Date, so that its line can be written at once.
+fn answer_frame(f: &[u8], out: &mut [u8]) -> Written
+    requires { ⌜ length (now f) ≤ 8192 ⌝ }
+    ensures { λ r. ⌜ r ≡ writing.answer false (answerLine (spec.frameRead (now (f .entry)))) (length (now (out .entry))) ⌝ }
+    ensures { λ r. ⌜ now (out .exit) ≡ writing.afterwards false (answerLine (spec.frameRead (now (f .entry)))) (now (out .entry)) ⌝ }
+{
+    if is_usual(f) {
+        let text = &f[12..];
+        return match quick::text(text) {
+            UsualText::One(d) => answers::write_one(0, 0, d, text, out),
+            UsualText::Two(a, b) => answers::write_two(0, a, b, text, out),
+            UsualText::Other => answer_any(f, out),
+        };
+    }
+    answer_any(f, out)
+}
+
+// The answer to a line, with a buffer for its bytes.
+fn answer_line(line: &[u8], frame: &mut [u8], out: &mut [u8]) -> Written
     requires { ⌜ (isHex (now line) (length (now frame)) ≡ isHex (now line) 8192) × (length (now frame) ≤ 8192) ⌝ }
-    ensures { λ r. ⌜ r ≡ spec.lineRead (now (line .entry)) ⌝ }
+    ensures { λ r. ⌜ r ≡ writing.answer false (answerLine (spec.lineRead (now (line .entry)))) (length (now (out .entry))) ⌝ }
+    ensures { λ r. ⌜ now (out .exit) ≡ writing.afterwards false (answerLine (spec.lineRead (now (line .entry)))) (now (out .entry)) ⌝ }
 {
     match hexes::decode(line, frame) {
-        Hex::Bytes(n) => read_frame(&frame[..n]),
-        Hex::Bad => bad_frame(),
+        Hex::Bytes(n) => answer_frame(&frame[..n], out),
+        Hex::Bad => answer_long(out),
     }
 }
-
-// What is read of a line. A short one is decoded into a small array, which costs less to clear.
-pub fn read(line: &[u8]) -> ReadDate
-    ensures { λ r. ⌜ r ≡ spec.lineRead (now (line .entry)) ⌝ }
-{
-    if line.len() <= 512 {
-        let mut frame = [0u8; 256];
-        return read_line(line, &mut frame);
-    }
-    let mut frame = [0u8; 8192];
-    read_line(line, &mut frame)
-}
-
-// ---- the answer to a line
 
 // The answer to a line, as a line at the front of the lent buffer; without room for it nothing is stored. It has at most 139 bytes.
 pub fn answer(line: &[u8], out: &mut [u8]) -> Written
     ensures { λ r. ⌜ r ≡ writing.answer false (answerLine (spec.lineRead (now (line .entry)))) (length (now (out .entry))) ⌝ }
     ensures { λ r. ⌜ now (out .exit) ≡ writing.afterwards false (answerLine (spec.lineRead (now (line .entry)))) (now (out .entry)) ⌝ }
 {
-    answers::write_answer(read(line), out)
+    if line.len() <= 512 {
+        let mut frame = [0u8; 256];
+        return answer_line(line, &mut frame, out);
+    }
+    let mut frame = [0u8; 8192];
+    answer_line(line, &mut frame, out)
 }
 
 // The answer to a line of more than 16,384 bytes, which need not be at hand: it is no frame, whatever it holds.

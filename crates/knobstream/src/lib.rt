@@ -3,11 +3,7 @@
 // A struct is returned arm by arm where its parts would else meet again in registers, and a usual text becomes one at once.
 ghost use mathlib.Core.Path.{_≡_};
 ghost use mathlib.Core.Bool.{false};
-ghost use mathlib.Core.List.{[], _∷_};
-ghost use Prim.Native.Nat.{_+_, _≤_, _<_};
-ghost use lib.ListN.{length, getD};
-ghost use lib.IntN.{pos};
-ghost use Rattle.strict.specs.Digits.{digits};
+ghost use lib.ListN.{length};
 ghost use Rattle.reader.specs.Field.{parsed, parsedStrict};
 ghost use Rattle.reader.specs.Fields.{threeFields};
 ghost use Rattle.order.specs.Order.{order};
@@ -18,8 +14,6 @@ ghost use Rattle.answers.specs.Answer.{answerLine};
 ghost use Rattle.frames.specs.Frame.{lineRead};
 ghost use Rattle.knobstream.specs.Plain as plain;
 ghost use Rattle.knobstream.specs.Back as back;
-ghost use Rattle.knobstream.specs.Quick as quick;
-use chars::is_digit;
 use datefield::ReadDate;
 use dates::Date;
 use dates::DateValue;
@@ -33,6 +27,7 @@ use dates::OptionTime;
 use dates::Time;
 use dates::TimeOffset;
 use order::Order;
+use quick::UsualText;
 use writer::Written;
 
 // A Datetime. A part that is absent has 0 in its `has_` number and in its own.
@@ -461,166 +456,6 @@ fn date_of(p: PlainDate) -> Date
     }
 }
 
-// ---- usual texts, read at once
-
-// A point in the form that Dates are written in, if the text is one.
-enum QuickPoint {
-    Found(Datetime),
-    NotFound,
-}
-
-// Two such points with a slash between them.
-enum QuickRange {
-    Both(Datetime, Datetime),
-    NotBoth,
-}
-
-// The number that two digits are; 100 for bytes that are none.
-fn two(a: u8, b: u8) -> u8
-    ensures { λ r. ⌜ (r < 100 → a ∷ b ∷ [] ≡ digits 2 r) ⌝ }
-{
-    if is_digit(a) {
-        if is_digit(b) {
-            return (a - 48) * 10 + (b - 48);
-        }
-    }
-    100
-}
-
-fn wide(n: u8) -> u16
-    ensures { λ r. ⌜ r ≡ n ⌝ }
-{
-    n as u16
-}
-
-// The number that four digits are; 10000 for bytes that are none.
-fn four(a: u8, b: u8, c: u8, d: u8) -> u16
-    ensures { λ r. ⌜ (r < 10000 → a ∷ b ∷ c ∷ d ∷ [] ≡ digits 4 r) ⌝ }
-{
-    let high = two(a, b);
-    let low = two(c, d);
-    if high < 100 {
-        if low < 100 {
-            return wide(high) * 100 + wide(low);
-        }
-    }
-    10000
-}
-
-fn year_of(n: u16) -> i32
-    ensures { λ r. ⌜ r ≡ pos n ⌝ }
-{
-    n as i32
-}
-
-// A hyphen and two digits at a place, counted from zero; 100 for bytes that are none, or say zero.
-fn part_at(s: &[u8], at: usize) -> u8
-    requires { ⌜ at + 3 ≤ length (now s) ⌝ }
-    ensures { λ r. ⌜ (r < 100 → quick.PartAt (now (s .entry)) at r) ⌝ }
-{
-    if s[at] != b'-' {
-        return 100;
-    }
-    let n = two(s[at + 1], s[at + 2]);
-    if n == 0 {
-        return 100;
-    }
-    if 99 < n {
-        return 100;
-    }
-    n - 1
-}
-
-// The point of a year and its parts.
-fn found(y: u16, month: OptionMonth, day: OptionDay) -> QuickPoint
-    ensures { λ r. ⌜ r ≡ quick.foundAt y month day ⌝ }
-{
-    let year = year_of(y);
-    QuickPoint::Found(Datetime::new(year, month, day, OptionTime::NoTime))
-}
-
-// dddd, dddd-mm or dddd-mm-dd.
-fn quick_point(s: &[u8]) -> QuickPoint
-    ensures { λ r. ⌜ quick.Point r (now (s .entry)) ⌝ }
-{
-    let n = s.len();
-    if n < 4 {
-        return QuickPoint::NotFound;
-    }
-    let y = four(s[0], s[1], s[2], s[3]);
-    if 9999 < y {
-        return QuickPoint::NotFound;
-    }
-    if n == 4 {
-        return found(y, OptionMonth::NoMonth, OptionDay::NoDay);
-    }
-    if n < 7 {
-        return QuickPoint::NotFound;
-    }
-    let m = part_at(s, 4);
-    if 11 < m {
-        return QuickPoint::NotFound;
-    }
-    let month = Month(m);
-    if n == 7 {
-        return found(y, OptionMonth::SomeMonth(month), OptionDay::NoDay);
-    }
-    if n != 10 {
-        return QuickPoint::NotFound;
-    }
-    let d = part_at(s, 7);
-    if dates::days_in_month(month, year_of(y)) <= d {
-        return QuickPoint::NotFound;
-    }
-    found(y, OptionMonth::SomeMonth(month), OptionDay::SomeDay(Day(d)))
-}
-
-// Where a slash stands behind such a point, or the end.
-fn slash_of(s: &[u8]) -> usize
-    ensures { λ r. ⌜ (r < length (now (s .entry)) → getD (now (s .entry)) r 0 ≡ 47) ⌝ }
-{
-    let n = s.len();
-    if 4 < n {
-        if s[4] == b'/' {
-            return 4;
-        }
-        if 7 < n {
-            if s[7] == b'/' {
-                return 7;
-            }
-            if 10 < n {
-                if s[10] == b'/' {
-                    return 10;
-                }
-            }
-        }
-    }
-    n
-}
-
-// Two such points with a slash between them.
-fn quick_range(s: &[u8]) -> QuickRange
-    ensures { λ r. ⌜ quick.Range r (now (s .entry)) ⌝ }
-{
-    let k = slash_of(s);
-    if k < s.len() {
-        match quick_point(&s[..k]) {
-            QuickPoint::Found(a) => match quick_point(&s[k + 1..]) {
-                QuickPoint::Found(b) => {
-                    return QuickRange::Both(a, b);
-                }
-                QuickPoint::NotFound => {
-                    return QuickRange::NotBoth;
-                }
-            },
-            QuickPoint::NotFound => {
-                return QuickRange::NotBoth;
-            }
-        }
-    }
-    QuickRange::NotBoth
-}
-
 // ---- the calls
 
 // A date field, read as the Rust reads it.
@@ -629,19 +464,11 @@ pub extern "C" fn knobstream_parse(bytes: &[u8], table: &[u64]) -> PlainRead
     ensures { λ r. ⌜ r ≡ plain.read (parsed (now (bytes .entry)) (now (table .entry))) ⌝ }
 {
     if usual::is_one_normal(bytes, table) {
-        match quick_point(bytes) {
-            QuickPoint::Found(d) => {
-                return read_one(0, d, false, false);
-            }
-            QuickPoint::NotFound => match quick_range(bytes) {
-                QuickRange::Both(a, b) => {
-                    return read_two(a, b, false, false);
-                }
-                QuickRange::NotBoth => {
-                    return plain_read(usual::parse(bytes, table));
-                }
-            },
-        }
+        return match quick::text(bytes) {
+            UsualText::One(d) => read_one(0, d, false, false),
+            UsualText::Two(a, b) => read_two(a, b, false, false),
+            UsualText::Other => plain_read(usual::parse(bytes, table)),
+        };
     }
     plain_read(usual::parse(bytes, table))
 }
@@ -652,19 +479,11 @@ pub extern "C" fn knobstream_parse_strict(bytes: &[u8], table: &[u64]) -> PlainR
     ensures { λ r. ⌜ r ≡ plain.read (parsedStrict (now (bytes .entry)) (now (table .entry))) ⌝ }
 {
     if usual::is_one_normal(bytes, table) {
-        match quick_point(bytes) {
-            QuickPoint::Found(d) => {
-                return read_one(0, d, false, false);
-            }
-            QuickPoint::NotFound => match quick_range(bytes) {
-                QuickRange::Both(a, b) => {
-                    return read_two(a, b, false, false);
-                }
-                QuickRange::NotBoth => {
-                    return plain_read(usual::parse_strict(bytes, table));
-                }
-            },
-        }
+        return match quick::text(bytes) {
+            UsualText::One(d) => read_one(0, d, false, false),
+            UsualText::Two(a, b) => read_two(a, b, false, false),
+            UsualText::Other => plain_read(usual::parse_strict(bytes, table)),
+        };
     }
     plain_read(usual::parse_strict(bytes, table))
 }

@@ -6,7 +6,7 @@ use mathlib.Core.List.{List, [], _∷_, _++_}
 use Prim.Native.Nat.{ℕ, zero, suc, _+_, _/_, _%_, _≤_, _<_}
 use native.Mathlib.Omega.{arith}
 use borrow.Author.Tests.{lt-ltb, le-ltb, le-leb, lt-leb}
-use lib.Dec.{lit<, lit≤}
+use lib.Dec.{lit<}
 use lib.IntN.{ℤ, pos, negsuc, natAbs, negℤ}
 use lib.ListN.{length, getD}
 use Rattle.chars.specs.Pick.{pick}
@@ -19,8 +19,9 @@ use Rattle.refusals.specs.declared.Kind.the-variants.{MonthOutOfRange, DayOutOf
 use Rattle.numbers.specs.Number.{admits, cursor}
 use Rattle.numbers.specs.declared.Digits.the-variants.{OneOrTwo, Two, Four}
 use Rattle.numbers.proofs.Reading.{bytes, value, AreDigits, Behind, end, digit-hyphen, hyphen, hyphen-hyphen, behind-white, front-ate, number-read, int-read, int-wrong, minus-read, minus-wrong}
-use Rattle.dates.specs.Calendar.{leapYear, february, monthLengths, monthLength}
+use Rattle.dates.specs.Calendar.{monthLength}
 use Rattle.dates.specs.Domain.{PartsIn, EndIn}
+use Rattle.dates.proofs.Lengths.{length-most}
 use Rattle.dates.specs.Value.{day, datetime}
 use Rattle.dates.specs.declared.Month.{Month}
 use Rattle.dates.specs.declared.OptionMonth.{OptionMonth}
@@ -186,25 +187,6 @@ day-end y m d f = or-end _ _ f
 -- what stands behind a separator and two digits
 pub two-behind : {a b c : ℕ} {s t : List ℕ} {i : ℕ} → From s i (a ∷ b ∷ c ∷ t) → From s (i + 1 + 2) t
 two-behind {a} {b} {c} f = from-behind (b ∷ c ∷ []) (front-rest f)
-
--- no month is longer than 31 days
-abbrev AllLe : ℕ → List ℕ → Type 0
-AllLe n [] = Unit {0}
-AllLe n (x ∷ l) = (x ≤ n) × AllLe n l
-
-getD-most : (n : ℕ) (l : List ℕ) (i : ℕ) → AllLe n l → getD l i 0 ≤ n
-getD-most n [] i h = omega arith
-getD-most n (x ∷ l) zero h = h .0
-getD-most n (x ∷ l) (suc i) h = getD-most n l i (h .1)
-
-lengths-most : (b : Bool) → AllLe 31 (monthLengths b)
-unfolding monthLengths february
-lengths-most true = (lit≤ tt, (lit≤ tt, (lit≤ tt, (lit≤ tt, (lit≤ tt, (lit≤ tt, (lit≤ tt, (lit≤ tt, (lit≤ tt, (lit≤ tt, (lit≤ tt, (lit≤ tt, tt))))))))))))
-lengths-most false = (lit≤ tt, (lit≤ tt, (lit≤ tt, (lit≤ tt, (lit≤ tt, (lit≤ tt, (lit≤ tt, (lit≤ tt, (lit≤ tt, (lit≤ tt, (lit≤ tt, (lit≤ tt, tt))))))))))))
-
-pub length-most : (m : ℕ) (y : ℤ) → monthLength m y ≤ 31
-unfolding monthLength
-length-most m y = getD-most 31 (monthLengths (leapYear y)) m (lengths-most (leapYear y))
 
 -- month and day behind the year
 tail-read : (y : ℤ) (m : OptionMonth) (d : OptionDay) {s : List ℕ} {i : ℕ} → PartsIn y m d → From s i (tailBytes m d) → behindYear s i y ≡ Point (datetime y m d NoTime)

@@ -50,7 +50,7 @@ unfolding monthText
 tail-same NoMonth d = refl
 tail-same (SomeMonth m) d = ap (λ (u : List ℕ). u ++ dayBytes d) (part-same (m .0)) ∙ ap (λ (u : List ℕ). partText (m .0) ++ u) (day-same d)
 
-canonical-is : (d : Datetime) → EndIn d → datetimeText d ≡ canonical d
+pub canonical-is : (d : Datetime) → EndIn d → datetimeText d ≡ canonical d
 unfolding canonical
 canonical-is d w = text-is d w ∙ rw (year-same (d .year), tail-same (d .month) (d .day))
 

@@ -15,11 +15,12 @@ use Rattle.dates.specs.declared.OptionOffset.{OptionOffset}
 use Rattle.dates.specs.declared.OptionTime.{OptionTime}
 use Rattle.dates.specs.declared.Datetime.{Datetime}
 use Rattle.dates.specs.Value.{datetime, month, day}
+use Rattle.dates.proofs.Lengths.{length-most}
 use Rattle.points.specs.declared.ReadPoint.the-variants.{Point as Read}
 use Rattle.points.specs.declared.ReadTime.the-variants.{Clock as Timed}
 use Rattle.points.specs.Time.{time, behindSecond}
 use Rattle.points.specs.Point.{withTime, behindDay, behindMonth, behindYear, point}
-use Rattle.points.proofs.Back.{two, two-digits, four, four-digits, partBytes, plain-year, minus-year, on-year, year-end, month-read, month-end, day-read, day-end, two-behind, length-most}
+use Rattle.points.proofs.Back.{two, two-digits, four, four-digits, partBytes, plain-year, minus-year, on-year, year-end, month-read, month-end, day-read, day-end, two-behind}
 use Rattle.points.proofs.Times.{tee, zed, plus, time-read, none-read, utc-read, plus-read, minus-read}
 use Rattle.strict.specs.Grammar.{Year, dddd, -dddd, Field, field, Zone, no-zone, z, ahead, behind, Clock, no-time, hh:mm:ss, InMonth, no-day, -dd, InYear, no-month, -mm, Point}
 use Rattle.strict.specs.Grammar

@@ -15,7 +15,8 @@ use Rattle.dates.specs.declared.OptionDay.{OptionDay}
 use Rattle.dates.specs.declared.OptionDay.the-variants.{NoDay, SomeDay}
 use Rattle.dates.specs.declared.Datetime.{Datetime}
 use Rattle.dates.specs.Domain.{PartsIn, EndIn}
-use Rattle.points.proofs.Back.{two, four, two-digits, four-digits, yearBytes, partBytes, dayBytes, tailBytes, written, length-most}
+use Rattle.dates.proofs.Lengths.{length-most}
+use Rattle.points.proofs.Back.{two, four, two-digits, four-digits, yearBytes, partBytes, dayBytes, tailBytes, written}
 use Rattle.writer.specs.Numbers.{digits, decimal, width, digitCount}
 use Rattle.writer.specs.Texts.{minus, yearText, writtenMonth, writtenDay, dayParts, monthParts, partsOf, partText, hyphenPart, partsText, datetimeText}
 use Rattle.writer.proofs.Counts.{few, padded, unpadded}

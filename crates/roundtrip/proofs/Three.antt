@@ -22,13 +22,14 @@ use Rattle.dates.specs.declared.OptionTime.{OptionTime}
 use Rattle.dates.specs.declared.OptionTime.the-variants.{NoTime}
 use Rattle.dates.specs.declared.Datetime.{Datetime}
 use Rattle.dates.specs.Value.{datetime, fromDatetime}
-use Rattle.points.proofs.Back.{two, two-digits, yearBytes, length-most}
+use Rattle.points.proofs.Back.{two, two-digits, yearBytes}
 use Rattle.datefield.specs.declared.ReadDate.the-variants.{Accepted}
 use Rattle.reader.specs.Field.{onClean}
 use Rattle.reader.specs.Fields.{partsChecked, fieldsChecked, movedYear, yearOf, onMonth, insideDay, monthText, monthAlone, fieldDay, monthAndDay, partsOf, dated, onYear, readFields, threeFields}
 use Rattle.writer.specs.Texts.{partText, writtenMonth, writtenDay, dayParts, monthParts, partsOf as writtenParts}
 use Rattle.writer.specs.Fields.{partLines, endLines}
 use Rattle.dates.specs.Domain.{PartsIn, EndIn}
+use Rattle.dates.proofs.Lengths.{length-most}
 use Rattle.roundtrip.specs.Domain.{oneChunk}
 use Rattle.roundtrip.specs.Fields.{hasMonth, hasDay, monthValue, dayValue, lineIf, linesOf, readBack}
 use Rattle.roundtrip.proofs.Bytes.{Piece, bytes-piece, point-clear, clear-text, clear-ascii}

@@ -1,81 +1,111 @@
-use mathlib.Core.Path.{_≡_, refl, sym, ap, _∙_}
-use native.Mathlib.Omega.{arith}
-use lib.ListN.{length}
-use Rattle.answers.specs.Answer.{acceptedBytes, acceptedLine}
-use Rattle.answers.proofs.Digits.{length-line, length-accepted}
-use Rattle.answers.proofs.Lines.{no-line, line-done}
+use Rattle.answers.proofs.Digits.{at-line, after-line, before-line, between-line}
 use borrow.Author.Needs.{needs}
 use Rattle.answers.proofs.write_accepted.Statement.{statement}
 use Rattle.answers.proofs.write_accepted.Tie as tie
 use Rattle.answers.proofs.write_accepted.Reads as reads
 use Rattle.answers.proofs.write_accepted.Lts as lts
-use Rattle.answers.proofs.ends_length.Reads as ends-length-reads
-use Rattle.answers.proofs.no_room.Reads as no-room-reads
-use Rattle.answers.proofs.put_accepted.Reads as put-accepted-reads
+use Rattle.answers.proofs.marks.Reads as marks-reads
+use Rattle.answers.proofs.write_one.Reads as write-one-reads
+use Rattle.answers.proofs.write_two.Reads as write-two-reads
 
-ends-length-requires : tie.Need-ends-length-requires
-ends-length-requires c κs = search needs
+-- src/lib.rt:302:9
+marks-requires : tie.Need-marks-requires
+marks-requires c κs = search needs
 
-add-if1 : tie.Need-add-if1
-add-if1 c = omega arith
+-- src/lib.rt:304:23
+enum-known-v : tie.Need-enum-known-v
+enum-known-v c = search needs
 
-add-if1-2 : tie.Need-add-if1-2
-add-if1-2 c = omega arith
+-- src/lib.rt:304:29
+write-one-requires : tie.Need-write-one-requires
+write-one-requires c κs = search needs
 
-mul-if1 : tie.Need-mul-if1
-mul-if1 c = omega arith
+-- src/lib.rt:305:26
+enum-known-v-2 : tie.Need-enum-known-v-2
+enum-known-v-2 c = search needs
 
-add-if1-3 : tie.Need-add-if1-3
-add-if1-3 c = omega arith
+-- src/lib.rt:305:32
+write-one-requires-2 : tie.Need-write-one-requires-2
+write-one-requires-2 c κs = search needs
 
-no-room-requires : tie.Need-no-room-requires
-no-room-requires c κs = search needs
+-- src/lib.rt:306:27
+enum-known-v-3 : tie.Need-enum-known-v-3
+enum-known-v-3 c = search needs
 
-returns : tie.Need-returns
-returns c =
-    let b1 = c .before in
-    let b2 = b1 .before in
-    let s = b2 .before .before .before in
-    let a = s .args in
-    let l = length-accepted (a .d) (a .text .now) in
-    let n = length-line (acceptedBytes (a .d) (a .text .now)) in
-    no-line (acceptedLine (a .d) (a .text .now)) (a .out .now) (omega (arith, l, n, b2 .ends-length .ensures .0, b1 .if1 .taken)) (c .no-room .ensures)
+-- src/lib.rt:306:33
+write-one-requires-3 : tie.Need-write-one-requires-3
+write-one-requires-3 c κs = search needs
 
-put-accepted-requires : tie.Need-put-accepted-requires
-put-accepted-requires c κs =
-    let b1 = c .before in
-    let b2 = b1 .before in
-    let s = b2 .before .before .before in
-    let a = s .args in
-    let l = length-accepted (a .d) (a .text .now) in
-    let n = length-line (acceptedBytes (a .d) (a .text .now)) in
-    omega (arith, l, n, b2 .ends-length .ensures .0, b1 .if1 .left)
+-- src/lib.rt:307:28
+enum-known-v-4 : tie.Need-enum-known-v-4
+enum-known-v-4 c = search needs
 
+-- src/lib.rt:307:37
+write-two-requires : tie.Need-write-two-requires
+write-two-requires c κs = search needs
+
+-- src/lib.rt:297:1
 same-length : tie.Need-same-length
 same-length c = search needs
 
+-- src/lib.rt:297:1
+returns : tie.Need-returns
+returns c =
+    let a = c .before .before .before .before .before .before .before .before .before .before .args in
+    let e = at-line (a .d) (a .text .now) (c .before .before .before .before .before .before .before .marks .ensures) (c .before .before .before .before .before .v .given .1) in
+    rw e at (c .before .before .write-one .ensures)
+
+-- src/lib.rt:297:1
+same-length-2 : tie.Need-same-length-2
+same-length-2 c = search needs
+
+-- src/lib.rt:297:1
 returns-2 : tie.Need-returns-2
 returns-2 c =
-    let b2 = c .before .before in
-    let b4 = b2 .before .before in
-    let b5 = b4 .before in
-    let s = b5 .before .before .before in
-    let a = s .args in
-    let l = length-accepted (a .d) (a .text .now) in
-    let n = length-line (acceptedBytes (a .d) (a .text .now)) in
-    line-done (acceptedLine (a .d) (a .text .now)) (a .out .now) (omega (arith, l, n, b5 .ends-length .ensures .0, b4 .if1 .left)) (b2 .put-accepted .ensures)
+    let a = c .before .before .before .before .before .before .before .before .before .before .args in
+    let e = after-line (a .d) (a .text .now) (c .before .before .before .before .before .before .before .marks .ensures) (c .before .before .before .before .before .v2 .given .1) in
+    rw e at (c .before .before .write-one2 .ensures)
+
+-- src/lib.rt:297:1
+same-length-3 : tie.Need-same-length-3
+same-length-3 c = search needs
+
+-- src/lib.rt:297:1
+returns-3 : tie.Need-returns-3
+returns-3 c =
+    let a = c .before .before .before .before .before .before .before .before .before .before .args in
+    let e = before-line (a .d) (a .text .now) (c .before .before .before .before .before .before .before .marks .ensures) (c .before .before .before .before .before .v3 .given .1) in
+    rw e at (c .before .before .write-one3 .ensures)
+
+-- src/lib.rt:297:1
+same-length-4 : tie.Need-same-length-4
+same-length-4 c = search needs
+
+-- src/lib.rt:297:1
+returns-4 : tie.Need-returns-4
+returns-4 c =
+    let a = c .before .before .before .before .before .before .before .before .before .before .args in
+    let e = between-line (a .d) (a .text .now) (c .before .before .before .before .before .before .before .marks .ensures) (c .before .before .before .before .before .v4 .given .1) in
+    rw e at (c .before .before .write-two .ensures)
 
 pub write-accepted-spec : {M : Type 1} → statement M
 write-accepted-spec =
     tie.close
     (tie.spec
-    ends-length-requires
-    add-if1
-    add-if1-2
-    mul-if1
-    add-if1-3
-    no-room-requires
-    returns
-    put-accepted-requires
+    marks-requires
+    enum-known-v
+    write-one-requires
+    enum-known-v-2
+    write-one-requires-2
+    enum-known-v-3
+    write-one-requires-3
+    enum-known-v-4
+    write-two-requires
     same-length
-    returns-2)
+    returns
+    same-length-2
+    returns-2
+    same-length-3
+    returns-3
+    same-length-4
+    returns-4)

@@ -1,4 +1,3 @@
-use Rattle.answers.proofs.Lines.{text-short}
 use mathlib.Core.Path.{_≡_, refl, sym, ap, _∙_}
 use mathlib.Core.Bool.{false}
 use mathlib.Core.List.{List}
@@ -41,11 +40,7 @@ slice-aggregate-write-accepted c =
     sym (length-take-le _ _ (text-in (s .args .d) (b5 .write-date .ensures .1 .1) _ refl (b5 .write-date .ensures .0) (b5 .write-date .ensures .1 .0) (b2 .n .given .1)))
 
 write-accepted-requires : tie.Need-write-accepted-requires
-write-accepted-requires c κs =
-    let b3 = c .before .before .before in
-    let b6 = b3 .before .before .before in
-    let s = b6 .before .before .before in
-    text-short (s .args .d) (b6 .write-date .ensures .1 .1) _ refl (b6 .write-date .ensures .0) (b6 .write-date .ensures .1 .0) (b3 .n .given .1)
+write-accepted-requires c κs = search needs
 
 enum-known-e : tie.Need-enum-known-e
 enum-known-e c = search needs

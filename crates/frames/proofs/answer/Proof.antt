@@ -1,34 +1,42 @@
-use mathlib.Core.Path.{_≡_, ap, _∙_}
-use mathlib.Core.Bool.{false}
-use lib.ListN.{length}
-use Rattle.datefield.specs.declared.ReadDate.{ReadDate}
-use Rattle.writer.specs.Answers.{answer, afterwards}
-use Rattle.answers.specs.Answer.{answerLine}
+use native.Mathlib.Omega.{arith}
+use Rattle.frames.proofs.Parts.{short-same}
 use borrow.Author.Needs.{needs}
 use Rattle.frames.proofs.answer.Statement.{statement}
 use Rattle.frames.proofs.answer.Tie as tie
-use Rattle.frames.proofs.answer.Reads as reads
-use Rattle.frames.proofs.answer.Lts as lts
-use Rattle.answers.proofs.write_answer.Reads as write-answer-reads
-use Rattle.frames.proofs.read.Reads as read-reads
 
-read-requires : tie.Need-read-requires
-read-requires c κs = search needs
+slice-aggregate-answer-line : tie.Need-slice-aggregate-answer-line
+slice-aggregate-answer-line c = search needs
 
-write-answer-requires : tie.Need-write-answer-requires
-write-answer-requires c κs = search needs
+answer-line-requires : tie.Need-answer-line-requires
+answer-line-requires c κs = (short-same (c .before .before .before .before .before .args .line .now) (omega arith), omega arith)
 
 same-length : tie.Need-same-length
 same-length c = search needs
 
 returns : tie.Need-returns
-returns c =
-    let b2 = c .before .before in
-    let b4 = b2 .before .before in
-    let s = b4 .before .before .before in
-    let e = b4 .read .ensures in
-    let q = b2 .write-answer .ensures in
-    (q .0 ∙ ap (λ (x : ReadDate). answer false (answerLine x) (length (s .args .out .now))) e, q .1 ∙ ap (λ (x : ReadDate). afterwards false (answerLine x) (s .args .out .now)) e)
+returns c = search needs
+
+slice-aggregate-answer-line-2 : tie.Need-slice-aggregate-answer-line-2
+slice-aggregate-answer-line-2 c = search needs
+
+answer-line-requires-2 : tie.Need-answer-line-requires-2
+answer-line-requires-2 c κs = search needs
+
+same-length-2 : tie.Need-same-length-2
+same-length-2 c = search needs
+
+returns-2 : tie.Need-returns-2
+returns-2 c = search needs
 
 pub answer-spec : {M : Type 1} → statement M
-answer-spec = tie.close (tie.spec read-requires write-answer-requires same-length returns)
+answer-spec =
+    tie.close
+    (tie.spec
+    slice-aggregate-answer-line
+    answer-line-requires
+    same-length
+    returns
+    slice-aggregate-answer-line-2
+    answer-line-requires-2
+    same-length-2
+    returns-2)

@@ -1,4 +1,4 @@
-use mathlib.Core.Path.{_≡_, ap, _∙_}
+use mathlib.Core.Path.{ap, _∙_}
 use mathlib.Core.Bool.{false}
 use lib.ListN.{length}
 use Rattle.datefield.specs.declared.ReadDate.{ReadDate}
@@ -7,10 +7,6 @@ use Rattle.answers.specs.Answer.{answerLine}
 use borrow.Author.Needs.{needs}
 use Rattle.frames.proofs.answer_long.Statement.{statement}
 use Rattle.frames.proofs.answer_long.Tie as tie
-use Rattle.frames.proofs.answer_long.Reads as reads
-use Rattle.frames.proofs.answer_long.Lts as lts
-use Rattle.answers.proofs.write_answer.Reads as write-answer-reads
-use Rattle.frames.proofs.bad_frame.Reads as bad-frame-reads
 
 bad-frame-requires : tie.Need-bad-frame-requires
 bad-frame-requires c κs = search needs

@@ -1,10 +1,8 @@
 use Rattle.chars.specs.Pick.{pick}
 use Rattle.frames.specs.Frame.{asked}
-use borrow.Author.Tests.{lt-ltb, le-ltb, le-leb, lt-leb, eq-eqb, ne-eqb}
+use borrow.Author.Tests.{ne-eqb}
 use Rattle.frames.proofs.asked.Statement.{statement}
 use Rattle.frames.proofs.asked.Tie as tie
-use Rattle.frames.proofs.asked.Reads as reads
-use Rattle.frames.proofs.asked.Lts as lts
 
 returns : tie.Need-returns
 unfolding asked pick

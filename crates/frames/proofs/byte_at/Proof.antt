@@ -1,10 +1,8 @@
-use mathlib.Core.Path.{_≡_, refl, sym, ap, _∙_}
-use lib.ListN.{length, getD, List·getD-eq-default}
+use mathlib.Core.Path.{refl, sym}
+use lib.ListN.{List·getD-eq-default}
 use borrow.Author.Needs.{needs}
 use Rattle.frames.proofs.byte_at.Statement.{statement}
 use Rattle.frames.proofs.byte_at.Tie as tie
-use Rattle.frames.proofs.byte_at.Reads as reads
-use Rattle.frames.proofs.byte_at.Lts as lts
 
 shared-slice-read-result : tie.Need-shared-slice-read-result
 shared-slice-read-result c = search needs

@@ -1,14 +1,11 @@
-use mathlib.Core.Path.{_≡_, refl, sym, ap, _∙_}
-use Prim.Native.Nat.{ℕ, _+_, _-_, _*_, _≤_}
+use mathlib.Core.Path.{_≡_, refl, sym, _∙_}
+use Prim.Native.Nat.{_+_, _-_, _*_, _≤_}
 use native.Mathlib.Omega.{arith}
 use Rattle.frames.specs.Lists.{endOf}
 use Rattle.frames.proofs.Places.{end-next, end-none}
 use borrow.Author.Needs.{needs}
 use Rattle.frames.proofs.chunks_end.Statement.{statement}
 use Rattle.frames.proofs.chunks_end.Tie as tie
-use Rattle.frames.proofs.chunks_end.Reads as reads
-use Rattle.frames.proofs.chunks_end.Lts as lts
-use Rattle.frames.proofs.byte_at.Reads as byte-at-reads
 
 abbrev Inv-loop : tie.InvT-loop
 Inv-loop f at n p₀ k₀ p k = (endOf f p k ≡ endOf f at n) × (p + 265 * k ≤ at + 265 * n) × (k ≤ n)

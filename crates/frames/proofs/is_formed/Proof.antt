@@ -1,12 +1,7 @@
 use Rattle.frames.specs.Frame.{formed}
-use borrow.Author.Tests.{lt-ltb, le-ltb, le-leb, lt-leb, eq-eqb, ne-eqb}
 use borrow.Author.Needs.{needs}
 use Rattle.frames.proofs.is_formed.Statement.{statement}
 use Rattle.frames.proofs.is_formed.Tie as tie
-use Rattle.frames.proofs.is_formed.Reads as reads
-use Rattle.frames.proofs.is_formed.Lts as lts
-use Rattle.frames.proofs.one_fills.Reads as one-fills-reads
-use Rattle.frames.proofs.three_fill.Reads as three-fill-reads
 
 enum-told : tie.Need-enum-told
 enum-told c = search needs

@@ -1,14 +1,10 @@
 use native.Mathlib.Omega.{arith}
-use mathlib.Core.Path.{_≡_, refl, sym, ap, _∙_}
+use mathlib.Core.Path.{ap, _∙_}
 use Prim.Native.Nat.{ℕ, _+_}
 use Rattle.frames.specs.Lists.{endOf}
 use borrow.Author.Needs.{needs}
 use Rattle.frames.proofs.list_end.Statement.{statement}
 use Rattle.frames.proofs.list_end.Tie as tie
-use Rattle.frames.proofs.list_end.Reads as reads
-use Rattle.frames.proofs.list_end.Lts as lts
-use Rattle.frames.proofs.byte_at.Reads as byte-at-reads
-use Rattle.frames.proofs.chunks_end.Reads as chunks-end-reads
 
 byte-at-requires : tie.Need-byte-at-requires
 byte-at-requires c κs = search needs

@@ -1,14 +1,9 @@
-use mathlib.Core.Path.{_≡_, refl, sym, ap, _∙_}
-use mathlib.Core.List.{List}
-use Prim.Native.Nat.{ℕ}
+use mathlib.Core.Path.{sym, _∙_}
 use lib.Seq.{length-take-le}
 use Rattle.frames.proofs.Parts.{asks, text-in, table-in, text-is, table-is}
 use borrow.Author.Needs.{needs}
 use Rattle.frames.proofs.list_in.Statement.{statement}
 use Rattle.frames.proofs.list_in.Tie as tie
-use Rattle.frames.proofs.list_in.Reads as reads
-use Rattle.frames.proofs.list_in.Lts as lts
-use Rattle.frames.proofs.unpack_list.Reads as unpack-list-reads
 
 unpack-list-requires : tie.Need-unpack-list-requires
 unpack-list-requires c κs =

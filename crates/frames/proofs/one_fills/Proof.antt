@@ -1,13 +1,10 @@
-use mathlib.Core.Path.{_≡_, refl, sym, ap, _∙_}
+use mathlib.Core.Path.{ap}
 use Prim.Native.Nat.{ℕ}
 use lib.Dec.{eqb}
 use lib.ListN.{length}
 use borrow.Author.Needs.{needs}
 use Rattle.frames.proofs.one_fills.Statement.{statement}
 use Rattle.frames.proofs.one_fills.Tie as tie
-use Rattle.frames.proofs.one_fills.Reads as reads
-use Rattle.frames.proofs.one_fills.Lts as lts
-use Rattle.frames.proofs.list_end.Reads as list-end-reads
 
 list-end-requires : tie.Need-list-end-requires
 list-end-requires c κs = search needs

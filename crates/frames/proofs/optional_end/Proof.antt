@@ -1,14 +1,9 @@
 use native.Mathlib.Omega.{arith}
-use mathlib.Core.Path.{_≡_, refl, sym, ap, _∙_}
 use Rattle.chars.specs.Pick.{pick}
 use Rattle.frames.specs.Lists.{optionalEnd}
 use borrow.Author.Needs.{needs}
 use Rattle.frames.proofs.optional_end.Statement.{statement}
 use Rattle.frames.proofs.optional_end.Tie as tie
-use Rattle.frames.proofs.optional_end.Reads as reads
-use Rattle.frames.proofs.optional_end.Lts as lts
-use Rattle.frames.proofs.has_list.Reads as has-list-reads
-use Rattle.frames.proofs.list_end.Reads as list-end-reads
 
 has-list-requires : tie.Need-has-list-requires
 has-list-requires c κs = search needs

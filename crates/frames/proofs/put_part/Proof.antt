@@ -10,8 +10,6 @@ use Rattle.frames.proofs.Places.{next-byte, part-none, length-part}
 use borrow.Author.Needs.{needs}
 use Rattle.frames.proofs.put_part.Statement.{statement}
 use Rattle.frames.proofs.put_part.Tie as tie
-use Rattle.frames.proofs.put_part.Reads as reads
-use Rattle.frames.proofs.put_part.Lts as lts
 
 abbrev Inv-loop : tie.InvT-loop
 Inv-loop f from n text₀ m i₀ text i = (sets text (m + i) (partAt f (from + i) (n - i)) ≡ sets text₀ m (partAt f from n)) × (i ≤ n) × (length text ≡ length text₀)

@@ -1,16 +1,11 @@
-use mathlib.Core.Path.{_≡_, refl, sym, ap, _∙_}
-use Prim.Native.Nat.{ℕ, suc, _+_, _-_, _*_, _≤_}
+use mathlib.Core.Path.{_≡_, refl}
+use Prim.Native.Nat.{suc, _+_, _-_}
 use native.Mathlib.Omega.{arith}
-use lib.Seq.{sets}
-use lib.ListN.{length, length-set}
+use lib.ListN.{length-set}
 use Rattle.frames.specs.Lists.{rowAt}
 use borrow.Author.Needs.{needs}
 use Rattle.frames.proofs.put_row.Statement.{statement}
 use Rattle.frames.proofs.put_row.Tie as tie
-use Rattle.frames.proofs.put_row.Reads as reads
-use Rattle.frames.proofs.put_row.Lts as lts
-use Rattle.frames.proofs.byte_at.Reads as byte-at-reads
-use Rattle.frames.proofs.word_at.Reads as word-at-reads
 
 byte-at-requires : tie.Need-byte-at-requires
 byte-at-requires c κs = search needs

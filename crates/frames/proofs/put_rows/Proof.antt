@@ -1,6 +1,6 @@
 use mathlib.Core.Path.{_≡_, refl, sym, ap, _∙_}
 use mathlib.Core.List.{List}
-use Prim.Native.Nat.{ℕ, _+_, _-_, _*_, _≤_}
+use Prim.Native.Nat.{ℕ, _+_, _-_, _*_}
 use native.Mathlib.Omega.{arith}
 use lib.Seq.{sets}
 use lib.ListN.{length}
@@ -10,10 +10,6 @@ use Rattle.frames.proofs.Places.{end-next, end-above, next-row, no-rows
 use borrow.Author.Needs.{needs}
 use Rattle.frames.proofs.put_rows.Statement.{statement}
 use Rattle.frames.proofs.put_rows.Tie as tie
-use Rattle.frames.proofs.put_rows.Reads as reads
-use Rattle.frames.proofs.put_rows.Lts as lts
-use Rattle.frames.proofs.byte_at.Reads as byte-at-reads
-use Rattle.frames.proofs.put_row.Reads as put-row-reads
 
 abbrev Inv-loop : tie.InvT-loop
 Inv-loop f at n table₀ k p₀ left₀ j₀ table p left j = (sets table j (tableOf f p left) ≡ sets table₀ k (tableOf f at n)) × (endOf f p left ≡ endOf f at n) × (j + 4 * left ≡ k + 4 * n) × (length table ≡ length table₀)

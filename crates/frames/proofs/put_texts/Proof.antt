@@ -1,19 +1,15 @@
 use mathlib.Core.Path.{_≡_, refl, sym, ap, _∙_}
 use mathlib.Core.List.{List}
-use Prim.Native.Nat.{ℕ, _+_, _-_, _*_, _≤_}
+use Prim.Native.Nat.{ℕ, _+_, _-_, _≤_}
 use native.Mathlib.Omega.{arith}
 use lib.Seq.{sets}
 use lib.ListN.{length}
 use Rattle.writer.proofs.Puts.{kept}
-use Rattle.frames.specs.Lists.{endOf, textOf, partAt}
-use Rattle.frames.proofs.Places.{end-next, end-above, chunk-inside, next-text, text-more, no-texts, length-text, length-part}
+use Rattle.frames.specs.Lists.{endOf, textOf}
+use Rattle.frames.proofs.Places.{end-next, chunk-inside, next-text, text-more, no-texts, length-part}
 use borrow.Author.Needs.{needs}
 use Rattle.frames.proofs.put_texts.Statement.{statement}
 use Rattle.frames.proofs.put_texts.Tie as tie
-use Rattle.frames.proofs.put_texts.Reads as reads
-use Rattle.frames.proofs.put_texts.Lts as lts
-use Rattle.frames.proofs.byte_at.Reads as byte-at-reads
-use Rattle.frames.proofs.put_part.Reads as put-part-reads
 
 abbrev Inv-loop : tie.InvT-loop
 Inv-loop f at n text₀ m p₀ left₀ j₀ text p left j = (sets text j (textOf f p left) ≡ sets text₀ m (textOf f at n)) × (endOf f p left ≡ endOf f at n) × (j ≤ p) × (j + length (textOf f p left) ≡ m + length (textOf f at n)) × (length text ≡ length text₀)

@@ -1,13 +1,10 @@
-use mathlib.Core.Path.{_≡_, refl, sym, ap, _∙_}
+use mathlib.Core.Path.{sym}
 use native.Mathlib.Omega.{arith}
 use lib.Seq.{length-take-le}
 use Rattle.frames.specs.Room.{readLists}
 use borrow.Author.Needs.{needs}
 use Rattle.frames.proofs.read_lists.Statement.{statement}
 use Rattle.frames.proofs.read_lists.Tie as tie
-use Rattle.frames.proofs.read_lists.Reads as reads
-use Rattle.frames.proofs.read_lists.Lts as lts
-use Rattle.reader.proofs.parse_three_fields.Reads as parse-three-fields-reads
 
 slice-aggregate-parse-three-fields : tie.Need-slice-aggregate-parse-three-fields
 slice-aggregate-parse-three-fields c =

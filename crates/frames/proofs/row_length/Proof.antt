@@ -1,6 +1,5 @@
 use Rattle.chars.specs.Pick.{pick}
 use Rattle.frames.specs.Room.{rowLength}
-use borrow.Author.Needs.{needs}
 use Rattle.frames.proofs.row_length.Statement.{statement}
 use Rattle.frames.proofs.row_length.Tie as tie
 

@@ -1,16 +1,10 @@
 use native.Mathlib.Omega.{arith}
-use mathlib.Core.Path.{_≡_, refl, sym, ap, _∙_}
 use borrow.Author.Tests.{le-leb, lt-leb}
 use Rattle.frames.specs.Frame.{threeFill}
 use Rattle.frames.specs.Lists.{isFlag}
 use borrow.Author.Needs.{needs}
 use Rattle.frames.proofs.three_fill.Statement.{statement}
 use Rattle.frames.proofs.three_fill.Tie as tie
-use Rattle.frames.proofs.three_fill.Reads as reads
-use Rattle.frames.proofs.three_fill.Lts as lts
-use Rattle.frames.proofs.byte_at.Reads as byte-at-reads
-use Rattle.frames.proofs.list_end.Reads as list-end-reads
-use Rattle.frames.proofs.optional_end.Reads as optional-end-reads
 
 list-end-requires : tie.Need-list-end-requires
 list-end-requires c κs = search needs

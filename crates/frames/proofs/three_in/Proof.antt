@@ -1,17 +1,9 @@
-use mathlib.Core.Path.{_≡_, refl, sym, ap, _∙_}
+use mathlib.Core.Path.{_∙_}
 use native.Mathlib.Omega.{arith}
 use Rattle.frames.proofs.Parts.{year-asks, month-asks, day-asks, lists-ask, lists-are}
 use borrow.Author.Needs.{needs}
 use Rattle.frames.proofs.three_in.Statement.{statement}
 use Rattle.frames.proofs.three_in.Tie as tie
-use Rattle.frames.proofs.three_in.Reads as reads
-use Rattle.frames.proofs.three_in.Lts as lts
-use Rattle.frames.proofs.has_list.Reads as has-list-reads
-use Rattle.frames.proofs.list_end.Reads as list-end-reads
-use Rattle.frames.proofs.optional_end.Reads as optional-end-reads
-use Rattle.frames.proofs.read_lists.Reads as read-lists-reads
-use Rattle.frames.proofs.unpack_list.Reads as unpack-list-reads
-use Rattle.frames.proofs.unpack_optional.Reads as unpack-optional-reads
 
 list-end-requires : tie.Need-list-end-requires
 list-end-requires c κs = search needs

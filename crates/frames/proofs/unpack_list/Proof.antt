@@ -1,17 +1,12 @@
-use mathlib.Core.Path.{_≡_, refl, sym, ap, _∙_}
-use Prim.Native.Nat.{ℕ, _+_, _*_, _≤_}
+use mathlib.Core.Path.{sym, ap}
+use Prim.Native.Nat.{ℕ, _+_}
 use native.Mathlib.Omega.{arith}
-use Rattle.writer.proofs.Puts.{as-text, kept}
+use Rattle.writer.proofs.Puts.{as-text}
 use Rattle.frames.specs.Lists.{textOf, tableOf}
 use Rattle.frames.proofs.Places.{list-starts, rows-fit, text-behind, table-behind}
 use borrow.Author.Needs.{needs}
 use Rattle.frames.proofs.unpack_list.Statement.{statement}
 use Rattle.frames.proofs.unpack_list.Tie as tie
-use Rattle.frames.proofs.unpack_list.Reads as reads
-use Rattle.frames.proofs.unpack_list.Lts as lts
-use Rattle.frames.proofs.byte_at.Reads as byte-at-reads
-use Rattle.frames.proofs.put_rows.Reads as put-rows-reads
-use Rattle.frames.proofs.put_texts.Reads as put-texts-reads
 
 byte-at-requires : tie.Need-byte-at-requires
 byte-at-requires c κs = search needs

@@ -1,14 +1,10 @@
-use mathlib.Core.Path.{_≡_, refl, sym, ap, _∙_}
-use Prim.Native.Nat.{ℕ, _+_, _*_, _≤_}
+use mathlib.Core.Path.{sym, _∙_}
+use Prim.Native.Nat.{_+_}
 use native.Mathlib.Omega.{arith}
 use Rattle.frames.proofs.Places.{present, list-starts, present-puts, absent-puts}
 use borrow.Author.Needs.{needs}
 use Rattle.frames.proofs.unpack_optional.Statement.{statement}
 use Rattle.frames.proofs.unpack_optional.Tie as tie
-use Rattle.frames.proofs.unpack_optional.Reads as reads
-use Rattle.frames.proofs.unpack_optional.Lts as lts
-use Rattle.frames.proofs.has_list.Reads as has-list-reads
-use Rattle.frames.proofs.unpack_list.Reads as unpack-list-reads
 
 has-list-requires : tie.Need-has-list-requires
 has-list-requires c κs = search needs

@@ -1,0 +1,103 @@
+-- A frame with one Normal chunk whose text is a usual one: what is read of it, and so its answer. Assumes nothing.
+use mathlib.Core.Path.{_≡_, refl, sym, ap, _∙_}
+use mathlib.Core.Bool.{Bool, true, false, false≢true, _&&_}
+use mathlib.Core.List.{List}
+use Prim.Native.Nat.{ℕ, _-_, _≤_}
+use native.Mathlib.Omega.{arith}
+use lib.Dec.{eqb, leb}
+use lib.ListN.{length, take, drop, length-drop}
+use lib.Seq.{length-take-le}
+use borrow.Author.Tests.{leb-true, eqb-true, eq-eqb}
+use Rattle.chars.specs.Pick.{pick}
+use Rattle.chars.proofs.Cases.{and-true}
+use Rattle.dates.specs.declared.Datetime.{Datetime}
+use Rattle.dates.specs.declared.DateValue.the-variants.{Between}
+use Rattle.dates.specs.declared.Date.{Date}
+use Rattle.dates.specs.Value.{date, fromDatetime}
+use Rattle.datefield.specs.declared.ReadDate.{ReadDate}
+use Rattle.datefield.specs.declared.ReadDate.the-variants.{Accepted}
+use Rattle.reader.specs.Field.{parsed, parsedStrict}
+use Rattle.writer.specs.Texts.{dateText}
+use Rattle.quick.specs.declared.UsualText.the-variants.{One, Two}
+use Rattle.quick.specs.Quick.{usualText}
+use Rattle.usual.specs.Once.{oneNormal}
+use Rattle.usual.proofs.Quick.{Usually, one-usual, two-usual, both-ported, both-strict, calm}
+use Rattle.answers.specs.Answer.{marks, bit, shape, endsBytes, acceptedBytes, acceptedLine, oneLine, twoLine, answerLine}
+use Rattle.frames.specs.declared.Operation.{Operation}
+use Rattle.frames.specs.declared.Operation.the-variants.{Ported, Strict, ThreeFields, Unknown}
+use Rattle.frames.specs.Lists.{byteAt, endOf, rowAt, listEnd, listText, listTable}
+use Rattle.frames.specs.Frame.{oneFills, formed, readOf, frameRead}
+use Rattle.frames.specs.Room.{operationOf, readsList, isUsual}
+use Rattle.frames.proofs.Parts.{OneChunk, single}
+
+-- the text of the only chunk
+abbrev pub onlyText : List ℕ → List ℕ
+onlyText f = take (length f - 12) (drop 12 f)
+
+-- what such a frame has
+record Form (f : List ℕ) : Type 0 where
+  long : 12 ≤ length f
+  one : byteAt f 1 ≡ 1
+  normal : byteAt f 2 ≡ 0
+  whole : byteAt f 3 ≡ length f - 12
+  reads : readsList (operationOf f) ≡ true
+
+form : (f : List ℕ) → isUsual f ≡ true → Form f
+unfolding isUsual
+form f u =
+    let p = and-true (leb 12 (length f)) _ u in
+    let q = and-true (eqb (byteAt f 1) 1) _ (p .1) in
+    let r = and-true (eqb (byteAt f 2) 0) _ (q .1) in
+    let s = and-true (eqb (byteAt f 3) (length f - 12)) _ (r .1) in
+    record { long = leb-true 12 (length f) (p .0); one = eqb-true _ 1 (q .0); normal = eqb-true _ 0 (r .0); whole = eqb-true _ _ (s .0); reads = s .1 }
+
+-- it is long enough for a text
+pub usual-long : (f : List ℕ) → isUsual f ≡ true → 12 ≤ length f
+usual-long f u = form f u .long
+
+module _ (f : List ℕ) (u : isUsual f ≡ true) where
+  fills : oneFills f ≡ true
+  unfolding endOf
+  fills =
+      let w = form f u in
+      let e : listEnd f 1 ≡ length f = rw (w .one) (let l = w .long in let n = w .whole in omega arith) in
+      eq-eqb (listEnd f 1) (length f) e
+
+  there : OneChunk f 1 (length f)
+  there = single f fills refl (form f u .one)
+
+  one-normal : oneNormal (onlyText f) (rowAt f 2) ≡ true
+  unfolding oneNormal rowAt
+  one-normal =
+      let w = form f u in
+      let l = w .long in
+      let d = length-drop 12 f in
+      let n : length (onlyText f) ≡ length f - 12 = length-take-le (length f - 12) (drop 12 f) (omega arith) in
+      rw (eq-eqb (byteAt f 2) 0 (w .normal)) (eq-eqb (byteAt f 3) (length (onlyText f)) (w .whole ∙ sym n))
+
+  module _ {d : Date} (y : Usually (onlyText f) d) where
+    by-ported : parsed (listText f 1) (listTable f 1) ≡ Accepted d
+    by-ported = rw (← there .text-there, ← there .row-there) (both-ported (onlyText f) (rowAt f 2) one-normal y)
+
+    by-strict : parsedStrict (listText f 1) (listTable f 1) ≡ Accepted d
+    by-strict = rw (← there .text-there, ← there .row-there) (both-strict (onlyText f) (rowAt f 2) one-normal y)
+
+    by-operation : (op : Operation) → operationOf f ≡ op → readsList op ≡ true → frameRead f ≡ Accepted d
+    unfolding frameRead formed readOf readsList pick
+    by-operation Ported e r = rw (e, fills) by-ported
+    by-operation Strict e r = rw (e, fills) by-strict
+    by-operation ThreeFields e r = absurd (false≢true r)
+    by-operation Unknown e r = absurd (false≢true r)
+
+    usual-line : acceptedLine d (onlyText f) ≡ answerLine (frameRead f)
+    unfolding answerLine pick
+    usual-line = rw (by-operation (operationOf f) refl (form f u .reads), calm d (y .in-domain), y .text-is) refl
+
+  -- the line of one point, and of two
+  pub one-line : {d : Datetime} → usualText (onlyText f) ≡ One d → oneLine 0 0 d (onlyText f) ≡ answerLine (frameRead f)
+  unfolding acceptedBytes shape marks bit endsBytes
+  one-line e = usual-line (one-usual (onlyText f) e)
+
+  pub two-line : {a b : Datetime} → usualText (onlyText f) ≡ Two a b → twoLine 0 a b (onlyText f) ≡ answerLine (frameRead f)
+  unfolding acceptedBytes shape marks bit endsBytes
+  two-line e = usual-line (two-usual (onlyText f) e)

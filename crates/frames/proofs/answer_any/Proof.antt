@@ -1,0 +1,31 @@
+use mathlib.Core.Path.{ap, _∙_}
+use mathlib.Core.Bool.{false}
+use lib.ListN.{length}
+use Rattle.datefield.specs.declared.ReadDate.{ReadDate}
+use Rattle.writer.specs.Answers.{answer, afterwards}
+use Rattle.answers.specs.Answer.{answerLine}
+use borrow.Author.Needs.{needs}
+use Rattle.frames.proofs.answer_any.Statement.{statement}
+use Rattle.frames.proofs.answer_any.Tie as tie
+
+read-frame-requires : tie.Need-read-frame-requires
+read-frame-requires c κs = search needs
+
+write-answer-requires : tie.Need-write-answer-requires
+write-answer-requires c κs = search needs
+
+same-length : tie.Need-same-length
+same-length c = search needs
+
+returns : tie.Need-returns
+returns c =
+    let b2 = c .before .before in
+    let b4 = b2 .before .before in
+    let s = b4 .before .before .before in
+    let e = b4 .read-frame .ensures in
+    let q = b2 .write-answer .ensures in
+    (q .0 ∙ ap (λ (x : ReadDate). answer false (answerLine x) (length (s .args .out .now))) e, q .1 ∙ ap (λ (x : ReadDate). afterwards false (answerLine x) (s .args .out .now)) e)
+
+pub answer-any-spec : {M : Type 1} → statement M
+answer-any-spec =
+    tie.close (tie.spec read-frame-requires write-answer-requires same-length returns)

@@ -1,0 +1,87 @@
+use mir.ValLaws.{toZ-ofZ}
+use mir.Syntax.{w32}
+use Rattle.quick.specs.Quick.{dayPoint}
+use Rattle.chars.specs.Pick.{pick}
+use borrow.Author.Tests.{lt-ltb, le-ltb}
+use borrow.Author.Needs.{needs}
+use Rattle.quick.proofs.day_point.Statement.{statement}
+use Rattle.quick.proofs.day_point.Tie as tie
+
+year-requires : tie.Need-year-requires
+year-requires c κs = search needs
+
+part-at-requires : tie.Need-part-at-requires
+part-at-requires c κs = search needs
+
+part-at-requires-2 : tie.Need-part-at-requires-2
+part-at-requires-2 c κs = search needs
+
+signed-requires : tie.Need-signed-requires
+signed-requires c κs = search needs
+
+days-in-month-requires : tie.Need-days-in-month-requires
+days-in-month-requires c κs = search needs
+
+found-requires : tie.Need-found-requires
+found-requires c κs = search needs
+
+returns : tie.Need-returns
+unfolding dayPoint pick
+returns c =
+    let b1 = c .before in
+    let b2 = b1 .before in
+    let b3 = b2 .before in
+    let b4 = b3 .before in
+    let b5 = b4 .before in
+    let b6 = b5 .before in
+    let b7 = b6 .before in
+    let b8 = b7 .before in
+    let y = b3 .signed in
+    let l = rw (toZ-ofZ w32 (y .result) (record { sfits = y .ok }), y .ensures) at (b2 .days-in-month .ensures) in
+    simp (← b8 .year .ensures, ← b7 .part-at .ensures, ← b6 .part-at2 .ensures, lt-ltb _ _ (b5 .if1 .taken), lt-ltb _ _ (b4 .if2 .taken), ← l, lt-ltb _ _ (b1 .if3 .taken), ← c .found .ensures)
+
+returns-2 : tie.Need-returns-2
+unfolding dayPoint pick
+returns-2 c =
+    let b1 = c .before in
+    let b2 = b1 .before in
+    let b3 = b2 .before in
+    let b4 = b3 .before in
+    let b5 = b4 .before in
+    let b6 = b5 .before in
+    let b7 = b6 .before in
+    let y = b2 .signed in
+    let l = rw (toZ-ofZ w32 (y .result) (record { sfits = y .ok }), y .ensures) at (b1 .days-in-month .ensures) in
+    simp (← b7 .year .ensures, ← b6 .part-at .ensures, ← b5 .part-at2 .ensures, lt-ltb _ _ (b4 .if1 .taken), lt-ltb _ _ (b3 .if2 .taken), ← l, le-ltb _ _ (c .if3 .left))
+
+returns-3 : tie.Need-returns-3
+unfolding dayPoint pick
+returns-3 c =
+    let b1 = c .before in
+    let b2 = b1 .before in
+    let b3 = b2 .before in
+    let b4 = b3 .before in
+    simp (← b4 .year .ensures, ← b3 .part-at .ensures, ← b2 .part-at2 .ensures, lt-ltb _ _ (b1 .if1 .taken), le-ltb _ _ (c .if2 .left))
+
+returns-4 : tie.Need-returns-4
+unfolding dayPoint pick
+returns-4 c =
+    let b1 = c .before in
+    let b2 = b1 .before in
+    let b3 = b2 .before in
+    simp (← b3 .year .ensures, ← b2 .part-at .ensures, ← b1 .part-at2 .ensures, le-ltb _ _ (c .if1 .left))
+
+pub day-point-spec : {M : Type 1} → statement M
+day-point-spec =
+    tie.close
+    (tie.spec
+    year-requires
+    part-at-requires
+    part-at-requires-2
+    signed-requires
+    days-in-month-requires
+    found-requires
+    returns
+    returns-2
+    returns-3
+    returns-4)

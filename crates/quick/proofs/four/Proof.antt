@@ -1,0 +1,63 @@
+use Rattle.quick.specs.Quick.{fourOf}
+use Rattle.chars.specs.Pick.{pick}
+use borrow.Author.Tests.{lt-ltb, le-ltb}
+use borrow.Author.Needs.{needs}
+use Rattle.quick.proofs.four.Statement.{statement}
+use Rattle.quick.proofs.four.Tie as tie
+
+two-requires : tie.Need-two-requires
+two-requires c κs = search needs
+
+two-requires-2 : tie.Need-two-requires-2
+two-requires-2 c κs = search needs
+
+wide-requires : tie.Need-wide-requires
+wide-requires c κs = search needs
+
+mul-result : tie.Need-mul-result
+mul-result c = search needs
+
+wide-requires-2 : tie.Need-wide-requires-2
+wide-requires-2 c κs = search needs
+
+add-result : tie.Need-add-result
+add-result c = search needs
+
+returns : tie.Need-returns
+unfolding fourOf pick
+returns c =
+    let b1 = c .before in
+    let b2 = b1 .before in
+    let b3 = b2 .before in
+    let b4 = b3 .before in
+    let b5 = b4 .before in
+    simp (← b5 .two .ensures .0, ← b4 .two2 .ensures .0, lt-ltb _ _ (b3 .if1 .taken), lt-ltb _ _ (b2 .if2 .taken), b1 .wide .ensures, c .wide2 .ensures)
+
+returns-2 : tie.Need-returns-2
+unfolding fourOf pick
+returns-2 c =
+    let b1 = c .before in
+    let b2 = b1 .before in
+    let b3 = b2 .before in
+    simp (← b3 .two .ensures .0, ← b2 .two2 .ensures .0, lt-ltb _ _ (b1 .if1 .taken), le-ltb _ _ (c .if2 .left))
+
+returns-3 : tie.Need-returns-3
+unfolding fourOf pick
+returns-3 c =
+    let b1 = c .before in
+    let b2 = b1 .before in
+    simp (← b2 .two .ensures .0, ← b1 .two2 .ensures .0, le-ltb _ _ (c .if1 .left))
+
+pub four-spec : {M : Type 1} → statement M
+four-spec =
+    tie.close
+    (tie.spec
+    two-requires
+    two-requires-2
+    wide-requires
+    mul-result
+    wide-requires-2
+    add-result
+    returns
+    returns-2
+    returns-3)

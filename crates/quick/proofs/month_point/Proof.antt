@@ -1,0 +1,43 @@
+use Rattle.quick.specs.Quick.{monthPoint}
+use Rattle.chars.specs.Pick.{pick}
+use borrow.Author.Tests.{lt-ltb, le-ltb}
+use borrow.Author.Needs.{needs}
+use Rattle.quick.proofs.month_point.Statement.{statement}
+use Rattle.quick.proofs.month_point.Tie as tie
+
+year-requires : tie.Need-year-requires
+year-requires c κs = search needs
+
+part-at-requires : tie.Need-part-at-requires
+part-at-requires c κs = search needs
+
+found-requires : tie.Need-found-requires
+found-requires c κs = search needs
+
+returns : tie.Need-returns
+unfolding monthPoint pick
+returns c =
+    let b1 = c .before in
+    let b2 = b1 .before in
+    let b3 = b2 .before in
+    let b4 = b3 .before in
+    simp (← b4 .year .ensures, ← b3 .part-at .ensures, lt-ltb _ _ (b2 .if1 .taken), lt-ltb _ _ (b1 .if2 .taken), ← c .found .ensures)
+
+returns-2 : tie.Need-returns-2
+unfolding monthPoint pick
+returns-2 c =
+    let b1 = c .before in
+    let b2 = b1 .before in
+    let b3 = b2 .before in
+    simp (← b3 .year .ensures, ← b2 .part-at .ensures, lt-ltb _ _ (b1 .if1 .taken), le-ltb _ _ (c .if2 .left))
+
+returns-3 : tie.Need-returns-3
+unfolding monthPoint pick
+returns-3 c =
+    let b1 = c .before in
+    let b2 = b1 .before in
+    simp (← b2 .year .ensures, ← b1 .part-at .ensures, le-ltb _ _ (c .if1 .left))
+
+pub month-point-spec : {M : Type 1} → statement M
+month-point-spec =
+    tie.close (tie.spec year-requires part-at-requires found-requires returns returns-2 returns-3)

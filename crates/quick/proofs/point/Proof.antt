@@ -1,0 +1,55 @@
+use Rattle.chars.specs.Pick.{pick}
+use Rattle.quick.specs.Quick.{pointOf}
+use borrow.Author.Tests.{eq-eqb, ne-eqb}
+use borrow.Author.Needs.{needs}
+use Rattle.quick.proofs.point.Statement.{statement}
+use Rattle.quick.proofs.point.Tie as tie
+
+year-point-requires : tie.Need-year-point-requires
+year-point-requires c κs = search needs
+
+returns : tie.Need-returns
+unfolding pointOf pick
+returns c =
+    let b1 = c .before in
+    simp (eq-eqb _ _ (b1 .if1 .taken), ← c .year-point .ensures)
+
+month-point-requires : tie.Need-month-point-requires
+month-point-requires c κs = search needs
+
+returns-2 : tie.Need-returns-2
+unfolding pointOf pick
+returns-2 c =
+    let b1 = c .before in
+    let b2 = b1 .before in
+    simp (ne-eqb _ _ (b2 .if1 .left), eq-eqb _ _ (b1 .if2 .taken), ← c .month-point .ensures)
+
+day-point-requires : tie.Need-day-point-requires
+day-point-requires c κs = search needs
+
+returns-3 : tie.Need-returns-3
+unfolding pointOf pick
+returns-3 c =
+    let b1 = c .before in
+    let b2 = b1 .before in
+    let b3 = b2 .before in
+    simp (ne-eqb _ _ (b3 .if1 .left), ne-eqb _ _ (b2 .if2 .left), eq-eqb _ _ (b1 .if3 .taken), ← c .day-point .ensures)
+
+returns-4 : tie.Need-returns-4
+unfolding pointOf pick
+returns-4 c =
+    let b1 = c .before in
+    let b2 = b1 .before in
+    simp (ne-eqb _ _ (b2 .if1 .left), ne-eqb _ _ (b1 .if2 .left), ne-eqb _ _ (c .if3 .left))
+
+pub point-spec : {M : Type 1} → statement M
+point-spec =
+    tie.close
+    (tie.spec
+    year-point-requires
+    returns
+    month-point-requires
+    returns-2
+    day-point-requires
+    returns-3
+    returns-4)

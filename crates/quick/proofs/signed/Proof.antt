@@ -1,0 +1,15 @@
+use mir.ValLaws.{toZ-pos}
+use mir.Syntax.{w32}
+use native.Mathlib.Omega.{arith}
+use borrow.Author.Needs.{needs}
+use Rattle.quick.proofs.signed.Statement.{statement}
+use Rattle.quick.proofs.signed.Tie as tie
+
+cast-result : tie.Need-cast-result
+cast-result c = search needs
+
+returns : tie.Need-returns
+returns c = toZ-pos w32 (c .args .n) (omega arith)
+
+pub signed-spec : {M : Type 1} → statement M
+signed-spec = tie.close (tie.spec cast-result returns)
