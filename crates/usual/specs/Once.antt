@@ -1,4 +1,4 @@
--- Which lists are read at once, and what is read of them. No public contract rests on it.
+-- Which lists are read at once, and what is read of them. What the readers promise does not rest on it.
 use Prim.Native.Nat.{ℕ}
 use mathlib.Core.Bool.{Bool, _&&_}
 use mathlib.Core.List.{List}
