@@ -39,7 +39,7 @@ enum {
     KNOBSTREAM_YEAR_ZERO_CE = 8,          /* a year zero with an era */
     KNOBSTREAM_RUST_PANICS = 9,           /* the ported code panics on this */
     KNOBSTREAM_BAD_UTF8 = 10,
-    KNOBSTREAM_UNSUPPORTED_CHAR = 11,     /* a character above U+00FF */
+    KNOBSTREAM_UNSUPPORTED_CHAR = 11,     /* a character outside U+0000..00FF and U+2000..206F */
     KNOBSTREAM_NOT_STRICT = 12,           /* no text of the strict grammar */
     KNOBSTREAM_NO_ROOM = 13,              /* `out` is too short */
     KNOBSTREAM_BAD_FRAME = 14,

@@ -266,6 +266,11 @@ impl Fault {
     }
 }
 
+/// The characters that are read: up to U+00FF, and the typesetter's.
+fn admitted(c: char) -> bool {
+    matches!(c, '\0'..='\u{ff}' | '\u{2000}'..='\u{206f}')
+}
+
 /// Takes the bytes of a chunk as text.
 fn check(bytes: &[u8]) -> Result<&str, Fault> {
     let (good, fault) = match str::from_utf8(bytes) {
@@ -280,7 +285,7 @@ fn check(bytes: &[u8]) -> Result<&str, Fault> {
     // In well-formed text a byte from C4 on leads a character above U+00FF.
     if good.as_bytes().iter().any(|&b| b >= 0xc4) {
         for (at, c) in good.char_indices() {
-            if c > '\u{ff}' {
+            if !admitted(c) {
                 return Err(Fault::Char(at, c.len_utf8()));
             }
         }
@@ -439,9 +444,10 @@ mod tests {
     /// The classes of characters, as docs/RULES.md lists them.
     #[test]
     fn characters() {
-        for c in '\0'..='\u{ff}' {
+        for c in ('\0'..='\u{ff}').chain('\u{2000}'..='\u{206f}') {
             let n = c as u32;
-            let space = matches!(n, 9..=13 | 0x20 | 0x85 | 0xa0);
+            let space = matches!(n, 9..=13 | 0x20 | 0x85 | 0xa0)
+                || matches!(n, 0x2000..=0x200a | 0x2028 | 0x2029 | 0x202f | 0x205f);
             let numeric = c.is_ascii_digit() || matches!(n, 0xb2 | 0xb3 | 0xb9 | 0xbc..=0xbe);
             let alphabetic = c.is_ascii_alphabetic()
                 || matches!(n, 0xaa | 0xb5 | 0xba | 0xc0..=0xd6 | 0xd8..=0xf6 | 0xf8..=0xff);

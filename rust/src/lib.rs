@@ -200,7 +200,7 @@ pub enum TypeErrorKind {
     RustPanics = 9,
     /// The bytes are not UTF-8. No text of Rust is refused so.
     BadUtf8 = 10,
-    /// A character above U+00FF. Its place is in the text, not in the file.
+    /// A character outside U+0000..U+00FF and U+2000..U+206F. Its place is in the text, not in the file.
     UnsupportedChar = 11,
     /// The text is not one of the strict grammar. No place.
     NotStrict = 12,
@@ -269,7 +269,7 @@ impl Display for TypeErrorKind {
             Self::YearZeroCE => "year 0 CE or BCE does not exist",
             Self::RustPanics => "no date: biblatex panics on it",
             Self::BadUtf8 => "not UTF-8",
-            Self::UnsupportedChar => "character above U+00FF",
+            Self::UnsupportedChar => "character outside U+0000..U+00FF and U+2000..U+206F",
             Self::NotStrict => "not a date of the strict grammar",
             Self::NoRoom => "buffer too short",
             Self::BadFrame => "not a frame",

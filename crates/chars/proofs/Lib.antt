@@ -6,3 +6,4 @@ pub mod Laws
 pub mod Table
 pub mod Uppers
 pub mod Spelled
+pub mod Classes

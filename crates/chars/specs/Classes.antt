@@ -7,13 +7,17 @@ use lib.Dec.{leb, eqb}
 unfoldable pub within : ℕ → ℕ → ℕ → Bool
 within a b n = leb a n && leb n b
 
--- the characters that are read: up to U+00FF
+-- the characters that are read: up to U+00FF, and U+2000..206F, the typesetter's dashes and spaces
 unfoldable pub isAdmitted : ℕ → Bool
-isAdmitted n = leb n 0xFF
+isAdmitted n = leb n 0xFF || within 0x2000 0x206F n
 
--- white space: U+0009..U+000D, U+0020, U+0085, U+00A0
+-- the typesetter's white space: U+2000..200A, 2028, 2029, 202F, 205F
+abbrev pub isWideSpace : ℕ → Bool
+isWideSpace n = within 0x2000 0x200A n || within 0x2028 0x2029 n || eqb n 0x202F || eqb n 0x205F
+
+-- white space: U+0009..U+000D, U+0020, U+0085, U+00A0, and the typesetter's
 unfoldable pub isWhitespace : ℕ → Bool
-isWhitespace n = within 0x09 0x0D n || eqb n 0x20 || eqb n 0x85 || eqb n 0xA0
+isWhitespace n = within 0x09 0x0D n || eqb n 0x20 || eqb n 0x85 || eqb n 0xA0 || isWideSpace n
 
 -- the ASCII digits
 unfoldable pub isAsciiDigit : ℕ → Bool

@@ -206,7 +206,26 @@ fn within(lo: u32, hi: u32, code: u32) -> bool
 pub fn is_admitted(code: u32) -> bool
     ensures { λ r. ⌜ r ≡ classes.isAdmitted code ⌝ }
 {
-    code <= 0xFF
+    if code <= 0xFF {
+        return true;
+    }
+    within(0x2000, 0x206F, code)
+}
+
+// The typesetter's white space.
+fn is_wide_space(code: u32) -> bool
+    ensures { λ r. ⌜ r ≡ classes.isWideSpace code ⌝ }
+{
+    if within(0x2000, 0x200A, code) {
+        return true;
+    }
+    if within(0x2028, 0x2029, code) {
+        return true;
+    }
+    if code == 0x202F {
+        return true;
+    }
+    code == 0x205F
 }
 
 pub fn is_whitespace(code: u32) -> bool
@@ -221,7 +240,10 @@ pub fn is_whitespace(code: u32) -> bool
     if code == 0x85 {
         return true;
     }
-    code == 0xA0
+    if code == 0xA0 {
+        return true;
+    }
+    is_wide_space(code)
 }
 
 pub fn is_ascii_digit(code: u32) -> bool

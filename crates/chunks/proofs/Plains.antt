@@ -12,7 +12,8 @@ use lib.ListN.{length, getD}
 use lib.Seq.{take-all}
 use Rattle.chars.specs.Pick.{pick}
 use Rattle.chars.specs.Utf8.{encodeAll}
-use Rattle.chars.specs.Classes.{within, isAdmitted, isWhitespace}
+use Rattle.chars.specs.Classes.{within, isWhitespace}
+use Rattle.chars.proofs.Classes.{ascii-admitted, printing-not-white}
 use Rattle.chars.specs.Upper.{loses32, upperOf, codesOf as upperCodes}
 use Rattle.chars.specs.declared.Decoded.the-variants.{Char}
 use Rattle.chars.specs.declared.Upper.the-variants.{One}
@@ -55,9 +56,9 @@ ascii-codes (b ∷ t) e = rw (ascii-characters b t e) (ap (λ (l : List ℕ). b 
 
 -- none of them is a fault
 pub ascii-clean : (p : ℕ) (t : List ℕ) → allAscii t ≡ true → faultIn p (characters t) ≡ Clean
-unfolding faultIn isAdmitted pick
+unfolding faultIn pick
 ascii-clean p [] e = rw no-characters
-ascii-clean p (b ∷ t) e = rw (ascii-characters b t e, le-leb b 0xFF (omega (arith, front-low b t e))) (ascii-clean (p + 1) t (rest-ascii b t e))
+ascii-clean p (b ∷ t) e = rw (ascii-characters b t e, ascii-admitted b (front-low b t e)) (ascii-clean (p + 1) t (rest-ascii b t e))
 
 -- as it is
 normal-plain : (w : Bool) (t : List ℕ) → allAscii t ≡ true → normal w t ≡ plainText false w t
@@ -138,16 +139,12 @@ plain-short u w b = by-test P (isBreak b) (λ _. by-test P w (λ _. zero-le) (λ
 
 -- a byte above the space: no line break and no white space
 pub plain-high : (u w : Bool) (b : ℕ) → 0x20 < b → b < 0x80 → (plainOut u w b ≡ plainByte u b ∷ []) × (oneFlag b ≡ false)
-unfolding plainOut oneFlag isBreak isWhitespace within pick
+unfolding plainOut oneFlag isBreak pick
 plain-high u w b l h =
     rw (
       ne-eqb b 0x0A (λ (e : b ≡ 0x0A). omega arith),
       ne-eqb b 0x0D (λ (e : b ≡ 0x0D). omega arith),
-      le-leb 0x09 b (omega arith),
-      lt-leb b 0x0D (omega arith),
-      ne-eqb b 0x20 (λ (e : b ≡ 0x20). omega arith),
-      ne-eqb b 0x85 (λ (e : b ≡ 0x85). omega arith),
-      ne-eqb b 0xA0 (λ (e : b ≡ 0xA0). omega arith),
+      printing-not-white b l h,
     )
     (refl, refl)
 

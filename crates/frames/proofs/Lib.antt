@@ -1,3 +1,4 @@
 pub mod Places
 pub mod Parts
 pub mod Usual
+pub mod Inverse

@@ -4,12 +4,12 @@ use Prim.Native.Nat.{ℕ}
 use Prim.Native.String.{String}
 use mathlib.Core.Path.{_≡_, refl}
 use mathlib.Core.Bool.{Bool, true, false}
-use mathlib.Core.List.{List, [], _∷_, map}
+use mathlib.Core.List.{List, [], _∷_, _++_, map}
 use lib.IntN.{ℤ, pos, negsuc}
 use lib.ListN.{length}
 use Rattle.chars.specs.Ascii.{ascii}
 use Rattle.refusals.specs.declared.Kind.{Kind}
-use Rattle.refusals.specs.declared.Kind.the-variants.{UndefinedRange, DayOutOfRange, YearZeroCE, RustPanics}
+use Rattle.refusals.specs.declared.Kind.the-variants.{UndefinedRange, DayOutOfRange, InvalidFormat, YearZeroCE, RustPanics, UnsupportedChar}
 use Rattle.dates.specs.declared.OptionMonth.the-variants.{NoMonth}
 use Rattle.dates.specs.declared.OptionDay.the-variants.{NoDay}
 use Rattle.dates.specs.declared.OptionTime.the-variants.{NoTime}
@@ -58,14 +58,20 @@ abbrev table : List ℕ → List ℕ
 table b = 0 ∷ length b ∷ 0 ∷ length b ∷ []
 
 -- a date field, a year field, and a month field beside the year 2000
+abbrev dateBytes : List ℕ → ReadDate
+dateBytes b = parsed b (table b)
+
 abbrev dateField : String → ReadDate
-dateField s = parsed (ascii s) (table (ascii s))
+dateField s = dateBytes (ascii s)
 
 abbrev yearField : String → ReadDate
 yearField s = threeFields (ascii s) (table (ascii s)) false [] [] false [] []
 
+abbrev monthBytes : List ℕ → ReadDate
+monthBytes b = threeFields (ascii "2000") (table (ascii "2000")) true b (table b) false [] []
+
 abbrev monthField : String → ReadDate
-monthField s = threeFields (ascii "2000") (table (ascii "2000")) true (ascii s) (table (ascii s)) false [] []
+monthField s = monthBytes (ascii s)
 
 -- a year alone, as a Datetime and as a Date
 abbrev year : ℤ → Datetime
@@ -99,6 +105,11 @@ examples =
     ∷ record { read = yearField "0 AD"; is = refuses YearZeroCE 0 4 }
     ∷ record { read = yearField "- 5"; is = refuses RustPanics 0 0 }
     ∷ record { read = monthField "13"; is = says (At (datetime (pos 2000) (month 12) NoDay NoTime)) }
+    -- a thin space is trimmed, an en dash is no hyphen, U+2070 is not read; a narrow no-break space is white space behind a month
+    ∷ record { read = dateBytes (ascii "2000" ++ charsUtf8.encode 0x2009); is = says (At (year (pos 2000))) }
+    ∷ record { read = dateBytes (ascii "2000" ++ charsUtf8.encode 0x2013 ++ ascii "01"); is = refuses InvalidFormat 4 4 }
+    ∷ record { read = dateBytes (ascii "2000" ++ charsUtf8.encode 0x2070); is = refuses UnsupportedChar 4 7 }
+    ∷ record { read = monthBytes (ascii "jul" ++ charsUtf8.encode 0x202F); is = says (At (datetime (pos 2000) (month 6) NoDay NoTime)) }
     ∷ []
 
 pub examples-hold : map (λ (e : Example). e .read) examples ≡ map (λ (e : Example). e .is) examples

@@ -7,10 +7,9 @@ use Prim.Native.Nat.{ℕ, _+_, _-_, _≤_, _<_, zero-le}
 use native.Mathlib.Decide.{decLe}
 use native.Mathlib.Nat.{le-refl, lt-irrefl}
 use native.Mathlib.Omega.{arith}
-use borrow.Author.Tests.{le-leb, lt-leb, ne-eqb}
 use lib.ListN.{length, getD, drop}
 use Rattle.chars.specs.Pick.{pick}
-use Rattle.chars.specs.Classes.{within, isWhitespace}
+use Rattle.chars.proofs.Classes.{printing-not-white}
 use Rattle.chars.specs.Utf8.{decodeAt, lenD}
 use Rattle.chars.specs.declared.Decoded.{Decoded}
 use Rattle.chars.specs.declared.Decoded.the-variants.{Char, Bad, End}
@@ -99,12 +98,5 @@ match-same k s t i j e = ap (lenIn k) (decode-same s t i j e)
 
 -- a printing ASCII character is no white space
 pub not-white : (b : ℕ) → 0x20 < b → b < 0x80 → inClass Whitespace b ≡ false
-unfolding inClass isWhitespace within
-not-white b l h =
-    rw (
-      le-leb 0x09 b (omega arith),
-      lt-leb b 0x0D (omega arith),
-      ne-eqb b 0x20 (λ (e : b ≡ 0x20). omega arith),
-      ne-eqb b 0x85 (λ (e : b ≡ 0x85). omega arith),
-      ne-eqb b 0xA0 (λ (e : b ≡ 0xA0). omega arith),
-    )
+unfolding inClass
+not-white b l h = printing-not-white b l h

@@ -34,7 +34,30 @@ returns-4 c =
     let b1 = c .before in
     let b2 = b1 .before in
     let b3 = b2 .before in
-    simp (← b3 .within .ensures, b2 .if1 .left, ne-eqb _ _ (b1 .if2 .left), ne-eqb _ _ (c .if3 .left))
+    let b4 = b3 .before in
+    simp (← b4 .within .ensures, b3 .if1 .left, ne-eqb _ _ (b2 .if2 .left), ne-eqb _ _ (b1 .if3 .left), eq-eqb _ _ (c .if4 .taken))
+
+is-wide-space-requires : tie.Need-is-wide-space-requires
+is-wide-space-requires c κs = search needs
+
+returns-5 : tie.Need-returns-5
+unfolding isWhitespace
+returns-5 c =
+    let b1 = c .before in
+    let b2 = b1 .before in
+    let b3 = b2 .before in
+    let b4 = b3 .before in
+    let b5 = b4 .before in
+    simp (← b5 .within .ensures, b4 .if1 .left, ne-eqb _ _ (b3 .if2 .left), ne-eqb _ _ (b2 .if3 .left), ne-eqb _ _ (b1 .if4 .left), ← c .is-wide-space .ensures)
 
 pub is-whitespace-spec : {M : Type 1} → statement M
-is-whitespace-spec = tie.close (tie.spec within-requires returns returns-2 returns-3 returns-4)
+is-whitespace-spec =
+    tie.close
+    (tie.spec
+    within-requires
+    returns
+    returns-2
+    returns-3
+    returns-4
+    is-wide-space-requires
+    returns-5)

@@ -1,0 +1,36 @@
+-- What the classes say of ASCII. Assumes nothing.
+use mathlib.Core.Path.{_≡_}
+use mathlib.Core.Bool.{true, false}
+use Prim.Native.Nat.{ℕ, _<_}
+use native.Mathlib.Omega.{arith}
+use borrow.Author.Tests.{le-leb, lt-leb, ne-eqb}
+use Rattle.chars.specs.Classes.{within, isAdmitted, isWideSpace, isWhitespace}
+
+-- every ASCII character is read
+pub ascii-admitted : (b : ℕ) → b < 0x80 → isAdmitted b ≡ true
+unfolding isAdmitted
+ascii-admitted b h = rw (le-leb b 0xFF (omega arith))
+
+-- the typesetter's white space lies far above
+not-wide : (b : ℕ) → b < 0x80 → isWideSpace b ≡ false
+unfolding within
+not-wide b h =
+    rw (
+      lt-leb 0x2000 b (omega arith),
+      lt-leb 0x2028 b (omega arith),
+      ne-eqb b 0x202F (λ (e : b ≡ 0x202F). omega arith),
+      ne-eqb b 0x205F (λ (e : b ≡ 0x205F). omega arith),
+    )
+
+-- a printing character is no white space
+pub printing-not-white : (b : ℕ) → 0x20 < b → b < 0x80 → isWhitespace b ≡ false
+unfolding isWhitespace within
+printing-not-white b l h =
+    rw (
+      le-leb 0x09 b (omega arith),
+      lt-leb b 0x0D (omega arith),
+      ne-eqb b 0x20 (λ (e : b ≡ 0x20). omega arith),
+      ne-eqb b 0x85 (λ (e : b ≡ 0x85). omega arith),
+      ne-eqb b 0xA0 (λ (e : b ≡ 0xA0). omega arith),
+      not-wide b h,
+    )
