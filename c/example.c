@@ -82,12 +82,14 @@ static void self_check(void)
     a = read_text("1999/2000-02~");
     memset(out, 0xAA, sizeof out);
     check(gave(knobstream_date_text(&a.date, out, sizeof out), out, "1999/2000-02~"), "the text of a range");
+    knobstream_written w = knobstream_date_length(&a.date);
+    check(w.refusal == 0 && w.length == 13, "its length");
     memset(out, 0xAA, sizeof out);
     check(gave(knobstream_date_fields(&a.date, out, sizeof out), out, "year=1999\nendyear=2000\nendmonth=02\n"), "its fields");
     memset(out, 0xAA, sizeof out);
     check(gave(knobstream_date_text(&a.date, out, 13), out, "1999/2000-02~"), "just enough room");
     memset(out, 0xAA, sizeof out);
-    knobstream_written w = knobstream_date_text(&a.date, out, 12);
+    w = knobstream_date_text(&a.date, out, 12);
     check(w.refusal == KNOBSTREAM_NO_ROOM && w.length == 0 && out[0] == 0xAA, "one byte too few");
     w = knobstream_date_fields(&a.date, NULL, 0);
     check(w.refusal == KNOBSTREAM_NO_ROOM && w.length == 0, "no room, by a null pointer");
@@ -95,6 +97,8 @@ static void self_check(void)
     a.date.first.month = 255;
     w = knobstream_date_text(&a.date, out, sizeof out);
     check(w.refusal == KNOBSTREAM_RUST_PANICS && out[0] == 0xAA, "month 255");
+    w = knobstream_date_length(&a.date);
+    check(w.refusal == KNOBSTREAM_RUST_PANICS && w.length == 0, "month 255 has no length");
 
     const knobstream_datetime year = read_text("2000").date.first, month = read_text("2000-02").date.first,
                               later = read_text("2000-03").date.first;

@@ -170,8 +170,15 @@ knobstream_answer knobstream_parse_three_fields(
     const uint8_t *day, size_t day_len,
     const uint64_t *day_table, size_t day_table_len);
 
-/* The text of a date, at the front of `out`: "2000-02-29", "1999/2003~". The
- * date is passed part by part, so that it goes in registers. */
+/* How long the text of a date is, for whoever must reserve room before it is
+ * written: `length` is what the next call stores. It refuses what that call
+ * refuses, apart from NoRoom. The date is passed part by part, so that it goes
+ * in registers. */
+knobstream_written knobstream_measure_date(
+    knobstream_datetime first, knobstream_datetime second,
+    uint8_t shape, uint8_t uncertain, uint8_t approximate);
+
+/* The text of a date, at the front of `out`: "2000-02-29", "1999/2003~". */
 knobstream_written knobstream_write_date(
     knobstream_datetime first, knobstream_datetime second,
     uint8_t *out, size_t out_len,
@@ -185,6 +192,12 @@ knobstream_written knobstream_write_fields(
     uint8_t shape, uint8_t uncertain, uint8_t approximate);
 
 /* The same of a date as it was read. */
+static inline knobstream_written knobstream_date_length(const knobstream_date *date)
+{
+    return knobstream_measure_date(date->first, date->second,
+                                   date->shape, date->uncertain, date->approximate);
+}
+
 static inline knobstream_written knobstream_date_text(
     const knobstream_date *date, uint8_t *out, size_t out_len)
 {

@@ -45,6 +45,7 @@ static size_t digits;
 ON_A_THREAD(parse, answer = knobstream_parse(LENT(field)))
 ON_A_THREAD(parse_strict, answer = knobstream_parse_strict(LENT(field)))
 ON_A_THREAD(parse_three_fields, answer = knobstream_parse_three_fields(LENT(field), 1, LENT(month), 1, LENT(day)))
+ON_A_THREAD(measure_date, written = knobstream_date_length(&date))
 ON_A_THREAD(write_date, written = knobstream_date_text(&date, out, sizeof out))
 ON_A_THREAD(write_fields, written = knobstream_date_fields(&date, out, sizeof out))
 ON_A_THREAD(answer_frame, written = knobstream_answer_frame(line, digits, out, sizeof out))
@@ -58,6 +59,7 @@ static struct {
     { "knobstream_parse", parse, KNOBSTREAM_STACK, 0 },
     { "knobstream_parse_strict", parse_strict, KNOBSTREAM_STACK, 0 },
     { "knobstream_parse_three_fields", parse_three_fields, KNOBSTREAM_STACK, 0 },
+    { "knobstream_measure_date", measure_date, KNOBSTREAM_STACK, 0 },
     { "knobstream_write_date", write_date, KNOBSTREAM_STACK, 0 },
     { "knobstream_write_fields", write_fields, KNOBSTREAM_STACK, 0 },
     { "knobstream_compare", compare, KNOBSTREAM_STACK, 0 },

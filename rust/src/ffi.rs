@@ -84,6 +84,13 @@ extern "C" {
         day_table: *const u64,
         day_table_len: usize,
     ) -> Answer;
+    fn knobstream_measure_date(
+        first: Datetime,
+        second: Datetime,
+        shape: u8,
+        uncertain: u8,
+        approximate: u8,
+    ) -> Written;
     fn knobstream_write_date(
         first: Datetime,
         second: Datetime,
@@ -157,6 +164,17 @@ pub fn parse_three_fields(year: List, month: Option<List>, day: Option<List>) ->
             d.table.as_ptr(),
             d.table.len(),
         )
+    }
+}
+
+pub fn measure_date(d: Date) -> Result<usize, u8> {
+    // SAFETY: the call takes any numbers.
+    let w =
+        unsafe { knobstream_measure_date(d.first, d.second, d.shape, d.uncertain, d.approximate) };
+    if w.refusal == 0 {
+        Ok(w.length)
+    } else {
+        Err(w.refusal)
     }
 }
 

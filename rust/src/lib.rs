@@ -349,6 +349,20 @@ impl Date {
         })
     }
 
+    /// How many bytes the text of the date has, for whoever must reserve room
+    /// before it is written. It refuses what [`Date::write`] refuses, apart from
+    /// a buffer that is too short.
+    ///
+    /// ```
+    /// # use knobstream::*;
+    /// let date = Date::parse(&[Spanned::detached(Chunk::Normal("2000-2-9T10?"))])?;
+    /// assert_eq!(date.text_length()?, "2000-02-09?".len());
+    /// # Ok::<(), TypeError>(())
+    /// ```
+    pub fn text_length(&self) -> Result<usize, TypeError> {
+        ffi::measure_date(plain_date(self)).map_err(no_place)
+    }
+
     /// Writes the text of the date at the front of the buffer, and gives it. The
     /// time is not written, nor a day without a month.
     ///

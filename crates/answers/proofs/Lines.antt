@@ -16,7 +16,8 @@ use Rattle.refusals.specs.Refusal.{fileSpan, refusal}
 use Rattle.dates.specs.declared.Date.{Date}
 use Rattle.datefield.specs.declared.ReadDate.{ReadDate}
 use Rattle.datefield.specs.declared.ReadDate.the-variants.{Accepted, Refused as NotRead}
-use Rattle.writer.specs.declared.Measured.the-variants.{Length}
+use Rattle.writer.specs.declared.Measured.{Measured}
+use Rattle.writer.specs.declared.Measured.the-variants.{Length, NoLength}
 use Rattle.writer.specs.declared.Written.{Written}
 use Rattle.writer.specs.declared.Written.the-variants.{Done, Refused}
 use Rattle.writer.specs.Answers.{refused, measured, decided, answer, afterwards, Put}
@@ -87,3 +88,22 @@ module _ (d : Date) (h : panics d ≡ false → length (dateText d) ≤ 40) (tex
       of-test (panics d)
       (λ p. rw p (ap refusedLine (refusal-same (sym q ∙ panics-or true p))))
       (λ p. let g : answer false (dateText d) 40 ≡ Done (length (dateText d)) = rw (fits-it p) in absurd (false≢true (ap isDone (sym q ∙ panics-or false p ∙ g))))
+
+abbrev hasLength : Measured → Bool
+hasLength (Length n) = true
+hasLength (NoLength e) = false
+
+abbrev reasonOf : Measured → Refusal → Refusal
+reasonOf (Length n) o = o
+reasonOf (NoLength e) o = e
+
+reason-same : {e f : Refusal} → NoLength e ≡ NoLength f → e ≡ f
+reason-same {e} {f} q = ap (λ (m : Measured). reasonOf m e) q
+
+-- a Date that has no measure
+pub no-text-line : (d : Date) {m : Measured} {e : Refusal} → m ≡ measured (panics d) (dateText d) → m ≡ NoLength e → refusedLine e ≡ answerLine (Accepted d)
+unfolding measured answerLine pick refused
+no-text-line d em en =
+    of-test (panics d)
+    (λ p. rw p (ap refusedLine (reason-same (sym en ∙ rw p at em))))
+    (λ p. absurd (false≢true (ap hasLength (sym en ∙ rw p at em))))

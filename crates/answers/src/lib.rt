@@ -23,6 +23,7 @@ use dates::TimeOffset;
 use refusals::FileSpan;
 use refusals::Kind;
 use refusals::Refusal;
+use writer::Measured;
 use writer::Written;
 
 // ---- the bytes of an answer
@@ -320,15 +321,26 @@ fn write_accepted(d: Date, text: &[u8], out: &mut [u8]) -> Written
     }
 }
 
-// The line of a Date; where it has no written text, that of the refusal.
-fn write_date(d: Date, out: &mut [u8]) -> Written
+// The line of a Date, with its text written.
+fn write_with_text(d: Date, out: &mut [u8]) -> Written
     ensures { λ r. ⌜ r ≡ writing.answer false (spec.answerLine (Accepted d)) (length (now (out .entry))) ⌝ }
     ensures { λ r. ⌜ now (out .exit) ≡ writing.afterwards false (spec.answerLine (Accepted d)) (now (out .entry)) ⌝ }
 {
     let mut text = [0u8; 40];
-    match writer::write_date(d, &mut text) {
+    match writer::write_text(d, &mut text) {
         Written::Done(n) => write_accepted(d, &text[..n], out),
         Written::Refused(e) => write_refused(e, out),
+    }
+}
+
+// The line of a Date, which is measured first; where it has no written text, that of the refusal.
+fn write_date(d: Date, out: &mut [u8]) -> Written
+    ensures { λ r. ⌜ r ≡ writing.answer false (spec.answerLine (Accepted d)) (length (now (out .entry))) ⌝ }
+    ensures { λ r. ⌜ now (out .exit) ≡ writing.afterwards false (spec.answerLine (Accepted d)) (now (out .entry)) ⌝ }
+{
+    match writer::date_length(d) {
+        Measured::Length(_) => write_with_text(d, out),
+        Measured::NoLength(e) => write_refused(e, out),
     }
 }
 

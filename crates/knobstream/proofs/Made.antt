@@ -22,13 +22,14 @@ use Rattle.order.specs.declared.Order.{Order}
 use Rattle.order.specs.declared.Order.the-variants.{Less, Equal, Greater, None}
 use Rattle.order.specs.Order.{order}
 use Rattle.writer.specs.declared.Written.{Written}
-use Rattle.writer.specs.Answers.{answer, afterwards}
+use Rattle.writer.specs.declared.Measured.{Measured}
+use Rattle.writer.specs.Answers.{measured, answer, afterwards}
 use Rattle.writer.specs.Texts.{partsOf, datetimeText, valueText, markText, dateText, endPanics, valuePanics, panics}
 use Rattle.writer.specs.Fields.{endLines, valueLines, fieldsText}
 use Rattle.knobstream.specs.declared.PlainDatetime.{PlainDatetime}
 use Rattle.knobstream.specs.declared.PlainDate.{PlainDate}
 use Rattle.knobstream.specs.declared.PlainWritten.{PlainWritten}
-use Rattle.knobstream.specs.Plain.{hasMonth, monthNumber, hasDay, dayNumber, shiftOf, offsetSort, hoursOf, minutesOf, datetime, written, orderNumber}
+use Rattle.knobstream.specs.Plain.{hasMonth, monthNumber, hasDay, dayNumber, shiftOf, offsetSort, hoursOf, minutesOf, datetime, written, measure, orderNumber}
 use Rattle.knobstream.specs.Back.{isSet, datetimeOf, dayOnly, valueOf, dateBy, dateOf}
 
 -- the struct of a year and other numbers
@@ -72,6 +73,11 @@ pub made-written : {d e : Date} (t : Date → List ℕ) (l : List ℕ) {m : List
     → panics d ≡ panics e → t d ≡ t e → (w ≡ answer (panics d) (t d) (length l)) × (m ≡ afterwards (panics d) (t d) l) → r ≡ written w
     → (r ≡ written (answer (panics e) (t e) (length l))) × (m ≡ afterwards (panics e) (t e) l)
 made-written t l ep et h er = (rw (er, h .0, ep, et), rw (h .1, ep, et))
+
+-- what measuring said of it
+pub made-measure : (d e : Date) {m : Measured} {r : PlainWritten} → panics d ≡ panics e → dateText d ≡ dateText e → m ≡ measured (panics d) (dateText d) → r ≡ measure m
+    → r ≡ measure (measured (panics e) (dateText e))
+made-measure d e ep et em er = rw (er, em, ep, et)
 
 module _ (p : PlainDate) where
   by-shape : {A : Type 0} (f : DateValue → A) → f (At (dayOnly (p .first))) ≡ f (At (datetimeOf (p .first))) → f (After (dayOnly (p .first))) ≡ f (After (datetimeOf (p .first)))

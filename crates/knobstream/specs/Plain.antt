@@ -21,6 +21,8 @@ use Rattle.dates.specs.declared.Date.{Date}
 use Rattle.dates.specs.Time.{time}
 use Rattle.datefield.specs.declared.ReadDate.{ReadDate}
 use Rattle.datefield.specs.declared.ReadDate.the-variants.{Accepted, Refused}
+use Rattle.writer.specs.declared.Measured.{Measured}
+use Rattle.writer.specs.declared.Measured.the-variants.{Length, NoLength}
 use Rattle.writer.specs.declared.Written.{Written}
 use Rattle.writer.specs.declared.Written.the-variants.{Done, Refused as NotWritten}
 use Rattle.order.specs.declared.Order.{Order}
@@ -177,6 +179,11 @@ read (Refused e) = record { start = e .place .0; end = e .place .1; date = noDat
 abbrev pub written : Written → PlainWritten
 written (Done n) = record { length = n; refusal = 0 }
 written (NotWritten e) = record { length = 0; refusal = number (e .kind) }
+
+-- what measuring answers, likewise: how many bytes the text has
+abbrev pub measure : Measured → PlainWritten
+measure (Length n) = record { length = n; refusal = 0 }
+measure (NoLength e) = record { length = 0; refusal = number (e .kind) }
 
 -- how the first stands to the second
 abbrev pub orderNumber : Order → ℤ

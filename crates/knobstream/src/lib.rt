@@ -9,7 +9,7 @@ ghost use Rattle.reader.specs.Fields.{threeFields};
 ghost use Rattle.order.specs.Order.{order};
 ghost use Rattle.writer.specs.Texts.{panics, dateText};
 ghost use Rattle.writer.specs.Fields.{fieldsText};
-ghost use Rattle.writer.specs.Answers.{answer, afterwards};
+ghost use Rattle.writer.specs.Answers.{measured, answer, afterwards};
 ghost use Rattle.answers.specs.Answer.{answerLine};
 ghost use Rattle.frames.specs.Frame.{lineRead};
 ghost use Rattle.knobstream.specs.Plain as plain;
@@ -28,6 +28,7 @@ use dates::Time;
 use dates::TimeOffset;
 use order::Order;
 use quick::UsualText;
+use writer::Measured;
 use writer::Written;
 
 // A Datetime. A part that is absent has 0 in its `has_` number and in its own.
@@ -339,6 +340,24 @@ fn plain_written(w: Written) -> PlainWritten
     }
 }
 
+fn plain_measured(m: Measured) -> PlainWritten
+    ensures { λ q. ⌜ q ≡ plain.measure m ⌝ }
+{
+    match m {
+        Measured::Length(size) => PlainWritten {
+            length: size,
+            refusal: 0,
+        },
+        Measured::NoLength(e) => {
+            let kind = e.kind;
+            PlainWritten {
+                length: 0,
+                refusal: refusals::number(kind),
+            }
+        }
+    }
+}
+
 fn plain_order(o: Order) -> i32
     ensures { λ r. ⌜ r ≡ plain.orderNumber o ⌝ }
 {
@@ -514,8 +533,29 @@ pub extern "C" fn knobstream_parse_three_fields(
     ))
 }
 
-// The text of a Date, at the front of the lent buffer; a refusal stores nothing. The Date is passed part by part: so its Datetimes go in
-// registers.
+// How long the text of a Date is, for whoever must reserve room before it is written; it refuses what the writer refuses, apart from NoRoom. The
+// Date is passed part by part: so its Datetimes go in registers.
+#[no_mangle]
+pub extern "C" fn knobstream_measure_date(
+    first: PlainDatetime,
+    second: PlainDatetime,
+    shape: u8,
+    uncertain: u8,
+    approximate: u8,
+) -> PlainWritten
+    ensures { λ r. ⌜ r ≡ plain.measure (measured (panics (back.dateOf (plain.parts shape uncertain approximate first second))) (dateText (back.dateOf (plain.parts shape uncertain approximate first second)))) ⌝ }
+{
+    let d = date_of(PlainDate {
+        shape,
+        uncertain,
+        approximate,
+        first,
+        second,
+    });
+    plain_measured(writer::date_length(d))
+}
+
+// The text of a Date, at the front of the lent buffer; a refusal stores nothing.
 #[no_mangle]
 pub extern "C" fn knobstream_write_date(
     first: PlainDatetime,

@@ -11,7 +11,7 @@ use Rattle.chars.specs.Pick.{pick}
 use Rattle.chars.proofs.Cases.{of-test}
 use Rattle.refusals.specs.declared.Refusal.{Refusal}
 use Rattle.writer.specs.declared.Measured.{Measured}
-use Rattle.writer.specs.declared.Measured.the-variants.{Length}
+use Rattle.writer.specs.declared.Measured.the-variants.{Length, NoLength}
 use Rattle.writer.specs.declared.Written.{Written}
 use Rattle.writer.specs.declared.Written.the-variants.{Done, Refused}
 use Rattle.writer.specs.Answers.{measured, decided, answer, afterwards, Put}
@@ -69,3 +69,8 @@ module _ (b : Bool) (t l : List ℕ) {m : Measured} {w : Written} (em : m ≡ me
   -- it refuses
   pub refuses : {e : Refusal} → w ≡ Refused e → (Refused e ≡ answer b t (length l)) × (l ≡ afterwards b t l)
   refuses e = (sym e ∙ by-measure, all-left b t l (sym by-measure ∙ e))
+
+-- what has no measure is refused, whatever the room
+pub no-measure : (b : Bool) (t l : List ℕ) {m : Measured} {e : Refusal} → m ≡ measured b t → m ≡ NoLength e → (Refused e ≡ answer b t (length l)) × (l ≡ afterwards b t l)
+unfolding decided
+no-measure b t l {m} {e} em en = refuses b t l {m = m} {w = Refused e} em (rw en refl) refl

@@ -527,7 +527,7 @@ fn refuse(kind: Kind) -> Refusal
     refusals::refuse(kind, FileSpan(0, 0))
 }
 
-// How long the text of a date is: at most 40 bytes. It refuses what `write_date` refuses, apart from NoRoom.
+// How long the text of a date is: at most 40 bytes. It refuses what `write_text` refuses, apart from NoRoom.
 pub fn date_length(d: Date) -> Measured
     ensures { λ r. ⌜ r ≡ spec.measured (text.panics d) (text.dateText d) ⌝ }
     ensures { λ r. ⌜ (text.panics d ≡ false → length (text.dateText d) ≤ 40) ⌝ }
@@ -565,8 +565,8 @@ fn decide(m: Measured, room: usize) -> Written
     }
 }
 
-// The text of a date, at the front of the lent buffer; a refusal stores nothing.
-pub fn write_date(d: Date, out: &mut [u8]) -> Written
+// The text of a date, at the front of the lent buffer; a refusal stores nothing. Whoever measured the date knows the room that it needs.
+pub fn write_text(d: Date, out: &mut [u8]) -> Written
     ensures { λ r. ⌜ r ≡ spec.answer (text.panics d) (text.dateText d) (length (now (out .entry))) ⌝ }
     ensures { λ r. ⌜ now (out .exit) ≡ spec.afterwards (text.panics d) (text.dateText d) (now (out .entry)) ⌝ }
     ensures { λ r. ⌜ (text.panics d ≡ false → length (text.dateText d) ≤ 40) ⌝ }
@@ -574,6 +574,18 @@ pub fn write_date(d: Date, out: &mut [u8]) -> Written
     match decide(date_length(d), out.len()) {
         Written::Done(_) => Written::Done(put_date(d, out)),
         Written::Refused(e) => Written::Refused(e),
+    }
+}
+
+// Both in one call: the date is measured, then its text is written.
+pub fn write_date(d: Date, out: &mut [u8]) -> Written
+    ensures { λ r. ⌜ r ≡ spec.answer (text.panics d) (text.dateText d) (length (now (out .entry))) ⌝ }
+    ensures { λ r. ⌜ now (out .exit) ≡ spec.afterwards (text.panics d) (text.dateText d) (now (out .entry)) ⌝ }
+    ensures { λ r. ⌜ (text.panics d ≡ false → length (text.dateText d) ≤ 40) ⌝ }
+{
+    match date_length(d) {
+        Measured::Length(_) => write_text(d, out),
+        Measured::NoLength(e) => Written::Refused(e),
     }
 }
 

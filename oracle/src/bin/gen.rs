@@ -1203,7 +1203,12 @@ fn imported(rng: &mut Rng, start: u32) -> Vec<u8> {
 
 fn imported_date(rng: &mut Rng) -> String {
     let mut day = |parts: usize| {
-        let text = format!("{:04}-{:02}-{:02}", 1000 + rng.below(1030), 1 + rng.below(12), 1 + rng.below(28));
+        let text = format!(
+            "{:04}-{:02}-{:02}",
+            1000 + rng.below(1030),
+            1 + rng.below(12),
+            1 + rng.below(28)
+        );
         text[..[4, 7, 10][parts]].to_string()
     };
     let (year, month, date) = (day(0), day(1), day(2));
@@ -1222,7 +1227,9 @@ fn imported_date(rng: &mut Rng) -> String {
         95 => format!("{date}T10:20:30Z"),
         96 => year[2..].to_string(),
         97 => format!(" {year} "),
-        98 => rng.pick(&["forthcoming", "n.d.", "in press", "", "1900-02-29", "2000-13"]).to_string(),
+        98 => {
+            rng.pick(&["forthcoming", "n.d.", "in press", "", "1900-02-29", "2000-13"]).to_string()
+        }
         _ => format!("{year} é"),
     }
 }
@@ -1242,9 +1249,5 @@ fn imported_fields(rng: &mut Rng, start: u32) -> Vec<u8> {
     let day = format!("{}", 1 + rng.below(28));
     let month = rng.percent(70).then(|| [normal(start + 20, month)]);
     let day = rng.percent(40).then(|| [normal(start + 40, day)]);
-    three(
-        &[normal(start, year)],
-        month.as_ref().map(|m| &m[..]),
-        day.as_ref().map(|d| &d[..]),
-    )
+    three(&[normal(start, year)], month.as_ref().map(|m| &m[..]), day.as_ref().map(|d| &d[..]))
 }

@@ -1,46 +1,16 @@
-use mathlib.Core.Path.{_≡_, refl, sym, ap, _∙_}
-use mathlib.Core.Bool.{false}
-use mathlib.Core.List.{List}
-use Prim.Native.Nat.{ℕ}
-use lib.Seq.{length-take-le}
-use lib.ListN.{length}
-use Rattle.writer.specs.declared.Written.{Written}
-use Rattle.writer.specs.Answers.{answer, afterwards}
-use Rattle.answers.proofs.Lines.{text-in, date-line, panic-line}
+use Rattle.answers.proofs.Lines.{no-text-line}
 use borrow.Author.Needs.{needs}
 use Rattle.answers.proofs.write_date.Statement.{statement}
 use Rattle.answers.proofs.write_date.Tie as tie
-use Rattle.answers.proofs.write_date.Reads as reads
-use Rattle.answers.proofs.write_date.Lts as lts
-use Rattle.answers.proofs.write_accepted.Reads as write-accepted-reads
-use Rattle.answers.proofs.write_refused.Reads as write-refused-reads
-use Rattle.writer.proofs.write_date.Reads as write-date-reads
 
-slice-aggregate-write-date : tie.Need-slice-aggregate-write-date
-slice-aggregate-write-date c = search needs
+date-length-requires : tie.Need-date-length-requires
+date-length-requires c κs = search needs
 
-write-date-requires : tie.Need-write-date-requires
-write-date-requires c κs = search needs
+enum-told : tie.Need-enum-told
+enum-told c = search needs
 
-enum-known-n : tie.Need-enum-known-n
-enum-known-n c = search needs
-
-array-share-prefix-text : tie.Need-array-share-prefix-text
-array-share-prefix-text c =
-    let b1 = c .before in
-    let b4 = b1 .before .before .before in
-    let s = b4 .before .before .before in
-    text-in (s .args .d) (b4 .write-date .ensures .1 .1) _ refl (b4 .write-date .ensures .0) (b4 .write-date .ensures .1 .0) (b1 .n .given .1)
-
-slice-aggregate-write-accepted : tie.Need-slice-aggregate-write-accepted
-slice-aggregate-write-accepted c =
-    let b2 = c .before .before in
-    let b5 = b2 .before .before .before in
-    let s = b5 .before .before .before in
-    sym (length-take-le _ _ (text-in (s .args .d) (b5 .write-date .ensures .1 .1) _ refl (b5 .write-date .ensures .0) (b5 .write-date .ensures .1 .0) (b2 .n .given .1)))
-
-write-accepted-requires : tie.Need-write-accepted-requires
-write-accepted-requires c κs = search needs
+write-with-text-requires : tie.Need-write-with-text-requires
+write-with-text-requires c κs = search needs
 
 enum-known-e : tie.Need-enum-known-e
 enum-known-e c = search needs
@@ -52,38 +22,25 @@ same-length : tie.Need-same-length
 same-length c = search needs
 
 returns : tie.Need-returns
-returns c =
-    let b2 = c .before .before in
-    let b6 = b2 .before .before .before .before in
-    let b9 = b6 .before .before .before in
-    let s = b9 .before .before .before in
-    let l = date-line (s .args .d) (b9 .write-date .ensures .1 .1) _ refl (b9 .write-date .ensures .0) (b9 .write-date .ensures .1 .0) (b6 .n .given .1) in
-    let q = b2 .write-accepted .ensures in
-    (q .0 ∙ ap (λ (t : List ℕ). answer false t (length (s .args .out .now))) l, q .1 ∙ ap (λ (t : List ℕ). afterwards false t (s .args .out .now)) l)
+returns c = search needs
 
 same-length-2 : tie.Need-same-length-2
 same-length-2 c = search needs
 
 returns-2 : tie.Need-returns-2
 returns-2 c =
-    let b2 = c .before .before in
-    let b5 = b2 .before .before .before in
-    let b8 = b5 .before .before .before in
-    let s = b8 .before .before .before in
-    let l = panic-line (s .args .d) (b8 .write-date .ensures .1 .1) _ refl (b8 .write-date .ensures .0) (b8 .write-date .ensures .1 .0) (b5 .e .given .1) in
-    let q = b2 .write-refused .ensures in
-    (q .0 ∙ ap (λ (t : List ℕ). answer false t (length (s .args .out .now))) l, q .1 ∙ ap (λ (t : List ℕ). afterwards false t (s .args .out .now)) l)
+    let b5 = c .before .before .before .before .before in
+    let b7 = b5 .before .before in
+    let e = no-text-line (b7 .before .before .args .d) (b7 .date-length .ensures .0) (b5 .e .given .1) in
+    rw e at (c .before .before .write-refused .ensures)
 
 pub write-date-spec : {M : Type 1} → statement M
 write-date-spec =
     tie.close
     (tie.spec
-    slice-aggregate-write-date
-    write-date-requires
-    enum-known-n
-    array-share-prefix-text
-    slice-aggregate-write-accepted
-    write-accepted-requires
+    date-length-requires
+    enum-told
+    write-with-text-requires
     enum-known-e
     write-refused-requires
     same-length

@@ -1,5 +1,5 @@
 use Rattle.writer.specs.Texts.{panics, dateText}
-use Rattle.writer.proofs.Answered.{fits, refuses, done}
+use Rattle.writer.proofs.Answered.{no-measure}
 use borrow.Author.Needs.{needs}
 use Rattle.writer.proofs.write_date.Statement.{statement}
 use Rattle.writer.proofs.write_date.Tie as tie
@@ -7,53 +7,35 @@ use Rattle.writer.proofs.write_date.Tie as tie
 date-length-requires : tie.Need-date-length-requires
 date-length-requires c κs = search needs
 
-decide-requires : tie.Need-decide-requires
-decide-requires c κs = search needs
-
 enum-told : tie.Need-enum-told
-enum-told c = c .match .keys1
+enum-told c = search needs
 
-put-date-requires : tie.Need-put-date-requires
-put-date-requires c κs =
-    let b1 = c .before in
-    let b3 = b1 .before .before in
-    let b4 = b3 .before in
-    let s = b4 .before .before in
-    fits (panics (s .args .d)) (dateText (s .args .d)) (s .args .out .now) (b4 .date-length .ensures .0) (b3 .decide .ensures) (b1 .enum-told .given .1)
+write-text-requires : tie.Need-write-text-requires
+write-text-requires c κs = search needs
 
 enum-known-e : tie.Need-enum-known-e
-enum-known-e c = c .match .keys2
+enum-known-e c = search needs
 
 same-length : tie.Need-same-length
 same-length c = search needs
 
 returns : tie.Need-returns
-returns c =
-    let b2 = c .before .before in
-    let b4 = b2 .before .before in
-    let b6 = b4 .before .before in
-    let b7 = b6 .before in
-    let s = b7 .before .before in
-    let q = done (panics (s .args .d)) (dateText (s .args .d)) (s .args .out .now) (b7 .date-length .ensures .0) (b6 .decide .ensures) (b4 .enum-told .given .1) (b2 .put-date .ensures) in
-    (q .0, (q .1, b7 .date-length .ensures .1))
+returns c = search needs
 
 returns-2 : tie.Need-returns-2
 returns-2 c =
-    let b1 = c .before in
-    let b3 = b1 .before .before in
-    let b4 = b3 .before in
-    let s = b4 .before .before in
-    let q = refuses (panics (s .args .d)) (dateText (s .args .d)) (s .args .out .now) (b4 .date-length .ensures .0) (b3 .decide .ensures) (b1 .e .given .1) in
-    (q .0, (q .1, b4 .date-length .ensures .1))
+    let b3 = c .before .before .before in
+    let a = b3 .before .before .args in
+    let q = no-measure (panics (a .d)) (dateText (a .d)) (a .out .now) (b3 .date-length .ensures .0) (c .before .e .given .1) in
+    (q .0, (q .1, b3 .date-length .ensures .1))
 
 pub write-date-spec : {M : Type 1} → statement M
 write-date-spec =
     tie.close
     (tie.spec
     date-length-requires
-    decide-requires
     enum-told
-    put-date-requires
+    write-text-requires
     enum-known-e
     same-length
     returns

@@ -1,0 +1,30 @@
+use mathlib.Core.Path.{ap, _∙_}
+use Rattle.writer.specs.Texts.{panics, dateText}
+use Rattle.knobstream.specs.Plain.{parts}
+use Rattle.knobstream.specs.Back.{dateOf}
+use Rattle.knobstream.proofs.Made.{made-measure, same-panics, same-text}
+use borrow.Author.Needs.{needs}
+use Rattle.knobstream.proofs.knobstream_measure_date.Statement.{statement}
+use Rattle.knobstream.proofs.knobstream_measure_date.Tie as tie
+
+date-of-requires : tie.Need-date-of-requires
+date-of-requires c κs = search needs
+
+date-length-requires : tie.Need-date-length-requires
+date-length-requires c κs = search needs
+
+plain-measured-requires : tie.Need-plain-measured-requires
+plain-measured-requires c κs = search needs
+
+returns : tie.Need-returns
+returns c =
+    let b1 = c .before in
+    let b2 = b1 .before in
+    let a = b2 .before .args in
+    let p = parts (a .shape) (a .uncertain) (a .approximate) (a .first) (a .second) in
+    let e = b2 .date-of .ensures in
+    made-measure (b2 .date-of .result) (dateOf p) (ap panics e ∙ same-panics p) (ap dateText e ∙ same-text p) (b1 .date-length .ensures .0) (c .plain-measured .ensures)
+
+pub knobstream-measure-date-spec : {M : Type 1} → statement M
+knobstream-measure-date-spec =
+    tie.close (tie.spec date-of-requires date-length-requires plain-measured-requires returns)
