@@ -105,7 +105,7 @@ static void self_check(void)
     check(knobstream_compare(month, later) == -1 && knobstream_compare(later, month) == 1, "less and greater");
     check(knobstream_compare(month, month) == 0 && knobstream_compare(year, month) == 2, "equal and none");
 
-    static const char frame[] = "01010003000000000000000334393f";
+    static const char frame[] = "04010003000000000000000334393f";
     uint8_t line[KNOBSTREAM_LINE_ROOM];
     memset(line, 0xAA, sizeof line);
     check(gave(knobstream_answer_frame((const uint8_t *)frame, strlen(frame), line, sizeof line), line,

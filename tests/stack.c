@@ -173,7 +173,7 @@ int main(void)
                     fill(&month, months[i % COUNT(months)], lengths[n], numbers[m], kind);
                     fill(&day, "31", lengths[n], numbers[m], kind);
                     date = knobstream_parse(LENT(field)).date;
-                    put_frame(i % 3 + 1);
+                    put_frame(i % 4 + 1);
                     measure();
                 }
     /* the longest text that a date has */

@@ -24,10 +24,13 @@ const HEAD: usize = 10;
 const SKIP: &[u8] = b"--";
 
 /// The operation that calls the ported reader.
-pub const PORTED: u8 = 1;
+pub const PORTED: u8 = 4;
 
 /// The operation of the strict reader, which the oracle lacks.
-pub const STRICT: u8 = 2;
+pub const STRICT: u8 = 1;
+
+/// Its older number, which still is one.
+pub const STRICT_TOO: u8 = 2;
 
 /// The operation that reads three fields.
 pub const THREE_FIELDS: u8 = 3;
@@ -162,7 +165,7 @@ fn split(frame: &[u8]) -> Option<(Operation, [Option<Form>; 3])> {
 
     let operation = match code {
         PORTED => Operation::Ported,
-        STRICT => Operation::Strict,
+        STRICT | STRICT_TOO => Operation::Strict,
         THREE_FIELDS => {
             for slot in &mut forms[1..] {
                 let flag = *frame.get(at)?;

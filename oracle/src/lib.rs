@@ -15,7 +15,7 @@ mod frame;
 pub mod make;
 
 pub use describe::{describe_answer, describe_frame};
-pub use frame::{Options, Oracle, BAD_FRAME, MAX_FRAME, PORTED, STRICT, THREE_FIELDS};
+pub use frame::{Options, Oracle, BAD_FRAME, MAX_FRAME, PORTED, STRICT, STRICT_TOO, THREE_FIELDS};
 #[doc(hidden)]
 pub use scanner::Scanner;
 

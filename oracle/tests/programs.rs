@@ -41,7 +41,7 @@ fn generated(args: &[&str]) -> Vec<u8> {
 
 #[test]
 fn lines() {
-    let good = "01010003000000000000000334393f";
+    let good = "04010003000000000000000334393f";
     let answer = "00000100000801ffff00000000000000323034393f\n";
     assert_eq!(oracle(b""), "");
     assert_eq!(oracle(b"\n"), BAD);

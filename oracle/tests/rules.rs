@@ -21,7 +21,7 @@ fn words(frame: &[u8]) -> String {
 
 /// The ported reader's answer to a date field.
 fn date(text: &str) -> String {
-    words(&one(1, &[normal(100, text)]))
+    words(&one(4, &[normal(100, text)]))
 }
 
 /// The answer to fields as lists of one chunk each.
@@ -57,8 +57,8 @@ fn accepted(text: &str) -> String {
 
 #[test]
 fn frames_and_answers() {
-    assert_eq!(raw("01010003000000000000000334393f"), "00000100000801ffff00000000000000323034393f");
-    assert_eq!(raw("01010003000000000000000334393F"), "00000100000801ffff00000000000000323034393f");
+    assert_eq!(raw("04010003000000000000000334393f"), "00000100000801ffff00000000000000323034393f");
+    assert_eq!(raw("04010003000000000000000334393F"), "00000100000801ffff00000000000000323034393f");
     assert_eq!(raw("zz"), "0e00000000000000000000000000000000");
 }
 
@@ -267,13 +267,13 @@ fn panics_keep_the_order() {
     ]);
     // The largest span that a frame can carry.
     let top = u64::from(u32::MAX);
-    let at = |text: &str| words(&one(1, &[normal(u32::MAX, text)]));
+    let at = |text: &str| words(&one(4, &[normal(u32::MAX, text)]));
     same(&[(at("q/2000"), refused(7, top, top)), (at("2000/q"), refused(7, top + 5, top + 5))]);
 }
 
 #[test]
 fn checks_before_reading() {
-    let one = |pieces: &[Piece]| words(&one(1, pieces));
+    let one = |pieces: &[Piece]| words(&one(4, pieces));
     let empty = |n: usize| vec![normal(0, ""); n];
     let mut kind3 = empty(65);
     kind3[64].kind = 3;
@@ -312,7 +312,7 @@ const NOON: &str = "2000-01-01T12:00:00Z";
 
 #[test]
 fn formatting() {
-    let one = |pieces: &[Piece]| words(&one(1, pieces));
+    let one = |pieces: &[Piece]| words(&one(4, pieces));
     let y2000 = accepted("At marks 0, year 2000, \"2000\"");
     same(&[
         // A break becomes a space, or goes behind white space.
@@ -338,15 +338,17 @@ fn formatting() {
 #[test]
 fn bad_frames() {
     let bad = "0e00000000000000000000000000000000";
-    let good = hex(&one(1, &[normal(0, "2000")]));
+    let good = hex(&one(4, &[normal(0, "2000")]));
     let lines = [
         String::new(),
         "0".into(),
         "01".into(),
         "0101".into(),
+        "04".into(),
+        "0401".into(),
         "00".into(),
         "0000".into(),
-        "0400".into(),
+        "0500".into(),
         "ff00".into(),
         format!("{good}\r"),
         format!("{good}0"),
@@ -364,6 +366,7 @@ fn bad_frames() {
         assert_eq!(raw(line), bad, "{line:?}");
     }
     assert_eq!(raw("03000000"), raw(&hex(&three(&[], None, None))));
+    assert_eq!(raw(&hex(&one(1, &[normal(0, "2000")]))), "--");
     assert_eq!(raw(&hex(&one(2, &[normal(0, "2000")]))), "--");
 
     // 8,192 bytes are a frame, 8,193 are none.
@@ -388,7 +391,7 @@ fn options() {
     assert_eq!(describe_answer(raw_with(checks, &kind3).as_bytes()), refused(15, 0, 0));
 
     let fields = Options { fields: true, ..base };
-    let range = hex(&one(1, &[normal(0, "2000-02-03/-0005")]));
+    let range = hex(&one(4, &[normal(0, "2000-02-03/-0005")]));
     let wanted = hex(b"\0year=2000\nmonth=02\nday=03\nendyear=-0005\n");
     assert_eq!(raw_with(fields, &range), wanted);
 }

@@ -38,7 +38,7 @@ pub const LINE_ROOM: usize = 139;
 ///
 /// ```
 /// let mut room = [0; knobstream::LINE_ROOM];
-/// let line = knobstream::answer_frame(b"01010003000000000000000334393f", &mut room);
+/// let line = knobstream::answer_frame(b"04010003000000000000000334393f", &mut room);
 /// assert_eq!(line, "00000100000801ffff00000000000000323034393f\n");
 /// ```
 pub fn answer_frame<'a>(line: &[u8], room: &'a mut [u8; LINE_ROOM]) -> &'a str {

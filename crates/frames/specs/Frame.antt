@@ -16,9 +16,9 @@ use Rattle.frames.specs.declared.Operation.{Operation}
 use Rattle.frames.specs.declared.Operation.the-variants.{Ported, Strict, ThreeFields, Unknown}
 use Rattle.frames.specs.Lists.{byteAt, listEnd, listTable, listText, isFlag, hasList, optionalEnd, optionalTable, optionalText}
 
--- the operations by their numbers: 01 the ported reader, 02 the strict one, 03 three fields
+-- the operations by their numbers: 01 and 02 the strict reader, 03 three fields, 04 the ported reader
 unfoldable pub asked : ℕ → Operation
-asked n = pick (eqb n 1) Ported (pick (eqb n 2) Strict (pick (eqb n 3) ThreeFields Unknown))
+asked n = pick (eqb n 1) Strict (pick (eqb n 2) Strict (pick (eqb n 3) ThreeFields (pick (eqb n 4) Ported Unknown)))
 
 -- the place of the month list: a flag, and perhaps a list
 abbrev pub monthAt : List ℕ → ℕ

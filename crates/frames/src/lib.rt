@@ -85,9 +85,10 @@ fn asked(n: u8) -> Operation
     ensures { λ r. ⌜ r ≡ spec.asked n ⌝ }
 {
     match n {
-        1 => Operation::Ported,
+        1 => Operation::Strict,
         2 => Operation::Strict,
         3 => Operation::ThreeFields,
+        4 => Operation::Ported,
         _ => Operation::Unknown,
     }
 }

@@ -6,7 +6,7 @@ use std::io::{self, BufWriter, Write};
 use std::process::ExitCode;
 
 use oracle::make::{hex, list, normal, one, piece, sized, spread, three, Piece, MONTH_NAMES};
-use oracle::{PORTED, STRICT};
+use oracle::{PORTED, STRICT, STRICT_TOO};
 
 const USAGE: &str = "usage: gen list
        gen many N SEED
@@ -252,8 +252,13 @@ impl Lines {
 
 fn fixed(out: &mut impl Write) -> io::Result<()> {
     let mut l = Lines::default();
-    l.raw("01010003000000000000000334393f");
+    l.raw("04010003000000000000000334393f");
     l.raw("zz");
+    // The same of the strict reader, and a date that it takes, by both of its numbers.
+    for operation in [STRICT, STRICT_TOO] {
+        l.frame(&one(operation, &[normal(0, "49?")]));
+        l.frame(&one(operation, &[normal(0, "2049?")]));
+    }
     examples(&mut l);
     short_texts(&mut l);
     damaged(&mut l);
@@ -265,8 +270,8 @@ fn fixed(out: &mut impl Write) -> io::Result<()> {
     limits(&mut l);
     bad_frames(&mut l);
     // The last line is a frame and has no line feed.
-    l.lines.retain(|line| line != b"01010003000000000000000334393F");
-    l.lines.push(b"01010003000000000000000334393F".to_vec());
+    l.lines.retain(|line| line != b"04010003000000000000000334393F");
+    l.lines.push(b"04010003000000000000000334393F".to_vec());
     out.write_all(&l.lines.join(&b'\n'))
 }
 
@@ -642,6 +647,7 @@ fn limits(l: &mut Lines) {
     for n in [8192, 8193, 20000] {
         l.raw("00".repeat(n));
         l.raw("01".repeat(n));
+        l.raw("04".repeat(n));
         l.raw("0".repeat(2 * n - 1));
     }
 }
@@ -731,11 +737,14 @@ fn bad_frames(l: &mut Lines) {
         "0300000100",
         "030001000100",
         "0400",
+        "0600",
         "0500",
         "0000",
         "ff00",
         "01ff",
         "0102",
+        "04ff",
+        "0402",
         "--",
         "g",
         "gg",
@@ -761,11 +770,11 @@ fn bad_frames(l: &mut Lines) {
         l.raw(line);
     }
     // Mixed digits are good ones.
-    l.raw("01010003000000000000000334393F");
-    l.raw("0101000400000000000000043230303aCaF"[..34].to_string());
-    l.raw("0101000200000000000000 0334393f");
-    l.raw("010100020000000000000003c3A9");
-    l.raw("010100020000000000000003C3a9");
+    l.raw("04010003000000000000000334393F");
+    l.raw("0401000400000000000000043230303aCaF"[..34].to_string());
+    l.raw("0401000200000000000000 0334393f");
+    l.raw("040100020000000000000003c3A9");
+    l.raw("040100020000000000000003C3a9");
 }
 
 // Many frames by a seed.
