@@ -13,4 +13,5 @@ pub mod Three
 pub mod Accepted
 pub mod Unknown
 pub mod Agrees
+pub mod Strictly
 pub mod Theorems

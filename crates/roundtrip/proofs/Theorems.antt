@@ -7,6 +7,7 @@ use Prim.Native.Nat.{ℕ}
 use Rattle.refusals.specs.declared.Kind.the-variants.{DayOutOfRange}
 use Rattle.refusals.specs.Refusal.{fileSpan, refusal}
 use Rattle.refusals.specs.Offset.{textRefusal, offsetSecond}
+use Rattle.chunks.specs.Format.{formatted}
 use Rattle.dates.specs.declared.Datetime.{Datetime}
 use Rattle.dates.specs.declared.DateValue.{DateValue}
 use Rattle.dates.specs.declared.Date.{Date}
@@ -18,7 +19,7 @@ use Rattle.reader.specs.Field.{parsed, strictly, parsedStrict}
 use Rattle.reader.proofs.Entries.{strict-clean}
 use Rattle.writer.specs.Texts.{dateText}
 use Rattle.writer.specs.Fields.{endLines}
-use Rattle.roundtrip.specs.Domain.{InDomain, Untimed, ShortMonthRange, oneChunk}
+use Rattle.roundtrip.specs.Domain.{InDomain, Untimed, ShortMonthRange, ShortText, oneChunk}
 use Rattle.roundtrip.specs.Fields.{linesOf, readBack}
 use Rattle.roundtrip.proofs.Whole.{value-back, known}
 use Rattle.roundtrip.proofs.Derived.{matched}
@@ -27,6 +28,7 @@ use Rattle.roundtrip.proofs.Three as three
 use Rattle.roundtrip.proofs.Accepted as accepted
 use Rattle.roundtrip.proofs.Short as short
 use Rattle.roundtrip.proofs.Agrees as both
+use Rattle.roundtrip.proofs.Strictly as strictly-read
 
 -- A Date of the domain, from its text.
 module _ (d : Date) (w : InDomain (d .value)) where
@@ -68,6 +70,19 @@ short-refused = short.short-refused
 pub short-refused-first : (d : Date) → ShortMonthRange (d .value) → (end : ℕ) → parsed (dateText d) (oneChunk (dateText d) 0 end) ≡ Refused (refusal DayOutOfRange (fileSpan 11 21))
 short-refused-first = short.short-refused-first
 
--- For every chunk list: what the strict reader accepts, the ported reader accepts with the same Date
-pub agrees : (b table : List ℕ) {d : Date} → parsedStrict b table ≡ Accepted d → parsed b table ≡ Accepted d
+-- For every chunk list: what the strict reader accepts, the ported reader accepts with the same Date, unless its text is a day-XX range in
+-- a month under 31 days; then with the 31st as its end, and all else the same
+pub agrees : (b table : List ℕ) {d : Date} → parsedStrict b table ≡ Accepted d → (parsed b table ≡ Accepted d) ⊎ ((e : Date) × ShortText (formatted b table) d e × (parsed b table ≡ Accepted e))
 agrees b table e = both.agrees b table e
+
+-- in that case the Dates do differ
+pub short-differ : {s : List ℕ} {d e : Date} → ShortText s d e → d ≡ e → ⊥
+short-differ = both.short-differ
+
+-- What the strict reader accepts, of any chunk list, is a Date of the domain, if it has no time,
+pub strict-in : (b table : List ℕ) {d : Date} → parsedStrict b table ≡ Accepted d → Untimed (d .value) → InDomain (d .value)
+strict-in b table e t = strictly-read.strict-in b table e t
+
+-- so it survives writing and strict rereading
+pub strict-again : (b table : List ℕ) {d : Date} → parsedStrict b table ≡ Accepted d → Untimed (d .value) → (start end : ℕ) → parsedStrict (dateText d) (oneChunk (dateText d) start end) ≡ Accepted d
+strict-again b table {d} e t = strict-back d (strict-in b table e t)

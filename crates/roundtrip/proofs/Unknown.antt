@@ -1,12 +1,16 @@
--- Every X text of the strict grammar is read by the ported reader as the range that the grammar says.
+-- Every X text of the strict grammar is read by the ported reader as the range that the grammar says, but for the end of days in a month
+-- under 31 days.
 -- Assumes nothing.
 use mathlib.Core.Path.{_≡_, refl, ap, _∙_}
 use mathlib.Core.Bool.{true, false}
 use mathlib.Core.List.{List, [], _∷_, _++_}
+use mathlib.Core.Logic.{_⊎_, inl, inr}
 use Prim.Native.Nat.{ℕ, _+_, _/_, _%_, _≤_, _<_}
 use native.Mathlib.Omega.{arith}
+use native.Mathlib.Decide.{decLt}
 use borrow.Author.Tests.{ne-eqb, lt-ltb, le-ltb, lt-leb, le-leb}
 use lib.Dec.{lit<}
+use lib.IntN.{pos}
 use lib.ListN.{length, length-append}
 use Rattle.chars.specs.Pick.{pick}
 use Rattle.chars.specs.Classes.{isAsciiDigit, within}
@@ -18,6 +22,8 @@ use Rattle.scanner.proofs.Front.{From, from-start, from-behind, front-inside, f
 use Rattle.refusals.specs.declared.FileSpan.{FileSpan}
 use Rattle.numbers.proofs.Reading.{bytes, value as number, AreDigits, digit-white}
 use Rattle.dates.specs.declared.DateValue.{DateValue}
+use Rattle.dates.specs.Calendar.{monthLength}
+use Rattle.dates.proofs.Lengths.{length-most}
 use Rattle.strs.specs.declared.ParsedNumber.the-variants.{Value}
 use Rattle.strs.specs.Parse.{parse}
 use Rattle.points.proofs.Back.{two, two-digits, two-value, lead, three, four, four-digits, four-value}
@@ -26,7 +32,9 @@ use Rattle.xranges.specs.Range.{getHyphen, onHyphen, onValue, years, months, da
 use Rattle.xranges.proofs.Hyphens.{one-hyphen}
 use Rattle.datefield.specs.declared.ReadValue.the-variants.{Read}
 use Rattle.datefield.specs.Value.{xRange, value}
-use Rattle.strict.specs.Grammar.{lastDay, field, Unknown, ddXX, dddX, dddd-XX, dddd-XX-XX, dddd-mm-XX}
+use Rattle.strict.specs.Grammar.{lastDay, field, Unknown, ddXX, dddX, dddd-XX, dddd-XX-XX}
+use Rattle.strict.specs.Grammar
+use Rattle.roundtrip.specs.Domain.{daysUpto, ShortDays, dddd-mm-XX}
 use Rattle.roundtrip.proofs.Bytes.{Each, each-append, each-bytes, InPoint, point-digit, minus-in, without-x, first-some}
 use Rattle.roundtrip.proofs.Bytes.Each.{none as no-more, more}
 use Rattle.roundtrip.proofs.Runs.{Stops, none, other, run-none, ascii-run, ascii-part, parse-is}
@@ -175,33 +183,47 @@ module _ (n m : ℕ) (h : m < 12) {s : List ℕ} (f : From s 4 (0x2D ∷ bytes (
       let z = from-behind (0x58 ∷ 0x58 ∷ []) (front-rest g) in
       rw (x-behind _ g, two-x none (front-rest g), no-white z, at-end z)
 
--- the last day of the range is the same in both
-last-is : (m n : ℕ) → lastDay m n ≡ 30
-unfolding lastDay
-last-is m n = refl
-
 -- the bytes before the first X
 four-in : (n : ℕ) {l : List ℕ} → Each InPoint l → Each InPoint (bytes (four n) ++ l)
 four-in n b = each-append (each-bytes point-digit (four n) (four-digits n)) b
 
--- what a derivation says is what the ported reader reads
-pub unknown-value : (span : FileSpan) {s : List ℕ} {v : DateValue} → Unknown s v → value span s ≡ Read v
-unfolding xRange years months days
-unknown-value span (ddXX n h) = has-x span (0x58 ∷ []) (each-bytes point-digit (two n) (two-digits n)) ∙ rw (century n h (from-start _))
-unknown-value span (dddX n h) = has-x span [] (each-bytes point-digit (three n) (four-digits n .1)) ∙ rw (decade n h (from-start _))
-unknown-value span (dddd-XX n h) =
-    let f = from-start (bytes (four n) ++ (0x2D ∷ 0x58 ∷ 0x58 ∷ [])) in
-    let g = from-behind (bytes (four n)) f in
-    has-x span (0x58 ∷ []) (four-in n (more minus-in no-more))
-    ∙ rw (whole-year n h f, months-x n none g, months-end n (from-behind (0x2D ∷ 0x58 ∷ 0x58 ∷ []) g))
-unknown-value span (dddd-XX-XX n h) =
-    let f = from-start (bytes (four n) ++ (0x2D ∷ 0x58 ∷ 0x58 ∷ 0x2D ∷ 0x58 ∷ 0x58 ∷ [])) in
-    let g = from-behind (bytes (four n)) f in
-    has-x span (0x58 ∷ 0x2D ∷ 0x58 ∷ 0x58 ∷ []) (four-in n (more minus-in no-more))
-    ∙ rw (whole-year n h f, months-x n hyphen-x g, months-second n (from-behind (0x2D ∷ 0x58 ∷ 0x58 ∷ []) g))
-unknown-value span (dddd-mm-XX n h (field m l)) =
-    let f = from-start (bytes (four n) ++ (0x2D ∷ bytes (two (1 + m)) ++ (0x2D ∷ 0x58 ∷ 0x58 ∷ []))) in
-    let g = from-behind (bytes (four n)) f in
-    let k : m < 12 = omega arith in
-    has-x span (0x58 ∷ []) (four-in n (more minus-in (each-append (each-bytes point-digit (two (1 + m)) (two-digits (1 + m))) (more minus-in no-more))))
-    ∙ rw (whole-year n h f, month-digits n m k g, month-number n m k g, days-x n m k g, last-is m n)
+-- what the ported reader reads of a text with an X: what the derivation says, or, of days in a month under 31 days, the range up to the 31st
+abbrev pub Said : FileSpan → List ℕ → DateValue → Type 0
+Said span s v = (value span s ≡ Read v) ⊎ ((w : DateValue) × ShortDays s v w × (value span s ≡ Read w))
+
+-- the last day of a month of 31 days is the same in both
+last-is : (m n : ℕ) → 31 ≤ monthLength m (pos n) → 30 ≡ lastDay m n
+unfolding lastDay
+last-is m n h = omega (arith, length-most m (pos n))
+
+module _ (span : FileSpan) where
+  days-said : (n m : ℕ) → n < 10000 → 1 + m ≤ 12 → value span (bytes (four n) ++ (0x2D ∷ bytes (two (1 + m)) ++ (0x2D ∷ 0x58 ∷ 0x58 ∷ []))) ≡ Read (daysUpto n m 30)
+  unfolding xRange days
+  days-said n m h l =
+      let f = from-start (bytes (four n) ++ (0x2D ∷ bytes (two (1 + m)) ++ (0x2D ∷ 0x58 ∷ 0x58 ∷ []))) in
+      let g = from-behind (bytes (four n)) f in
+      let k : m < 12 = omega arith in
+      has-x span (0x58 ∷ []) (four-in n (more minus-in (each-append (each-bytes point-digit (two (1 + m)) (two-digits (1 + m))) (more minus-in no-more))))
+      ∙ rw (whole-year n h f, month-digits n m k g, month-number n m k g, days-x n m k g)
+
+  pub unknown-value : {s : List ℕ} {v : DateValue} → Unknown s v → Said span s v
+  unfolding xRange years months lastDay
+  unknown-value (ddXX n h) = inl (has-x span (0x58 ∷ []) (each-bytes point-digit (two n) (two-digits n)) ∙ rw (century n h (from-start _)))
+  unknown-value (dddX n h) = inl (has-x span [] (each-bytes point-digit (three n) (four-digits n .1)) ∙ rw (decade n h (from-start _)))
+  unknown-value (dddd-XX n h) =
+      let f = from-start (bytes (four n) ++ (0x2D ∷ 0x58 ∷ 0x58 ∷ [])) in
+      let g = from-behind (bytes (four n)) f in
+      inl
+      (has-x span (0x58 ∷ []) (four-in n (more minus-in no-more))
+      ∙ rw (whole-year n h f, months-x n none g, months-end n (from-behind (0x2D ∷ 0x58 ∷ 0x58 ∷ []) g)))
+  unknown-value (dddd-XX-XX n h) =
+      let f = from-start (bytes (four n) ++ (0x2D ∷ 0x58 ∷ 0x58 ∷ 0x2D ∷ 0x58 ∷ 0x58 ∷ [])) in
+      let g = from-behind (bytes (four n)) f in
+      inl
+      (has-x span (0x58 ∷ 0x2D ∷ 0x58 ∷ 0x58 ∷ []) (four-in n (more minus-in no-more))
+      ∙ rw (whole-year n h f, months-x n hyphen-x g, months-second n (from-behind (0x2D ∷ 0x58 ∷ 0x58 ∷ []) g)))
+  unknown-value (Grammar.dddd-mm-XX n h (field m l)) =
+      elim (decLt (monthLength m (pos n)) 31) [
+        | yes k ↦ inr (daysUpto n m 30, dddd-mm-XX n h (field m l) k, days-said n m h l)
+        | no k ↦ inl (days-said n m h l ∙ ap (λ (d : ℕ). Read (daysUpto n m d)) (last-is m n (omega (arith, k))))
+      ]

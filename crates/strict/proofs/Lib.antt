@@ -9,3 +9,4 @@ pub mod Sound
 pub mod Texts
 pub mod Exact
 pub mod Written
+pub mod Examples

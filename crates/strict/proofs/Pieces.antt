@@ -184,3 +184,10 @@ module _ (c low high : ℕ) where
     where
       go : {n : ℕ} → FieldTaken c low high (drop at s) (SomeTwo n) → Taken (λ t. Field c low high t n) (drop at s) (drop (at + 3) s)
       go (some-field {t = t} d f) = record { text = t; derived = d; split = record { is = f .is ∙ ap (λ (r : List ℕ). t ++ r) (drop-drop 3 at s) } }
+
+  -- a number that was read is in its range
+  pub field-within : (s : List ℕ) {n : ℕ} → field c low high s ≡ SomeTwo n → low + n ≤ high
+  field-within s e = go (field-inv s 0 e .derived)
+    where
+      go : {t : List ℕ} {n : ℕ} → Field c low high t n → low + n ≤ high
+      go (Grammar.field n h) = h

@@ -1,6 +1,6 @@
 -- The strict grammar, as derivations: a value of `Text s d` is a derivation of the text s, and d is the Date that it says.
 -- A piece that is optional is a type with one case for its absence, whose text is empty.
-use Prim.Native.Nat.{ℕ, _+_, _*_, _≤_, _<_}
+use Prim.Native.Nat.{ℕ, _+_, _-_, _*_, _≤_, _<_}
 use Prim.Native.Char.{code}
 use mathlib.Core.Bool.{Bool, true, false}
 use mathlib.Core.List.{List, [], _∷_, _++_}
@@ -64,9 +64,9 @@ pub data Point : List ℕ → Datetime → Type 0 where
 abbrev pub plain : ℕ → OptionMonth → OptionDay → Datetime
 plain n m d = datetime (pos n) m d NoTime
 
--- the last day of a range of days, counted from zero: the 31st, whatever the month, as the ported reader has it
+-- the last day of a month of a year, counted from zero
 unfoldable pub lastDay : ℕ → ℕ → ℕ
-lastDay m n = 30
+lastDay m n = monthLength m (pos n) - 1
 
 -- two digits and XX, three digits and X, dddd-XX, dddd-XX-XX or dddd-mm-XX: from the first that it may be to the last
 pub data Unknown : List ℕ → DateValue → Type 0 where

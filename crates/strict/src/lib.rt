@@ -347,15 +347,17 @@ fn months(n: u16, next: usize) -> ReadUnknown
     }
 }
 
-// The last day of a range of days, as the ported reader has it: the 31st, whatever the month.
+// The last day of a month of a year, counted from zero.
 fn last_day(month: Month, n: u16) -> u8
+    requires { ⌜ month .0 < 12 ⌝ }
     ensures { λ r. ⌜ r ≡ grammar.lastDay (month .0) n ⌝ }
 {
-    30
+    days_in_month(month, signed(false, n)) - 1
 }
 
-// The days of a month as the ported reader has them, from the first to the 31st.
+// The days of a month, from the first to the last. The ported reader has 31 for any month.
 fn days(n: u16, month: Month) -> ReadUnknown
+    requires { ⌜ month .0 < 12 ⌝ }
     ensures { λ r. ⌜ r ≡ spec.days n (month .0) ⌝ }
 {
     let start = plain(n, OptionMonth::SomeMonth(month), OptionDay::SomeDay(Day(0)));

@@ -5,9 +5,12 @@ use mathlib.Core.Bool.{Bool, true, false, _||_}
 use mathlib.Core.List.{List, [], _∷_, _++_, append-nil, append-assoc}
 use Prim.Native.Nat.{ℕ, _<_}
 use native.Mathlib.Omega.{arith}
+use lib.Dec.{eqb}
 use lib.IntN.{ℤ}
-use borrow.Author.Tests.{ne-eqb}
+use lib.ListN.{length, getD}
+use borrow.Author.Tests.{ne-eqb, eqb-true}
 use Rattle.chars.specs.Pick.{pick}
+use Rattle.chars.proofs.Cases.{and-true}
 use Rattle.dates.specs.declared.OptionMonth.{OptionMonth}
 use Rattle.dates.specs.declared.OptionMonth.the-variants.{NoMonth, SomeMonth}
 use Rattle.dates.specs.declared.OptionDay.{OptionDay}
@@ -19,20 +22,19 @@ use Rattle.dates.specs.declared.Date.{Date}
 use Rattle.dates.specs.Domain.{PartsIn, EndIn}
 use Rattle.dates.specs.Value.{date, fromDatetime}
 use Rattle.dates.proofs.Lengths.{length-most}
+use Rattle.datefield.specs.declared.ReadDate.{ReadDate}
 use Rattle.datefield.specs.declared.ReadDate.the-variants.{Accepted}
 use Rattle.strict.specs.Canonical.{canonical}
-use Rattle.strict.specs.declared.Matched.the-variants.{Strict}
-use Rattle.strict.specs.Matcher.{strict}
 use Rattle.reader.specs.Field.{parsed, parsedStrict}
 use Rattle.writer.specs.Texts.{dayParts, monthParts, partsOf, tooLarge, endPanics, valuePanics, panics, datetimeText, valueText, markText, dateText}
 use Rattle.quick.specs.declared.UsualText.{UsualText}
 use Rattle.quick.specs.declared.UsualText.the-variants.{One, Two}
 use Rattle.quick.specs.Quick.{usualText}
 use Rattle.quick.proofs.Laws.{Said, SaidTwo, Saying, saying}
-use Rattle.roundtrip.specs.Domain.{InDomain}
-use Rattle.roundtrip.proofs.Derived.{canonical-is, matched}
-use Rattle.usual.specs.Once.{oneNormal, atOnce}
-use Rattle.usual.proofs.Usual.{once-strict, once-ported}
+use Rattle.roundtrip.specs.Domain.{InDomain, oneChunk}
+use Rattle.roundtrip.proofs.Derived.{canonical-is}
+use Rattle.roundtrip.proofs.Theorems.{date-back, strict-back}
+use Rattle.usual.specs.Once.{oneNormal}
 
 -- the written text of a Date of the domain
 pub record Usually (b : List ℕ) (d : Date) : Type 0 where
@@ -58,17 +60,38 @@ module _ (b : List ℕ) where
             ∙ rw (canonical-is x (s .start-in), canonical-is y (s .end-in)) (sym (s .both-texts));
       }
 
+-- the table of one Normal chunk
+four-are : (t : List ℕ) → length t ≡ 4 → t ≡ getD t 0 0 ∷ getD t 1 0 ∷ getD t 2 0 ∷ getD t 3 0 ∷ []
+four-are [] h = absurd (omega arith)
+four-are (a ∷ []) h = absurd (omega arith)
+four-are (a ∷ b ∷ []) h = absurd (omega arith)
+four-are (a ∷ b ∷ c ∷ []) h = absurd (omega arith)
+four-are (a ∷ b ∷ c ∷ d ∷ []) h = refl
+four-are (a ∷ b ∷ c ∷ d ∷ e ∷ t) h = absurd (omega arith)
+
 -- as one Normal chunk, both readers say the Date
 module _ (b table : List ℕ) (o : oneNormal b table ≡ true) {d : Date} (u : Usually b d) where
-  at-once : atOnce b table ≡ Strict d
-  unfolding atOnce pick
-  at-once = rw o (ap strict (sym (u .text-is)) ∙ matched d (u .in-domain))
+  table-is : table ≡ oneChunk b (getD table 2 0) (getD table 3 0)
+  unfolding oneNormal
+  table-is =
+      let p = and-true (eqb (length table) 4) _ o in
+      let q = and-true (eqb (getD table 0 0) 0) _ (p .1) in
+      let rest = getD table 2 0 ∷ getD table 3 0 ∷ [] in
+      four-are table (eqb-true _ 4 (p .0))
+      ∙ ap (λ (k : ℕ). k ∷ getD table 1 0 ∷ rest) (eqb-true _ 0 (q .0))
+      ∙ ap {B = List ℕ} (λ (k : ℕ). 0 ∷ k ∷ rest) (eqb-true _ _ (q .1))
+
+  there : (read : List ℕ → List ℕ → ReadDate) → ((start end : ℕ) → read (dateText d) (oneChunk (dateText d) start end) ≡ Accepted d) → read b table ≡ Accepted d
+  there read h =
+      let start = getD table 2 0 in
+      let end = getD table 3 0 in
+      ap (read b) table-is ∙ ap (λ (s : List ℕ). read s (oneChunk s start end)) (sym (u .text-is)) ∙ h start end
 
   pub both-ported : parsed b table ≡ Accepted d
-  both-ported = once-ported b table at-once
+  both-ported = there parsed (date-back d (u .in-domain))
 
   pub both-strict : parsedStrict b table ≡ Accepted d
-  both-strict = once-strict b table at-once
+  both-strict = there parsedStrict (strict-back d (u .in-domain))
 
 -- the Rust does not panic in writing a Date of the domain
 not-large : (y : ℤ) (m : OptionMonth) (d : OptionDay) → PartsIn y m d → tooLarge (monthParts m d) ≡ false

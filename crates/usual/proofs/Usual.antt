@@ -1,19 +1,22 @@
 -- What is read at once is what both readers say: a text of the strict grammar is formatted as it stands.
 -- Assumes nothing.
-use mathlib.Core.Path.{_≡_, refl, sym, ap, _∙_}
-use mathlib.Core.Bool.{Bool, true, false}
+use mathlib.Core.Path.{_≡_, refl, sym, ap, _∙_, subst}
+use mathlib.Core.Bool.{Bool, true, false, false≢true}
 use mathlib.Core.List.{List, _++_}
+use mathlib.Core.Logic.{inl, inr}
 use Prim.Native.Nat.{ℕ, _≤_}
 use native.Mathlib.Omega.{arith}
 use lib.Dec.{eqb}
 use lib.ListN.{length, getD, length-append}
-use borrow.Author.Tests.{eqb-true}
+use borrow.Author.Tests.{eq-eqb, eqb-true}
 use Rattle.chars.specs.Pick.{pick}
 use Rattle.chars.proofs.Cases.{and-true}
+use Rattle.chunks.specs.Answer.{textOf}
+use Rattle.chunks.specs.Format.{formatted}
 use Rattle.chunks.proofs.Plains.{IsPlain, Plainly, plainly}
 use Rattle.dates.specs.declared.Date.{Date}
 use Rattle.datefield.specs.declared.ReadDate.the-variants.{Accepted}
-use Rattle.strict.specs.Grammar.{Text, text}
+use Rattle.strict.specs.Grammar.{field, Text, text}
 use Rattle.strict.specs.declared.Matched.the-variants.{Strict, NotStrict}
 use Rattle.strict.specs.Matcher.{strict}
 use Rattle.strict.proofs.Exact.{exact}
@@ -21,8 +24,9 @@ use Rattle.reader.specs.Field.{parsed, strictly, parsedStrict}
 use Rattle.reader.proofs.Entries.{strict-clean}
 use Rattle.roundtrip.proofs.Bytes.{Clear, clear-text, clear-ascii}
 use Rattle.roundtrip.proofs.Trims.{text-clear, mark-short}
-use Rattle.roundtrip.proofs.Agrees.{value-text, agrees}
-use Rattle.usual.specs.Once.{oneNormal, atOnce}
+use Rattle.roundtrip.specs.Domain.{dddd-mm-XX, ShortText, short-text}
+use Rattle.roundtrip.proofs.Agrees.{value-text, Both, agrees}
+use Rattle.usual.specs.Once.{oneNormal, atOnce, atOncePorted}
 
 -- a text of the grammar: printing ASCII, and short
 record Usual (b : List ℕ) : Type 0 where
@@ -35,6 +39,10 @@ usual (text {s} {t} v m) =
     let l = length-append s t in
     let h = mark-short m in
     record { clear = text-clear k m; short = omega (arith, k .short) }
+
+-- in a text of days in a month under 31 days an X stands at place 8
+x-there : {s : List ℕ} {d e : Date} → ShortText s d e → getD s 8 0 ≡ 0x58
+x-there (short-text (dddd-mm-XX n h (field m k) l) mark) = refl
 
 module _ (b table : List ℕ) where
   plain-list : oneNormal b table ≡ true → Usual b → Plainly b table
@@ -58,13 +66,34 @@ module _ (b table : List ℕ) where
       let p = plain-list o u in
       sym (strict-clean b table (p .clean) (sym (p .text false ∙ clear-text false false (u .clear)))) ∙ ap strictly e
 
-  pub once-strict : {d : Date} → atOnce b table ≡ Strict d → parsedStrict b table ≡ Accepted d
+  same-text : {d : Date} → oneNormal b table ≡ true → strict b ≡ Strict d → formatted b table ≡ b
+  unfolding textOf pick
+  same-text {d} o e = let u = usual (exact b d .0 e) in plain-list o u .text false ∙ clear-text false false (u .clear)
+
+  -- by whether it is one Normal chunk
+  once : {A : Type 0} {d : Date} → (oneNormal b table ≡ true → strict b ≡ Strict d → A) → atOnce b table ≡ Strict d → A
   unfolding atOnce pick
-  once-strict {d} e = by-case (oneNormal b table) refl e
+  once {A} {d} go e = by-case (oneNormal b table) refl e
     where
-      by-case : (t : Bool) → oneNormal b table ≡ t → pick t (strict b) NotStrict ≡ Strict d → parsedStrict b table ≡ Accepted d
-      by-case true o f = read-strictly o f
+      by-case : (t : Bool) → oneNormal b table ≡ t → pick t (strict b) NotStrict ≡ Strict d → A
+      by-case true o f = go o f
       by-case false o f = let z : _≡_ {A = ℕ} 0 1 = cc in absurd (omega arith)
 
-  pub once-ported : {d : Date} → atOnce b table ≡ Strict d → parsed b table ≡ Accepted d
-  once-ported e = agrees b table (once-strict e)
+  pub once-strict : {d : Date} → atOnce b table ≡ Strict d → parsedStrict b table ≡ Accepted d
+  once-strict e = once read-strictly e
+
+  once-text : {d : Date} → atOnce b table ≡ Strict d → formatted b table ≡ b
+  once-text e = once same-text e
+
+  -- the ported reader says the same: a text whose Dates differ has an X for a day
+  pub once-ported : {d : Date} → atOncePorted b table ≡ Strict d → parsed b table ≡ Accepted d
+  unfolding atOncePorted pick
+  once-ported {d} e = by-case (eqb (getD b 8 0) 0x58) refl e
+    where
+      by-case : (t : Bool) → eqb (getD b 8 0) 0x58 ≡ t → pick t NotStrict (atOnce b table) ≡ Strict d → parsed b table ≡ Accepted d
+      by-case true o f = let z : _≡_ {A = ℕ} 0 1 = cc in absurd (omega arith)
+      by-case false o f = same (agrees b table (once-strict f))
+        where
+          same : Both (formatted b table) d (parsed b table) → parsed b table ≡ Accepted d
+          same (inl r) = r
+          same (inr (c, x, r)) = absurd (false≢true (sym o ∙ eq-eqb _ _ (x-there (subst (λ (s : List ℕ). ShortText s d c) (once-text f) x))))

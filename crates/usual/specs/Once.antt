@@ -1,5 +1,6 @@
 -- Which lists are read at once, and what is read of them. What the readers promise does not rest on it.
 use Prim.Native.Nat.{ℕ}
+use Prim.Native.Char.{code}
 use mathlib.Core.Bool.{Bool, _&&_}
 use mathlib.Core.List.{List}
 use lib.Dec.{eqb}
@@ -16,3 +17,7 @@ oneNormal b table = eqb (length table) 4 && (eqb (getD table 0 0) 0 && eqb (getD
 -- what the strict grammar says of the bytes of such a list
 unfoldable pub atOnce : List ℕ → List ℕ → Matched
 atOnce b table = pick (oneNormal b table) (strict b) NotStrict
+
+-- the same for the ported reader, but not where an X stands for a day: there a range of days may end apart
+unfoldable pub atOncePorted : List ℕ → List ℕ → Matched
+atOncePorted b table = pick (eqb (getD b 8 0) (code "X")) NotStrict (atOnce b table)

@@ -1,8 +1,10 @@
 // The readers as callers have them: a list of one Normal chunk whose text the strict grammar derives is read at once, where it stands, and any
-// other list by the way for all. Both ways give the same, since what the strict reader accepts has the ported reader's Date.
+// other list by the way for all. Both ways give the same, since what the strict reader accepts has the ported reader's Date, but for a range
+// of days that an X stands for, which the ported reader reads itself.
 ghost use mathlib.Core.Path.{_≡_};
 ghost use Rattle.reader.specs.Field.{parsed, parsedStrict};
 ghost use Rattle.usual.specs.Once as once;
+use chars::byte_at;
 use datefield::ReadDate;
 use strict::Matched;
 
@@ -28,11 +30,21 @@ fn at_once(bytes: &[u8], table: &[u64]) -> Matched
     Matched::NotStrict
 }
 
+// The same for the ported reader: no text is looked at in which an X stands for a day.
+fn at_once_ported(bytes: &[u8], table: &[u64]) -> Matched
+    ensures { λ r. ⌜ r ≡ once.atOncePorted (now (bytes .entry)) (now (table .entry)) ⌝ }
+{
+    if byte_at(bytes, 8) == b'X' {
+        return Matched::NotStrict;
+    }
+    at_once(bytes, table)
+}
+
 // A date field, read as the Rust reads it.
 pub fn parse(bytes: &[u8], table: &[u64]) -> ReadDate
     ensures { λ r. ⌜ r ≡ parsed (now (bytes .entry)) (now (table .entry)) ⌝ }
 {
-    match at_once(bytes, table) {
+    match at_once_ported(bytes, table) {
         Matched::Strict(d) => ReadDate::Accepted(d),
         Matched::NotStrict => reader::parse(bytes, table),
     }

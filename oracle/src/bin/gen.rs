@@ -282,6 +282,14 @@ fn examples(l: &mut Lines) {
             l.strict(&[normal(100, text)]);
         }
     }
+    // The days of each month: the two readers' ranges end apart in the shorter ones.
+    for year in ["1900", "2000"] {
+        for month in 1..=12 {
+            let text = format!("{year}-{month:02}-XX");
+            l.date(&text);
+            l.strict(&[normal(100, &text)]);
+        }
+    }
     for text in YEARS {
         l.fields(text, None, None);
     }

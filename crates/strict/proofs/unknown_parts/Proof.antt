@@ -1,6 +1,10 @@
+use mathlib.Core.Path.{sym, _∙_}
+use native.Mathlib.Omega.{arith}
+use lib.ListN.{drop}
 use Rattle.chars.specs.Pick.{pick}
 use Rattle.strict.specs.Matcher.{unknownParts, on}
 use borrow.Author.Needs.{needs}
+use Rattle.strict.proofs.Pieces.{field-within}
 use Rattle.strict.proofs.unknown_parts.Statement.{statement}
 use Rattle.strict.proofs.unknown_parts.Tie as tie
 
@@ -47,7 +51,10 @@ dash-xx-at-requires-3 : tie.Need-dash-xx-at-requires-3
 dash-xx-at-requires-3 c κs = search needs
 
 days-requires : tie.Need-days-requires
-days-requires c κs = search needs
+days-requires c κs =
+    let b = c .before .before .before in
+    let f = b .before .before in
+    omega (arith, field-within 45 1 12 (drop 4 (f .before .before .before .before .args .s .now)) (sym (f .field-at .ensures) ∙ b .month .given .1))
 
 returns-3 : tie.Need-returns-3
 unfolding unknownParts pick on
