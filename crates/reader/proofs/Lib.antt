@@ -1,3 +1,4 @@
 pub mod Entries
 pub mod Lists
+pub mod Single
 pub mod Examples

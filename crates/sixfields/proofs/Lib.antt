@@ -1,0 +1,5 @@
+pub mod Judged
+pub mod Filled
+pub mod Back
+pub mod Refusals
+pub mod Examples

@@ -1,0 +1,53 @@
+use Rattle.sixfields.specs.Six.{single}
+use borrow.Author.Needs.{needs}
+use Rattle.sixfields.proofs.single.Statement.{statement}
+use Rattle.sixfields.proofs.single.Tie as tie
+
+enum-known-v : tie.Need-enum-known-v
+enum-known-v c = search needs
+
+enum-known-v-2 : tie.Need-enum-known-v-2
+enum-known-v-2 c = search needs
+
+enum-known-v-3 : tie.Need-enum-known-v-3
+enum-known-v-3 c = search needs
+
+enum-known-v-4 : tie.Need-enum-known-v-4
+enum-known-v-4 c = search needs
+
+returns : tie.Need-returns
+unfolding single
+returns c =
+    let b1 = c .before in
+    simp (b1 .v .given .1)
+
+returns-2 : tie.Need-returns-2
+unfolding single
+returns-2 c =
+    let b1 = c .before in
+    simp (b1 .v2 .given .1)
+
+returns-3 : tie.Need-returns-3
+unfolding single
+returns-3 c =
+    let b1 = c .before in
+    simp (b1 .v3 .given .1)
+
+returns-4 : tie.Need-returns-4
+unfolding single
+returns-4 c =
+    let b1 = c .before in
+    simp (b1 .v4 .given .1)
+
+pub single-spec : {M : Type 1} → statement M
+single-spec =
+    tie.close
+    (tie.spec
+    enum-known-v
+    enum-known-v-2
+    enum-known-v-3
+    enum-known-v-4
+    returns
+    returns-2
+    returns-3
+    returns-4)
