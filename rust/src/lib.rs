@@ -212,6 +212,8 @@ pub enum TypeErrorKind {
     BadChunks = 15,
     /// More than 64 chunks or 4,096 bytes. No place.
     TooLong = 16,
+    /// Not a year, month or day of the calendar, or outside the years -9999 to 9999. No place.
+    NotACalendarDate = 17,
 }
 
 impl TypeErrorKind {
@@ -233,6 +235,7 @@ impl TypeErrorKind {
             14 => Self::BadFrame,
             15 => Self::BadChunks,
             16 => Self::TooLong,
+            17 => Self::NotACalendarDate,
             _ => unreachable!("the library has no refusal {number}"),
         }
     }
@@ -252,6 +255,7 @@ impl TypeErrorKind {
                 | Self::BadFrame
                 | Self::BadChunks
                 | Self::TooLong
+                | Self::NotACalendarDate
         )
     }
 }
@@ -275,6 +279,7 @@ impl Display for TypeErrorKind {
             Self::BadFrame => "not a frame",
             Self::BadChunks => "chunks do not fit the text",
             Self::TooLong => "more than 64 chunks or 4,096 bytes",
+            Self::NotACalendarDate => "not a date of the calendar from -9999 to 9999",
         })
     }
 }

@@ -3,7 +3,7 @@ use Prim.Native.Nat.{ℕ}
 use mathlib.Core.Bool.{Bool, true, false}
 use Rattle.chars.specs.Pick.{pick}
 use Rattle.refusals.specs.declared.Kind.{Kind}
-use Rattle.refusals.specs.declared.Kind.the-variants.{UndefinedRange, DayOutOfRange, MonthOutOfRange, InvalidNumber, MissingNumber, WrongNumberOfDigits, InvalidFormat, YearZeroCE, RustPanics, BadUtf8, UnsupportedChar, NotStrict, NoRoom, BadFrame, BadChunks, TooLong}
+use Rattle.refusals.specs.declared.Kind.the-variants.{UndefinedRange, DayOutOfRange, MonthOutOfRange, InvalidNumber, MissingNumber, WrongNumberOfDigits, InvalidFormat, YearZeroCE, RustPanics, BadUtf8, UnsupportedChar, NotStrict, NoRoom, BadFrame, BadChunks, TooLong, NotACalendarDate}
 use Rattle.refusals.specs.declared.FileSpan.{FileSpan}
 use Rattle.refusals.specs.declared.Refusal.{Refusal}
 
@@ -25,6 +25,7 @@ number NoRoom = 13
 number BadFrame = 14
 number BadChunks = 15
 number TooLong = 16
+number NotACalendarDate = 17
 
 -- whether a refusal names a place; where it does not, its place is 0, 0
 abbrev pub hasPlace : Kind → Bool
@@ -44,6 +45,7 @@ hasPlace NoRoom = false
 hasPlace BadFrame = false
 hasPlace BadChunks = false
 hasPlace TooLong = false
+hasPlace NotACalendarDate = false
 
 -- a place in the file, from a byte to another
 abbrev pub fileSpan : ℕ → ℕ → FileSpan

@@ -39,6 +39,8 @@ pub enum Kind {
     BadChunks,
     // Too many chunks or bytes.
     TooLong,
+    // No year, month or day of the calendar from -9999 to 9999.
+    NotACalendarDate,
 }
 
 // A place in the file, from a byte to another.
@@ -97,10 +99,11 @@ pub fn number(kind: Kind) -> u8
         Kind::BadFrame => 14,
         Kind::BadChunks => 15,
         Kind::TooLong => 16,
+        Kind::NotACalendarDate => 17,
     }
 }
 
-// Whether a refusal names a place: 9 and 12 to 16 name none.
+// Whether a refusal names a place: 9 and 12 to 17 name none.
 pub fn has_place(kind: Kind) -> bool
     ensures { λ r. ⌜ r ≡ spec.hasPlace kind ⌝ }
 {

@@ -50,6 +50,9 @@ enum-told-15 c = c .match .keys15
 enum-told-16 : tie.Need-enum-told-16
 enum-told-16 c = c .match .keys16
 
+enum-told-17 : tie.Need-enum-told-17
+enum-told-17 c = c .match .keys17
+
 returns : tie.Need-returns
 returns c = simp (c .enum-told .given .1)
 
@@ -98,6 +101,9 @@ returns-15 c = simp (c .enum-told15 .given .1)
 returns-16 : tie.Need-returns-16
 returns-16 c = simp (c .enum-told16 .given .1)
 
+returns-17 : tie.Need-returns-17
+returns-17 c = simp (c .enum-told17 .given .1)
+
 pub number-spec : {M : Type 1} → statement M
 number-spec =
     tie.close
@@ -118,6 +124,7 @@ number-spec =
     enum-told-14
     enum-told-15
     enum-told-16
+    enum-told-17
     returns
     returns-2
     returns-3
@@ -133,4 +140,5 @@ number-spec =
     returns-13
     returns-14
     returns-15
-    returns-16)
+    returns-16
+    returns-17)

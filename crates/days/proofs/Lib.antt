@@ -1,0 +1,10 @@
+pub mod Years
+pub mod Months
+pub mod Numbers
+pub mod Cases
+pub mod Counts
+pub mod Table
+pub mod Engines
+pub mod Steps
+pub mod Theorems
+pub mod Examples

@@ -1,0 +1,16 @@
+use Rattle.days.proofs.Numbers.{taken-fits, taken}
+use borrow.Author.Needs.{needs}
+use Rattle.days.proofs.numbered.Statement.{statement}
+use Rattle.days.proofs.numbered.Tie as tie
+
+cast-result : tie.Need-cast-result
+cast-result c = search needs
+
+sub-result : tie.Need-sub-result
+sub-result c = taken-fits (c .args .n) (c .pre)
+
+returns : tie.Need-returns
+returns c = taken (c .args .n) (c .pre)
+
+pub numbered-spec : {M : Type 1} → statement M
+numbered-spec = tie.close (tie.spec cast-result sub-result returns)

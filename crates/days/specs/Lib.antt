@@ -1,0 +1,3 @@
+pub mod Days
+pub mod Covered
+pub mod Counts
