@@ -22,10 +22,10 @@ unfolding byRule monthLengths february pick
 rule true m h = agree (byRule true) (λ (m : ℕ). getD (monthLengths true) m 0) 12 tt m h
 rule false m h = agree (byRule false) (λ (m : ℕ). getD (monthLengths false) m 0) 12 tt m h
 
-february-some : (leap : Bool) → 0 < february leap
+february-least : (leap : Bool) → 28 ≤ february leap
 unfolding february
-february-some true = omega arith
-february-some false = omega arith
+february-least true = omega arith
+february-least false = omega arith
 
 module _ (m : ℕ) (y : ℤ) where
   pub second : m ≡ 1 → monthLength m y ≡ february (leapYear y)
@@ -44,10 +44,14 @@ module _ (m : ℕ) (y : ℤ) where
   unfolding monthLength monthLengths
   beyond h = sym (List·getD-eq-default (monthLengths (leapYear y)) 0 h)
 
-  -- a month has a first day
-  pub some-day : m < 12 → 0 < monthLength m y
-  some-day h =
+  -- no month is shorter than 28 days
+  pub month-least : m < 12 → 28 ≤ monthLength m y
+  month-least h =
       elim (ℕ-discrete m 1) [
-        | yes e ↦ rw (second e) (february-some (leapYear y))
+        | yes e ↦ rw (second e) (february-least (leapYear y))
         | no n ↦ elim (decLt m 7) [ yes l ↦ omega (arith, low n l) | no l ↦ omega (arith, high (omega (arith, l)) h) ]
       ]
+
+  -- a month has a first day
+  pub some-day : m < 12 → 0 < monthLength m y
+  some-day h = omega (arith, month-least h)

@@ -131,10 +131,10 @@ most = refl
 
 -- Where the days of a date lie, counted from -10000-01-01.
 module _ (y : ℤ) (t : yearIn y ≡ true) where
-  month-length : (m : ℕ) → daysTo (counted y) m + monthLength m y ≡ daysTo (counted y) (suc m)
+  pub month-length : (m : ℕ) → daysTo (counted y) m + monthLength m y ≡ daysTo (counted y) (suc m)
   month-length m = omega (arith, to-next (counted y) m, month-same m y (pos (counted y)) (leap-counted y t))
 
-  year-length : daysFrom (counted y) + yearLength y ≡ daysFrom (suc (counted y))
+  pub year-length : daysFrom (counted y) + yearLength y ≡ daysFrom (suc (counted y))
   year-length = omega (arith, from-next (counted y), length-same y (pos (counted y)) (leap-counted y t))
 
   -- in their year
