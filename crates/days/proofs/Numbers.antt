@@ -85,20 +85,24 @@ module _ (y : ℤ) (f : SFits w32 y) (t : yearIn y ≡ true) where
   unfolding counted
   cast = ap natAbs added
 
--- of a number n, cast, from which the code takes the days of 25 cycles
-module _ (n : ℕ) (h : n < 8001000) where
+-- of a number n, cast, from which the code takes another
+module _ (n k : ℕ) (h : n < 8001000) (l : k < 8001000) where
   number : toZ w32 n ≡ pos n
   number = toZ-pos w32 n (omega arith)
 
-  less-fits : SFits w32 (pos n -ℤ pos 3652425)
-  less-fits = record { sfits = omega (arith, difference-mag (pos n) (pos 3652425)) }
+  less-fits : SFits w32 (pos n -ℤ pos k)
+  less-fits = record { sfits = omega (arith, difference-mag (pos n) (pos k)) }
 
-  pub taken-fits : SFits w32 (toZ w32 n -ℤ pos 3652425)
+  pub taken-fits : SFits w32 (toZ w32 n -ℤ pos k)
   taken-fits = rw number less-fits
 
-  pub taken : toZ w32 (ofZ w32 (toZ w32 n -ℤ pos 3652425)) ≡ numbered n
-  unfolding numbered
-  taken = rw number (toZ-ofZ w32 (pos n -ℤ pos 3652425) less-fits)
+  taken-is : toZ w32 (ofZ w32 (toZ w32 n -ℤ pos k)) ≡ pos n -ℤ pos k
+  taken-is = rw number (toZ-ofZ w32 (pos n -ℤ pos k) less-fits)
+
+-- those of 25 cycles
+pub taken : (n : ℕ) → n < 8001000 → toZ w32 (ofZ w32 (toZ w32 n -ℤ pos 3652425)) ≡ numbered n
+unfolding numbered
+taken n h = taken-is n 3652425 h (omega arith)
 
 -- some days further
 pub numbered-on : (a k : ℕ) → numbered a +ℤ pos k ≡ numbered (a + k)

@@ -7,7 +7,7 @@ cast-result : tie.Need-cast-result
 cast-result c = search needs
 
 sub-result : tie.Need-sub-result
-sub-result c = taken-fits (c .args .n) (c .pre)
+sub-result c = search (needs, taken-fits)
 
 returns : tie.Need-returns
 returns c = taken (c .args .n) (c .pre)
