@@ -214,6 +214,8 @@ pub enum TypeErrorKind {
     TooLong = 16,
     /// Not a year, month or day of the calendar, or outside the years -9999 to 9999. No place.
     NotACalendarDate = 17,
+    /// A time without a day beside a month, or with a part or an offset out of range. No place.
+    BadTime = 22,
 }
 
 impl TypeErrorKind {
@@ -236,6 +238,7 @@ impl TypeErrorKind {
             15 => Self::BadChunks,
             16 => Self::TooLong,
             17 => Self::NotACalendarDate,
+            22 => Self::BadTime,
             _ => unreachable!("the library has no refusal {number}"),
         }
     }
@@ -256,6 +259,7 @@ impl TypeErrorKind {
                 | Self::BadChunks
                 | Self::TooLong
                 | Self::NotACalendarDate
+                | Self::BadTime
         )
     }
 }
@@ -280,6 +284,7 @@ impl Display for TypeErrorKind {
             Self::BadChunks => "chunks do not fit the text",
             Self::TooLong => "more than 64 chunks or 4,096 bytes",
             Self::NotACalendarDate => "not a date of the calendar from -9999 to 9999",
+            Self::BadTime => "not a time of a day",
         })
     }
 }

@@ -41,6 +41,8 @@ pub enum Kind {
     TooLong,
     // No year, month or day of the calendar from -9999 to 9999.
     NotACalendarDate,
+    // A time without a day beside a month, or one that no clock shows, or whose offset none has.
+    BadTime,
 }
 
 // A place in the file, from a byte to another.
@@ -100,10 +102,11 @@ pub fn number(kind: Kind) -> u8
         Kind::BadChunks => 15,
         Kind::TooLong => 16,
         Kind::NotACalendarDate => 17,
+        Kind::BadTime => 22,
     }
 }
 
-// Whether a refusal names a place: 9 and 12 to 17 name none.
+// Whether a refusal names a place: 9 and those from 12 on name none.
 pub fn has_place(kind: Kind) -> bool
     ensures { λ r. ⌜ r ≡ spec.hasPlace kind ⌝ }
 {

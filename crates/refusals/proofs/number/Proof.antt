@@ -53,6 +53,9 @@ enum-told-16 c = c .match .keys16
 enum-told-17 : tie.Need-enum-told-17
 enum-told-17 c = c .match .keys17
 
+enum-told-18 : tie.Need-enum-told-18
+enum-told-18 c = c .match .keys18
+
 returns : tie.Need-returns
 returns c = simp (c .enum-told .given .1)
 
@@ -104,6 +107,9 @@ returns-16 c = simp (c .enum-told16 .given .1)
 returns-17 : tie.Need-returns-17
 returns-17 c = simp (c .enum-told17 .given .1)
 
+returns-18 : tie.Need-returns-18
+returns-18 c = simp (c .enum-told18 .given .1)
+
 pub number-spec : {M : Type 1} → statement M
 number-spec =
     tie.close
@@ -125,6 +131,7 @@ number-spec =
     enum-told-15
     enum-told-16
     enum-told-17
+    enum-told-18
     returns
     returns-2
     returns-3
@@ -141,4 +148,5 @@ number-spec =
     returns-14
     returns-15
     returns-16
-    returns-17)
+    returns-17
+    returns-18)

@@ -1,0 +1,157 @@
+-- Which times are bad: exactly those with one of seven causes. Assumes nothing.
+use mathlib.Core.Path.{_≡_, refl, sym}
+use mathlib.Core.Bool.{Bool, true, false, not, _&&_, _||_, false≢true}
+use mathlib.Core.Logic.{_↔_, _⊎_, inl, inr}
+use Prim.Native.Nat.{ℕ, _<_}
+use lib.Dec.{leb}
+use borrow.Author.Tests.{lt-leb, leb-false}
+use Rattle.chars.proofs.Cases.{of-test}
+use Rattle.dates.specs.declared.Month.{Month}
+use Rattle.dates.specs.declared.OptionMonth.{OptionMonth}
+use Rattle.dates.specs.declared.OptionMonth.the-variants.{NoMonth, SomeMonth}
+use Rattle.dates.specs.declared.OptionDay.{OptionDay}
+use Rattle.dates.specs.declared.OptionDay.the-variants.{NoDay, SomeDay}
+use Rattle.dates.specs.declared.TimeOffset.{TimeOffset}
+use Rattle.dates.specs.declared.TimeOffset.the-variants.{Utc, Offset}
+use Rattle.dates.specs.declared.OptionOffset.{OptionOffset}
+use Rattle.dates.specs.declared.OptionOffset.the-variants.{NoOffset, SomeOffset}
+use Rattle.dates.specs.declared.Time.{Time}
+use Rattle.dates.specs.declared.OptionTime.{OptionTime}
+use Rattle.dates.specs.declared.OptionTime.the-variants.{NoTime, SomeTime}
+use Rattle.dates.specs.declared.Datetime.{Datetime}
+use Rattle.dates.specs.declared.DateValue.{DateValue}
+use Rattle.dates.specs.declared.DateValue.the-variants.{At, After, Before, Between}
+use Rattle.dates.specs.Time.{inRange}
+use Rattle.timed.specs.Answers.{offsetIn, zoneIn, clockIn, onDay, badTime, endBad, valueBad}
+
+-- Why a time is bad.
+pub data Fault : OptionMonth → OptionDay → OptionTime → Type 0 where
+  -- there is no month
+  no-month : {da : OptionDay} {t : Time} → Fault NoMonth da (SomeTime t)
+  -- there is no day beside the month
+  no-day : {m : Month} {t : Time} → Fault (SomeMonth m) NoDay (SomeTime t)
+  -- a part is above its range
+  hour-above : {mo : OptionMonth} {da : OptionDay} {t : Time} → 23 < t .hour → Fault mo da (SomeTime t)
+  minute-above : {mo : OptionMonth} {da : OptionDay} {t : Time} → 59 < t .minute → Fault mo da (SomeTime t)
+  second-above : {mo : OptionMonth} {da : OptionDay} {t : Time} → 59 < t .second → Fault mo da (SomeTime t)
+  -- a part of the offset is
+  offset-hours : {mo : OptionMonth} {da : OptionDay} {t : Time} {p : Bool} {h m : ℕ} → t .offset ≡ SomeOffset (Offset p h m) → 23 < h → Fault mo da (SomeTime t)
+  offset-minutes : {mo : OptionMonth} {da : OptionDay} {t : Time} {p : Bool} {h m : ℕ} → t .offset ≡ SomeOffset (Offset p h m) → 59 < m → Fault mo da (SomeTime t)
+
+-- of a Datetime,
+abbrev pub EndFault : Datetime → Type 0
+EndFault d = Fault (d .month) (d .day) (d .time)
+
+-- and of one of the ends of a point or range
+abbrev pub FaultIn : DateValue → Type 0
+FaultIn (At d) = EndFault d
+FaultIn (After d) = EndFault d
+FaultIn (Before d) = EndFault d
+FaultIn (Between a b) = EndFault a ⊎ EndFault b
+
+-- one false part makes all false
+false-last : (a : Bool) {b : Bool} → b ≡ false → a && b ≡ false
+false-last true e = e
+false-last false e = refl
+
+out : (a : Bool) {b : Bool} → b ≡ false → not (a && b) ≡ true
+out a e = rw (false-last a e)
+
+-- the parts of a clock's time
+not-hour : (t : Time) → leb (t .hour) 23 ≡ false → clockIn t ≡ false
+unfolding clockIn inRange
+not-hour t e = rw e
+
+not-minute : (t : Time) → leb (t .minute) 59 ≡ false → clockIn t ≡ false
+unfolding clockIn inRange
+not-minute t e = rw e (go (leb (t .hour) 23))
+  where
+    go : (a : Bool) → (a && false && leb (t .second) 59) && zoneIn (t .offset) ≡ false
+    go true = refl
+    go false = refl
+
+not-second : (t : Time) → leb (t .second) 59 ≡ false → clockIn t ≡ false
+unfolding clockIn inRange
+not-second t e = rw e (go (leb (t .hour) 23) (leb (t .minute) 59))
+  where
+    go : (a b : Bool) → (a && b && false) && zoneIn (t .offset) ≡ false
+    go true true = refl
+    go true false = refl
+    go false b = refl
+
+not-zone : (t : Time) → zoneIn (t .offset) ≡ false → clockIn t ≡ false
+unfolding clockIn
+not-zone t e = false-last (inRange (t .hour) (t .minute) (t .second)) e
+
+-- a time with a cause is bad
+bad : {mo : OptionMonth} {da : OptionDay} {ti : OptionTime} → Fault mo da ti → badTime (onDay mo da) ti ≡ true
+unfolding badTime onDay zoneIn offsetIn
+bad no-month = refl
+bad no-day = refl
+bad {mo} {da} (hour-above {t} h) = out (onDay mo da) (not-hour t (lt-leb (t .hour) 23 h))
+bad {mo} {da} (minute-above {t} h) = out (onDay mo da) (not-minute t (lt-leb (t .minute) 59 h))
+bad {mo} {da} (second-above {t} h) = out (onDay mo da) (not-second t (lt-leb (t .second) 59 h))
+bad {mo} {da} (offset-hours {t} {h = h} e k) = out (onDay mo da) (not-zone t (rw (e, lt-leb h 23 k)))
+bad {mo} {da} (offset-minutes {t} {h = h} {m = m} e k) = out (onDay mo da) (not-zone t (rw e (false-last (leb h 23) (lt-leb m 59 k))))
+
+not-not : (b : Bool) → not b ≡ true → b ≡ false
+not-not true e = absurd (false≢true e)
+not-not false e = refl
+
+-- and a bad time has one
+module _ {mo : OptionMonth} {da : OptionDay} (t : Time) where
+  zone-cause : (o : OptionOffset) → t .offset ≡ o → zoneIn o ≡ false → Fault mo da (SomeTime t)
+  unfolding zoneIn offsetIn
+  zone-cause NoOffset e f = absurd (false≢true (sym f))
+  zone-cause (SomeOffset o) e f = go o e f
+    where
+      go : (o : TimeOffset) → t .offset ≡ SomeOffset o → offsetIn o ≡ false → Fault mo da (SomeTime t)
+      go Utc e f = absurd (false≢true (sym f))
+      go (Offset p h m) e f =
+          of-test (leb h 23) (λ q. offset-minutes e (leb-false m 59 (rw q at f))) (λ q. offset-hours e (leb-false h 23 q))
+
+  clock-cause : clockIn t ≡ false → Fault mo da (SomeTime t)
+  unfolding clockIn inRange
+  clock-cause e =
+      of-test (leb (t .hour) 23)
+      (λ p.
+      of-test (leb (t .minute) 59)
+      (λ q. of-test (leb (t .second) 59) (λ r. zone-cause (t .offset) refl (rw (p, q, r) at e)) (λ r. second-above (leb-false (t .second) 59 r)))
+      (λ q. minute-above (leb-false (t .minute) 59 q)))
+      (λ p. hour-above (leb-false (t .hour) 23 p))
+
+cause : (mo : OptionMonth) (da : OptionDay) (ti : OptionTime) → badTime (onDay mo da) ti ≡ true → Fault mo da ti
+unfolding badTime onDay
+cause mo da NoTime e = absurd (false≢true e)
+cause NoMonth da (SomeTime t) e = no-month
+cause (SomeMonth m) NoDay (SomeTime t) e = no-day
+cause (SomeMonth m) (SomeDay d) (SomeTime t) e = clock-cause t (not-not (clockIn t) e)
+
+end-bad : (d : Datetime) → (endBad d ≡ true) ↔ EndFault d
+unfolding endBad
+end-bad d = (cause (d .month) (d .day) (d .time), λ f. bad f)
+
+either : (a : Bool) {b : Bool} → a || b ≡ true → (a ≡ true) ⊎ (b ≡ true)
+either true e = inl refl
+either false e = inr e
+
+one-of : (a : Bool) {b : Bool} → (a ≡ true) ⊎ (b ≡ true) → a || b ≡ true
+one-of true e = refl
+one-of false (inl e) = absurd (false≢true e)
+one-of false (inr e) = e
+
+-- a point or range has a bad time exactly if one of its ends has such a cause
+pub value-bad : (v : DateValue) → (valueBad v ≡ true) ↔ FaultIn v
+unfolding valueBad
+value-bad (At d) = end-bad d
+value-bad (After d) = end-bad d
+value-bad (Before d) = end-bad d
+value-bad (Between a b) = (λ e. there (either (endBad a) e), λ f. one-of (endBad a) (back f))
+  where
+    there : (endBad a ≡ true) ⊎ (endBad b ≡ true) → EndFault a ⊎ EndFault b
+    there (inl e) = inl (end-bad a .0 e)
+    there (inr e) = inr (end-bad b .0 e)
+
+    back : EndFault a ⊎ EndFault b → (endBad a ≡ true) ⊎ (endBad b ≡ true)
+    back (inl f) = inl (end-bad a .1 f)
+    back (inr f) = inr (end-bad b .1 f)

@@ -1,0 +1,281 @@
+-- What is known of the writer that keeps times, in one place. Assumes nothing.
+use mathlib.Core.Path.{_≡_, refl, sym, ap, _∙_, subst}
+use mathlib.Core.Bool.{Bool, true, false, _||_, false≢true}
+use mathlib.Core.List.{List, _++_, append-nil}
+use mathlib.Core.Logic.{_↔_, inl, inr}
+use Prim.Native.Nat.{ℕ, _≤_, _<_}
+use native.Mathlib.Omega.{arith}
+use lib.Dec.{leb}
+use lib.IntN.{ℤ, negsuc}
+use lib.ListN.{length}
+use borrow.Author.Tests.{ne-eqb, le-leb, lt-leb, leb-true, leb-false}
+use Rattle.chars.specs.Pick.{pick}
+use Rattle.chars.proofs.Cases.{of-test}
+use Rattle.refusals.specs.declared.Kind.the-variants.{RustPanics, NoRoom, BadTime}
+use Rattle.refusals.specs.Refusal.{number, refusal}
+use Rattle.dates.specs.declared.OptionMonth.{OptionMonth}
+use Rattle.dates.specs.declared.OptionMonth.the-variants.{NoMonth, SomeMonth}
+use Rattle.dates.specs.declared.OptionDay.{OptionDay}
+use Rattle.dates.specs.declared.OptionDay.the-variants.{NoDay, SomeDay}
+use Rattle.dates.specs.declared.TimeOffset.the-variants.{Offset}
+use Rattle.dates.specs.declared.OptionOffset.the-variants.{SomeOffset}
+use Rattle.dates.specs.declared.Time.{Time}
+use Rattle.dates.specs.declared.OptionTime.{OptionTime}
+use Rattle.dates.specs.declared.OptionTime.the-variants.{NoTime, SomeTime}
+use Rattle.dates.specs.declared.Datetime.{Datetime}
+use Rattle.dates.specs.declared.DateValue.{DateValue}
+use Rattle.dates.specs.declared.DateValue.the-variants.{At, After, Before, Between}
+use Rattle.dates.specs.declared.Date.{Date}
+use Rattle.dates.specs.Domain.{PartsIn}
+use Rattle.dates.specs.Time.{time, inRange}
+use Rattle.dates.specs.Value.{month, day, datetime, date}
+use Rattle.dates.proofs.Lengths.{length-most}
+use Rattle.datefield.specs.declared.ReadDate.the-variants.{Accepted}
+use Rattle.reader.specs.Field.{parsed, parsedStrict}
+use Rattle.roundtrip.specs.Domain.{Untimed, oneChunk}
+use Rattle.writer.specs.declared.Measured.the-variants.{Length, NoLength}
+use Rattle.writer.specs.declared.Written.{Written}
+use Rattle.writer.specs.declared.Written.the-variants.{Done, Refused}
+use Rattle.writer.specs.Answers.{refused, decided}
+use Rattle.writer.specs.Answers as writing
+use Rattle.writer.specs.Numbers.{count, digitCount, width, decimal}
+use Rattle.writer.specs.Texts.{minus, yearText, writtenMonth, writtenDay, dayParts, monthParts, partsOf, partText, hyphenPart, partsText, datetimeText, markText, dateText, tooLarge, endPanics, valuePanics, panics}
+use Rattle.writer.specs.Texts as untimed
+use Rattle.writer.proofs.Bounds.{Ends, Stored, text-most}
+use Rattle.timed.specs.Texts.{field, sign, offsetText, zoneText, clockText, timeText, endText, valueText, timedText}
+use Rattle.timed.specs.Answers.{offsetIn, zoneIn, clockIn, onDay, badTime, endBad, valueBad, measured, answer, afterwards}
+use Rattle.timed.specs.Domain.{ZoneIn, ClockIn, TimeIn, TimedIn, InTimed}
+use Rattle.timed.proofs.Pieces.{timed-most}
+use Rattle.timed.proofs.Faults.{Fault, no-month, no-day, hour-above, minute-above, second-above, offset-hours, offset-minutes, EndFault, FaultIn, value-bad}
+use Rattle.timed.proofs.Back as back
+
+-- ---- reading back
+
+-- The text of a Date of the domain, as one Normal chunk anywhere in a file, read by the ported reader, gives the same Date, its kind and its
+-- marks included,
+pub timed-back : (d : Date) → InTimed (d .value) → (start end : ℕ) → parsed (timedText d) (oneChunk (timedText d) start end) ≡ Accepted d
+timed-back d w start end = back.ported-back d w start end
+
+-- and so does the strict reader
+pub timed-strict-back : (d : Date) → InTimed (d .value) → (start end : ℕ) → parsedStrict (timedText d) (oneChunk (timedText d) start end) ≡ Accepted d
+timed-strict-back d w start end = back.strict-back d w start end
+
+-- ---- a Date with no time
+
+end-untimed : (d : Datetime) → d .time ≡ NoTime → endText d ≡ datetimeText d
+unfolding endText timeText
+end-untimed d e = ap (λ (t : OptionTime). datetimeText d ++ timeText t) e ∙ append-nil (datetimeText d)
+
+value-untimed : (v : DateValue) → Untimed v → valueText v ≡ untimed.valueText v
+unfolding valueText untimed.valueText
+value-untimed (At a) w = end-untimed a w
+value-untimed (After a) w = rw (end-untimed a w)
+value-untimed (Before a) w = rw (end-untimed a w)
+value-untimed (Between a b) w = rw (end-untimed a (w .0), end-untimed b (w .1))
+
+end-good : (d : Datetime) → d .time ≡ NoTime → endBad d ≡ false
+unfolding endBad badTime
+end-good d e = ap (badTime (onDay (d .month) (d .day))) e
+
+value-good : (v : DateValue) → Untimed v → valueBad v ≡ false
+unfolding valueBad
+value-good (At a) w = end-good a w
+value-good (After a) w = end-good a w
+value-good (Before a) w = end-good a w
+value-good (Between a b) w = rw (end-good a (w .0), end-good b (w .1))
+
+module _ (d : Date) (w : Untimed (d .value)) where
+  -- It has the text that the other writer gives it,
+  pub same-text : timedText d ≡ dateText d
+  unfolding timedText dateText
+  same-text = rw (value-untimed (d .value) w)
+
+  -- the same length or refusal,
+  pub same-length : measured d ≡ writing.measured (panics d) (dateText d)
+  unfolding measured writing.measured pick
+  same-length = rw (value-good (d .value) w, same-text)
+
+  -- the same answer,
+  pub same-answer : (room : ℕ) → answer d room ≡ writing.answer (panics d) (dateText d) room
+  unfolding answer writing.answer
+  same-answer room = rw same-length
+
+  -- and the same buffer afterwards
+  pub same-buffer : (out : List ℕ) → afterwards d out ≡ writing.afterwards (panics d) (dateText d) out
+  unfolding afterwards
+  same-buffer out = rw (value-good (d .value) w, same-text) (ap (λ (b : Bool). writing.afterwards b (dateText d) out) (or-false (panics d)))
+    where
+      or-false : (b : Bool) → b || false ≡ b
+      or-false true = refl
+      or-false false = refl
+
+-- ---- how long
+
+-- The text of a Date as it is stored has at most 70 bytes,
+pub most : (d : Date) → Ends (d .value) → length (timedText d) ≤ 70
+most d s = timed-most d (text-most d s)
+
+-- -2147483648-255-255T23:59:59+23:59, the longest end
+abbrev longest : Datetime
+longest = datetime (negsuc 2147483647) (month 254) (day 254) (SomeTime (time 23 59 59 (SomeOffset (Offset true 23 59))))
+
+-- from it to it, uncertain and approximate
+abbrev pub widest : Date
+widest = date (Between longest longest) true true
+
+longest-stored : Stored longest
+longest-stored = record { year-in = record { sfits = omega arith }; month-in = omega arith; day-in = omega arith }
+
+pub widest-stored : Ends (widest .value)
+widest-stored = (longest-stored, longest-stored)
+
+-- and one that is written reaches them
+pub reached : (length (timedText widest) ≡ 70) × (answer widest 70 ≡ Done 70)
+unfolding answer measured decided valueBad endBad badTime onDay clockIn zoneIn offsetIn inRange timedText valueText endText timeText clockText zoneText offsetText sign field datetimeText yearText minus decimal width digitCount count partsOf monthParts dayParts writtenMonth writtenDay partsText hyphenPart partText markText panics valuePanics endPanics tooLarge pick
+reached = (refl, refl)
+
+-- ---- which answer is given
+
+-- the answer by its three tests
+abbrev pub shown : Bool → Bool → Bool → ℕ → Written
+shown p b fits n = pick p (Refused (refused RustPanics)) (pick b (Refused (refused BadTime)) (pick fits (Done n) (Refused (refused NoRoom))))
+
+-- RustPanics of either end comes first, then BadTime of either, then NoRoom
+pub in-order : (d : Date) (room : ℕ) → answer d room ≡ shown (panics d) (valueBad (d .value)) (leb (length (timedText d)) room) (length (timedText d))
+unfolding answer measured decided pick
+in-order d room = go (panics d) (valueBad (d .value))
+  where
+    go : (p b : Bool) → decided (pick p (NoLength (refused RustPanics)) (pick b (NoLength (refused BadTime)) (Length (length (timedText d))))) room ≡ shown p b (leb (length (timedText d)) room) (length (timedText d))
+    go true b = refl
+    go false true = refl
+    go false false = refl
+
+-- the number of a refusal; 0 if nothing is refused
+abbrev numbered : Written → ℕ
+numbered (Done n) = 0
+numbered (Refused e) = number (e .kind)
+
+other : {x y : Written} → (numbered x ≡ numbered y → ⊥) → x ≡ y → ⊥
+other f e = f (ap numbered e)
+
+-- which tests lead to which answer
+module _ (n : ℕ) where
+  panics-only : (p b f : Bool) → shown p b f n ≡ Refused (refused RustPanics) → p ≡ true
+  unfolding refused refusal pick
+  panics-only true b f e = refl
+  panics-only false true f e = absurd (other (λ (z : _≡_ {A = ℕ} 22 9). omega arith) e)
+  panics-only false false true e = absurd (other (λ (z : _≡_ {A = ℕ} 0 9). omega arith) e)
+  panics-only false false false e = absurd (other (λ (z : _≡_ {A = ℕ} 13 9). omega arith) e)
+
+  bad-only : (p b f : Bool) → shown p b f n ≡ Refused (refused BadTime) → (p ≡ false) × (b ≡ true)
+  unfolding refused refusal pick
+  bad-only true b f e = absurd (other (λ (z : _≡_ {A = ℕ} 9 22). omega arith) e)
+  bad-only false true f e = (refl, refl)
+  bad-only false false true e = absurd (other (λ (z : _≡_ {A = ℕ} 0 22). omega arith) e)
+  bad-only false false false e = absurd (other (λ (z : _≡_ {A = ℕ} 13 22). omega arith) e)
+
+  room-only : (p b f : Bool) → shown p b f n ≡ Refused (refused NoRoom) → (p ≡ false) × (b ≡ false) × (f ≡ false)
+  unfolding refused refusal pick
+  room-only true b f e = absurd (other (λ (z : _≡_ {A = ℕ} 9 13). omega arith) e)
+  room-only false true f e = absurd (other (λ (z : _≡_ {A = ℕ} 22 13). omega arith) e)
+  room-only false false true e = absurd (other (λ (z : _≡_ {A = ℕ} 0 13). omega arith) e)
+  room-only false false false e = (refl, refl, refl)
+
+  done-only : (p b f : Bool) → shown p b f n ≡ Done n → (p ≡ false) × (b ≡ false) × (f ≡ true)
+  unfolding refused refusal pick
+  done-only true b f e = absurd (other (λ (z : _≡_ {A = ℕ} 9 0). omega arith) e)
+  done-only false true f e = absurd (other (λ (z : _≡_ {A = ℕ} 22 0). omega arith) e)
+  done-only false false true e = (refl, refl, refl)
+  done-only false false false e = absurd (other (λ (z : _≡_ {A = ℕ} 13 0). omega arith) e)
+
+-- no cause, no bad time
+no-fault : (v : DateValue) → valueBad v ≡ false → FaultIn v → ⊥
+no-fault v e f = false≢true (sym e ∙ value-bad v .1 f)
+
+good : (v : DateValue) → (FaultIn v → ⊥) → valueBad v ≡ false
+good v f = of-test (valueBad v) (λ e. absurd (f (value-bad v .0 e))) (λ e. e)
+
+module _ (d : Date) (room : ℕ) where
+  abbrev n : ℕ
+  n = length (timedText d)
+
+  -- RustPanics is answered exactly if one of the ends panics,
+  pub panics-exactly : (answer d room ≡ Refused (refused RustPanics)) ↔ (panics d ≡ true)
+  unfolding pick
+  panics-exactly = (λ e. panics-only n (panics d) (valueBad (d .value)) (leb n room) (sym (in-order d room) ∙ e), λ e. in-order d room ∙ rw e)
+
+  -- BadTime exactly if none does and one of the ends has a bad time,
+  pub bad-exactly : (answer d room ≡ Refused (refused BadTime)) ↔ ((panics d ≡ false) × FaultIn (d .value))
+  unfolding pick
+  bad-exactly = (
+    λ e. let q = bad-only n (panics d) (valueBad (d .value)) (leb n room) (sym (in-order d room) ∙ e) in (q .0, value-bad (d .value) .0 (q .1)),
+    λ (h : (panics d ≡ false) × FaultIn (d .value)). in-order d room ∙ rw (h .0, value-bad (d .value) .1 (h .1)),
+  )
+
+  -- NoRoom exactly if no end panics or has a bad time, and the buffer is shorter than the text,
+  pub no-room-exactly : (answer d room ≡ Refused (refused NoRoom)) ↔ ((panics d ≡ false) × (FaultIn (d .value) → ⊥) × (room < length (timedText d)))
+  unfolding pick
+  no-room-exactly = (
+    λ e. let q = room-only n (panics d) (valueBad (d .value)) (leb n room) (sym (in-order d room) ∙ e) in (q .0, no-fault (d .value) (q .1), leb-false n room (q .2)),
+    λ (h : (panics d ≡ false) × (FaultIn (d .value) → ⊥) × (room < n)). in-order d room ∙ rw (h .0, good (d .value) (h .1), lt-leb n room (h .2)),
+  )
+
+  -- and the text is written exactly if it is not
+  pub written-exactly : (answer d room ≡ Done (length (timedText d))) ↔ ((panics d ≡ false) × (FaultIn (d .value) → ⊥) × (length (timedText d) ≤ room))
+  unfolding pick
+  written-exactly = (
+    λ e. let q = done-only n (panics d) (valueBad (d .value)) (leb n room) (sym (in-order d room) ∙ e) in (q .0, no-fault (d .value) (q .1), leb-true n room (q .2)),
+    λ (h : (panics d ≡ false) × (FaultIn (d .value) → ⊥) × (n ≤ room)). in-order d room ∙ rw (h .0, good (d .value) (h .1), le-leb n room (h .2)),
+  )
+
+-- ---- no Date of the domain is refused
+
+-- no end of it panics
+parts-known : (y : ℤ) (m : OptionMonth) (d : OptionDay) → PartsIn y m d → tooLarge (monthParts m d) ≡ false
+unfolding tooLarge monthParts dayParts pick
+parts-known y NoMonth d w = refl
+parts-known y (SomeMonth m) NoDay w = rw (ne-eqb (m .0) 255 (λ (e : m .0 ≡ 255). omega arith))
+parts-known y (SomeMonth m) (SomeDay d) w =
+    let l = length-most (m .0) y in
+    rw (ne-eqb (m .0) 255 (λ (e : m .0 ≡ 255). omega (arith, w .0)), ne-eqb (d .0) 255 (λ (e : d .0 ≡ 255). omega (arith, w .1)))
+
+end-known : (d : Datetime) → TimedIn d → endPanics d ≡ false
+unfolding endPanics partsOf
+end-known d w = parts-known (d .year) (d .month) (d .day) (w .parts-in)
+
+value-known : (v : DateValue) → InTimed v → valuePanics v ≡ false
+unfolding valuePanics
+value-known (At a) w = end-known a w
+value-known (After a) w = end-known a w
+value-known (Before a) w = end-known a w
+value-known (Between a b) w = rw (end-known a (w .0), end-known b (w .1))
+
+-- nor has a bad time
+in-clock : (d : OptionDay) {t : Time} → TimeIn d (SomeTime t) → ClockIn t
+in-clock NoDay w = absurd w
+in-clock (SomeDay d) w = w
+
+parts-sound : (y : ℤ) (m : OptionMonth) (d : OptionDay) {t : OptionTime} → PartsIn y m d → TimeIn d t → Fault m d t → ⊥
+parts-sound y m NoDay w k (no-month) = k
+parts-sound y m (SomeDay d) w k (no-month) = w
+parts-sound y m d w k (no-day) = k
+parts-sound y m d w k (hour-above h) = omega (arith, in-clock d k .hour-in)
+parts-sound y m d w k (minute-above h) = omega (arith, in-clock d k .minute-in)
+parts-sound y m d w k (second-above h) = omega (arith, in-clock d k .second-in)
+parts-sound y m d w k (offset-hours e h) = omega (arith, subst ZoneIn e (in-clock d k .zone-in) .0)
+parts-sound y m d w k (offset-minutes e h) = omega (arith, subst ZoneIn e (in-clock d k .zone-in) .1)
+
+end-sound : (d : Datetime) → TimedIn d → EndFault d → ⊥
+end-sound d w f = parts-sound (d .year) (d .month) (d .day) (w .parts-in) (w .time-in) f
+
+value-sound : (v : DateValue) → InTimed v → FaultIn v → ⊥
+value-sound (At a) w f = end-sound a w f
+value-sound (After a) w f = end-sound a w f
+value-sound (Before a) w f = end-sound a w f
+value-sound (Between a b) w (inl f) = end-sound a (w .0) f
+value-sound (Between a b) w (inr f) = end-sound b (w .1) f
+
+-- so where there is room its text is written
+pub accepted : (d : Date) → InTimed (d .value) → (room : ℕ) → length (timedText d) ≤ room → answer d room ≡ Done (length (timedText d))
+unfolding panics
+accepted d w room h = written-exactly d room .1 (value-known (d .value) w, value-sound (d .value) w, h)

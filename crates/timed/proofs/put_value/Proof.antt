@@ -1,0 +1,160 @@
+use Rattle.writer.specs.Texts.{endPanics, valuePanics}
+use Rattle.chars.specs.Ascii.{ascii}
+use mathlib.Core.List.{_++_}
+use mathlib.Core.Path.{sym, ap, _∙_}
+use Rattle.timed.proofs.Pieces.{first-false, second-false}
+use Rattle.writer.proofs.Puts.{room, front-as, first-fits, as-text, both}
+use Rattle.timed.specs.Texts.{endText, valueText}
+use borrow.Author.Needs.{needs}
+use Rattle.timed.proofs.put_value.Statement.{statement}
+use Rattle.timed.proofs.put_value.Tie as tie
+
+enum-known-v : tie.Need-enum-known-v
+enum-known-v c = search needs
+
+put-end-requires : tie.Need-put-end-requires
+unfolding valueText valuePanics
+put-end-requires c κs =
+    let b2 = c .before .before in
+    let s = b2 .before .before .before in
+    ((sym (ap valuePanics (b2 .v .given .1)) ∙ s .pre .0), (front-as (s .args .out .now) (ap valueText (b2 .v .given .1)) (s .pre .1)))
+
+enum-known-v-2 : tie.Need-enum-known-v-2
+enum-known-v-2 c = search needs
+
+put-end-requires-2 : tie.Need-put-end-requires-2
+unfolding valueText valuePanics
+put-end-requires-2 c κs =
+    let b2 = c .before .before in
+    let s = b2 .before .before .before in
+    ((sym (ap valuePanics (b2 .v2 .given .1)) ∙ s .pre .0), first-fits (endText (b2 .v2 .given .0 .0)) (ascii "/..") (s .args .out .now) 0 (front-as (s .args .out .now) (ap valueText (b2 .v2 .given .1)) (s .pre .1)))
+
+slice-aggregate-put-bytes : tie.Need-slice-aggregate-put-bytes
+slice-aggregate-put-bytes c = search needs
+
+put-bytes-requires : tie.Need-put-bytes-requires
+unfolding valueText
+put-bytes-requires c κs =
+    let b4 = c .before .before .before .before in
+    let b7 = b4 .before .before .before in
+    let s = b7 .before .before .before in
+    room (b4 .put-end2 .ensures) (ascii "/..") (front-as (s .args .out .now) (ap valueText (b7 .v2 .given .1)) (s .pre .1))
+
+enum-known-v-3 : tie.Need-enum-known-v-3
+enum-known-v-3 c = search needs
+
+slice-aggregate-put-bytes-2 : tie.Need-slice-aggregate-put-bytes-2
+slice-aggregate-put-bytes-2 c = search needs
+
+put-bytes-requires-2 : tie.Need-put-bytes-requires-2
+unfolding valueText
+put-bytes-requires-2 c κs =
+    let b3 = c .before .before .before in
+    let s = b3 .before .before .before in
+    first-fits (ascii "../") (endText (b3 .v3 .given .0 .0)) (s .args .out .now) 0 (front-as (s .args .out .now) (ap valueText (b3 .v3 .given .1)) (s .pre .1))
+
+put-end-requires-3 : tie.Need-put-end-requires-3
+unfolding valueText valuePanics
+put-end-requires-3 c κs =
+    let b3 = c .before .before .before in
+    let b7 = b3 .before .before .before .before in
+    let s = b7 .before .before .before in
+    ((sym (ap valuePanics (b7 .v3 .given .1)) ∙ s .pre .0), room (b3 .put-bytes2 .ensures) (endText (b7 .v3 .given .0 .0)) (front-as (s .args .out .now) (ap valueText (b7 .v3 .given .1)) (s .pre .1)))
+
+enum-known-v-4 : tie.Need-enum-known-v-4
+enum-known-v-4 c = search needs
+
+put-end-requires-4 : tie.Need-put-end-requires-4
+unfolding valueText valuePanics
+put-end-requires-4 c κs =
+    let b2 = c .before .before in
+    let s = b2 .before .before .before in
+    (first-false (endPanics (b2 .v4 .given .0 .0)) (endPanics (b2 .v4 .given .0 .1 .0)) (sym (ap valuePanics (b2 .v4 .given .1)) ∙ s .pre .0), first-fits (endText (b2 .v4 .given .0 .0)) (ascii "/") (s .args .out .now) 0 (first-fits ((endText (b2 .v4 .given .0 .0)) ++ (ascii "/")) (endText (b2 .v4 .given .0 .1 .0)) (s .args .out .now) 0 (front-as (s .args .out .now) (ap valueText (b2 .v4 .given .1)) (s .pre .1))))
+
+put-byte-requires : tie.Need-put-byte-requires
+unfolding valueText
+put-byte-requires c κs =
+    let b3 = c .before .before .before in
+    let b6 = b3 .before .before .before in
+    let s = b6 .before .before .before in
+    room (b3 .put-end4 .ensures) (ascii "/") (first-fits ((endText (b6 .v4 .given .0 .0)) ++ (ascii "/")) (endText (b6 .v4 .given .0 .1 .0)) (s .args .out .now) 0 (front-as (s .args .out .now) (ap valueText (b6 .v4 .given .1)) (s .pre .1)))
+
+put-end-requires-5 : tie.Need-put-end-requires-5
+unfolding valueText valuePanics
+put-end-requires-5 c κs =
+    let b3 = c .before .before .before in
+    let b7 = b3 .before .before .before .before in
+    let b10 = b7 .before .before .before in
+    let s = b10 .before .before .before in
+    (second-false (endPanics (b10 .v4 .given .0 .0)) (endPanics (b10 .v4 .given .0 .1 .0)) (sym (ap valuePanics (b10 .v4 .given .1)) ∙ s .pre .0), room (both (b7 .put-end4 .ensures) (b3 .put-byte .ensures)) (endText (b10 .v4 .given .0 .1 .0)) (front-as (s .args .out .now) (ap valueText (b10 .v4 .given .1)) (s .pre .1)))
+
+same-length : tie.Need-same-length
+same-length c = search needs
+
+returns : tie.Need-returns
+unfolding valueText
+returns c =
+    let b2 = c .before .before in
+    let b5 = b2 .before .before .before in
+    as-text (ap valueText (b5 .v .given .1)) (b2 .put-end .ensures)
+
+same-length-2 : tie.Need-same-length-2
+same-length-2 c = search needs
+
+returns-2 : tie.Need-returns-2
+unfolding valueText
+returns-2 c =
+    let b2 = c .before .before in
+    let b7 = b2 .before .before .before .before .before in
+    let b10 = b7 .before .before .before in
+    as-text (ap valueText (b10 .v2 .given .1)) (both (b7 .put-end2 .ensures) (b2 .put-bytes .ensures))
+
+same-length-3 : tie.Need-same-length-3
+same-length-3 c = search needs
+
+returns-3 : tie.Need-returns-3
+unfolding valueText
+returns-3 c =
+    let b2 = c .before .before in
+    let b6 = b2 .before .before .before .before in
+    let b10 = b6 .before .before .before .before in
+    as-text (ap valueText (b10 .v3 .given .1)) (both (b6 .put-bytes2 .ensures) (b2 .put-end3 .ensures))
+
+same-length-4 : tie.Need-same-length-4
+same-length-4 c = search needs
+
+returns-4 : tie.Need-returns-4
+unfolding valueText
+returns-4 c =
+    let b2 = c .before .before in
+    let b6 = b2 .before .before .before .before in
+    let b10 = b6 .before .before .before .before in
+    let b13 = b10 .before .before .before in
+    as-text (ap valueText (b13 .v4 .given .1)) (both (both (b10 .put-end4 .ensures) (b6 .put-byte .ensures)) (b2 .put-end5 .ensures))
+
+pub put-value-spec : {M : Type 1} → statement M
+put-value-spec =
+    tie.close
+    (tie.spec
+    enum-known-v
+    put-end-requires
+    enum-known-v-2
+    put-end-requires-2
+    slice-aggregate-put-bytes
+    put-bytes-requires
+    enum-known-v-3
+    slice-aggregate-put-bytes-2
+    put-bytes-requires-2
+    put-end-requires-3
+    enum-known-v-4
+    put-end-requires-4
+    put-byte-requires
+    put-end-requires-5
+    same-length
+    returns
+    same-length-2
+    returns-2
+    same-length-3
+    returns-3
+    same-length-4
+    returns-4)
