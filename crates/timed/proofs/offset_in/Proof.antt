@@ -1,14 +1,13 @@
 use Rattle.timed.specs.Answers.{offsetIn}
 use borrow.Author.Tests.{le-leb, lt-leb}
-use borrow.Author.Needs.{needs}
 use Rattle.timed.proofs.offset_in.Statement.{statement}
 use Rattle.timed.proofs.offset_in.Tie as tie
 
 enum-told : tie.Need-enum-told
-enum-told c = search needs
+enum-told c = c .match .keys1
 
 enum-known-o : tie.Need-enum-known-o
-enum-known-o c = search needs
+enum-known-o c = c .match .keys2
 
 returns : tie.Need-returns
 unfolding offsetIn

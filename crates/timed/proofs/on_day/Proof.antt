@@ -1,19 +1,18 @@
 use Rattle.timed.specs.Answers.{onDay}
-use borrow.Author.Needs.{needs}
 use Rattle.timed.proofs.on_day.Statement.{statement}
 use Rattle.timed.proofs.on_day.Tie as tie
 
 enum-told : tie.Need-enum-told
-enum-told c = search needs
+enum-told c = c .match .keys1
 
 enum-told-2 : tie.Need-enum-told-2
-enum-told-2 c = search needs
+enum-told-2 c = c .match .keys2
 
 enum-told-3 : tie.Need-enum-told-3
-enum-told-3 c = search needs
+enum-told-3 c = c .match2 .keys1
 
 enum-told-4 : tie.Need-enum-told-4
-enum-told-4 c = search needs
+enum-told-4 c = c .match2 .keys2
 
 returns : tie.Need-returns
 unfolding onDay

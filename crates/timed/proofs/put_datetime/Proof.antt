@@ -20,7 +20,7 @@ write-text-requires : tie.Need-write-text-requires
 write-text-requires c κs = search needs
 
 enum-known-w : tie.Need-enum-known-w
-enum-known-w c = search needs
+enum-known-w c = c .match .keys1
 
 add-result : tie.Need-add-result
 add-result c =
@@ -31,7 +31,7 @@ add-result c =
     omega (arith, end-count (s .args .d) (s .args .out .now) (b5 .write-text .last .1 .0) (s .args .at) (b7 .from-datetime .ensures) (s .pre) (b5 .write-text .ensures .0) (b5 .write-text .ensures .1 .0) (b1 .w .given .1), s .good)
 
 enum-told : tie.Need-enum-told
-enum-told c = search needs
+enum-told c = c .match .keys2
 
 same-length : tie.Need-same-length
 same-length c = search needs

@@ -8,7 +8,7 @@ use Rattle.timed.proofs.put_offset.Statement.{statement}
 use Rattle.timed.proofs.put_offset.Tie as tie
 
 enum-told : tie.Need-enum-told
-enum-told c = search needs
+enum-told c = c .match .keys1
 
 put-byte-requires : tie.Need-put-byte-requires
 unfolding offsetText
@@ -18,7 +18,7 @@ put-byte-requires c κs =
     fits-as (s .args .out .now) (s .args .at) (ap offsetText (b1 .enum-told .given .1)) (s .pre)
 
 enum-known-o : tie.Need-enum-known-o
-enum-known-o c = search needs
+enum-known-o c = c .match .keys2
 
 sign-requires : tie.Need-sign-requires
 sign-requires c κs = search needs

@@ -10,7 +10,7 @@ use Rattle.timed.proofs.put_value.Statement.{statement}
 use Rattle.timed.proofs.put_value.Tie as tie
 
 enum-known-v : tie.Need-enum-known-v
-enum-known-v c = search needs
+enum-known-v c = c .match .keys1
 
 put-end-requires : tie.Need-put-end-requires
 unfolding valueText valuePanics
@@ -20,7 +20,7 @@ put-end-requires c κs =
     ((sym (ap valuePanics (b2 .v .given .1)) ∙ s .pre .0), (front-as (s .args .out .now) (ap valueText (b2 .v .given .1)) (s .pre .1)))
 
 enum-known-v-2 : tie.Need-enum-known-v-2
-enum-known-v-2 c = search needs
+enum-known-v-2 c = c .match .keys2
 
 put-end-requires-2 : tie.Need-put-end-requires-2
 unfolding valueText valuePanics
@@ -41,7 +41,7 @@ put-bytes-requires c κs =
     room (b4 .put-end2 .ensures) (ascii "/..") (front-as (s .args .out .now) (ap valueText (b7 .v2 .given .1)) (s .pre .1))
 
 enum-known-v-3 : tie.Need-enum-known-v-3
-enum-known-v-3 c = search needs
+enum-known-v-3 c = c .match .keys3
 
 slice-aggregate-put-bytes-2 : tie.Need-slice-aggregate-put-bytes-2
 slice-aggregate-put-bytes-2 c = search needs
@@ -62,7 +62,7 @@ put-end-requires-3 c κs =
     ((sym (ap valuePanics (b7 .v3 .given .1)) ∙ s .pre .0), room (b3 .put-bytes2 .ensures) (endText (b7 .v3 .given .0 .0)) (front-as (s .args .out .now) (ap valueText (b7 .v3 .given .1)) (s .pre .1)))
 
 enum-known-v-4 : tie.Need-enum-known-v-4
-enum-known-v-4 c = search needs
+enum-known-v-4 c = c .match .keys4
 
 put-end-requires-4 : tie.Need-put-end-requires-4
 unfolding valueText valuePanics

@@ -6,10 +6,10 @@ use Rattle.timed.proofs.put_zone.Statement.{statement}
 use Rattle.timed.proofs.put_zone.Tie as tie
 
 enum-told : tie.Need-enum-told
-enum-told c = search needs
+enum-told c = c .match .keys1
 
 enum-known-o : tie.Need-enum-known-o
-enum-known-o c = search needs
+enum-known-o c = c .match .keys2
 
 put-offset-requires : tie.Need-put-offset-requires
 unfolding zoneText

@@ -8,7 +8,7 @@ date-length-requires : tie.Need-date-length-requires
 date-length-requires c κs = search needs
 
 enum-known-n : tie.Need-enum-known-n
-enum-known-n c = search needs
+enum-known-n c = c .match .keys1
 
 value-bad-requires : tie.Need-value-bad-requires
 value-bad-requires c κs = search needs
@@ -36,7 +36,7 @@ add-t11 c =
     let q = no-panic (s .args .d) (b6 .date-length .ensures .0) (b4 .n .given .1) in omega (arith, q .1, b6 .date-length .ensures .1 (q .0), c .times-length .ensures .1)
 
 enum-known-e : tie.Need-enum-known-e
-enum-known-e c = search needs
+enum-known-e c = c .match .keys2
 
 returns-2 : tie.Need-returns-2
 returns-2 c =

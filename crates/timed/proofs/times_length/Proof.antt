@@ -9,25 +9,25 @@ use Rattle.timed.proofs.times_length.Statement.{statement}
 use Rattle.timed.proofs.times_length.Tie as tie
 
 enum-known-v : tie.Need-enum-known-v
-enum-known-v c = search needs
+enum-known-v c = c .match .keys1
 
 time-length-requires : tie.Need-time-length-requires
 time-length-requires c κs = search needs
 
 enum-known-v-2 : tie.Need-enum-known-v-2
-enum-known-v-2 c = search needs
+enum-known-v-2 c = c .match .keys2
 
 time-length-requires-2 : tie.Need-time-length-requires-2
 time-length-requires-2 c κs = search needs
 
 enum-known-v-3 : tie.Need-enum-known-v-3
-enum-known-v-3 c = search needs
+enum-known-v-3 c = c .match .keys3
 
 time-length-requires-3 : tie.Need-time-length-requires-3
 time-length-requires-3 c κs = search needs
 
 enum-known-v-4 : tie.Need-enum-known-v-4
-enum-known-v-4 c = search needs
+enum-known-v-4 c = c .match .keys4
 
 time-length-requires-4 : tie.Need-time-length-requires-4
 time-length-requires-4 c κs = search needs

@@ -4,25 +4,25 @@ use Rattle.timed.proofs.value_bad.Statement.{statement}
 use Rattle.timed.proofs.value_bad.Tie as tie
 
 enum-known-v : tie.Need-enum-known-v
-enum-known-v c = search needs
+enum-known-v c = c .match .keys1
 
 end-bad-requires : tie.Need-end-bad-requires
 end-bad-requires c κs = search needs
 
 enum-known-v-2 : tie.Need-enum-known-v-2
-enum-known-v-2 c = search needs
+enum-known-v-2 c = c .match .keys2
 
 end-bad-requires-2 : tie.Need-end-bad-requires-2
 end-bad-requires-2 c κs = search needs
 
 enum-known-v-3 : tie.Need-enum-known-v-3
-enum-known-v-3 c = search needs
+enum-known-v-3 c = c .match .keys3
 
 end-bad-requires-3 : tie.Need-end-bad-requires-3
 end-bad-requires-3 c κs = search needs
 
 enum-known-v-4 : tie.Need-enum-known-v-4
-enum-known-v-4 c = search needs
+enum-known-v-4 c = c .match .keys4
 
 end-bad-requires-4 : tie.Need-end-bad-requires-4
 end-bad-requires-4 c κs = search needs

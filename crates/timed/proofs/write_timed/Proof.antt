@@ -10,7 +10,7 @@ decide-requires : tie.Need-decide-requires
 decide-requires c κs = search needs
 
 enum-told : tie.Need-enum-told
-enum-told c = search needs
+enum-told c = c .match .keys1
 
 put-date-requires : tie.Need-put-date-requires
 put-date-requires c κs =
@@ -21,7 +21,7 @@ put-date-requires c κs =
     fits (s .args .d) (s .args .out .now) (b4 .timed-length .ensures .0) (b3 .decide .ensures) (b1 .enum-told .given .1)
 
 enum-known-e : tie.Need-enum-known-e
-enum-known-e c = search needs
+enum-known-e c = c .match .keys2
 
 same-length : tie.Need-same-length
 same-length c = search needs

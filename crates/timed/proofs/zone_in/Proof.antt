@@ -4,10 +4,10 @@ use Rattle.timed.proofs.zone_in.Statement.{statement}
 use Rattle.timed.proofs.zone_in.Tie as tie
 
 enum-told : tie.Need-enum-told
-enum-told c = search needs
+enum-told c = c .match .keys1
 
 enum-known-o : tie.Need-enum-known-o
-enum-known-o c = search needs
+enum-known-o c = c .match .keys2
 
 offset-in-requires : tie.Need-offset-in-requires
 offset-in-requires c κs = search needs

@@ -1,20 +1,19 @@
 use native.Mathlib.Omega.{arith}
 use Rattle.timed.specs.Texts.{field, offsetText, zoneText}
-use borrow.Author.Needs.{needs}
 use Rattle.timed.proofs.zone_length.Statement.{statement}
 use Rattle.timed.proofs.zone_length.Tie as tie
 
 enum-told : tie.Need-enum-told
-enum-told c = search needs
+enum-told c = c .match .keys1
 
 enum-known-o : tie.Need-enum-known-o
-enum-known-o c = search needs
+enum-known-o c = c .match .keys2
 
 enum-told-2 : tie.Need-enum-told-2
-enum-told-2 c = search needs
+enum-told-2 c = c .match2 .keys1
 
 enum-told-3 : tie.Need-enum-told-3
-enum-told-3 c = search needs
+enum-told-3 c = c .match2 .keys2
 
 returns : tie.Need-returns
 unfolding zoneText
