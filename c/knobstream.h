@@ -46,7 +46,8 @@ enum {
     KNOBSTREAM_BAD_CHUNKS = 15,           /* the table does not fit the bytes */
     KNOBSTREAM_TOO_LONG = 16,             /* over 64 chunks or 4,096 bytes */
     KNOBSTREAM_NOT_A_CALENDAR_DATE = 17,  /* no date of the years -9999 to 9999 */
-    KNOBSTREAM_BAD_TIME = 22              /* no time of a clock, or without a day */
+    KNOBSTREAM_BAD_TIME = 22,             /* no time of a clock, or without a day */
+    KNOBSTREAM_NO_INSTANT = 25            /* no day, no time or no offset */
 };
 
 /* The name of a refusal; "" for a number that is none. */
@@ -76,6 +77,9 @@ static inline const char *knobstream_refusal_name(unsigned refusal)
         "",
         "",
         "BadTime",
+        "",
+        "",
+        "NoInstant",
     };
     return refusal < sizeof names / sizeof *names ? names[refusal] : "";
 }
@@ -134,7 +138,7 @@ typedef struct {
 
 /* What a reader answers. If `refusal` is 0, `date` is the date and the place is
  * 0, 0. Else `refusal` says why there is none and [start, end) where, in bytes
- * of the file; `date` is all zeros. 9, 12 to 17 and 22 name no place: 0, 0. */
+ * of the file; `date` is all zeros. 9 and all from 12 on name no place: 0, 0. */
 typedef struct {
     uint64_t start, end;
     knobstream_date date;

@@ -216,6 +216,8 @@ pub enum TypeErrorKind {
     NotACalendarDate = 17,
     /// A time without a day beside a month, or with a part or an offset out of range. No place.
     BadTime = 22,
+    /// The day, the time or its offset is absent, so there is no instant. No place.
+    NoInstant = 25,
 }
 
 impl TypeErrorKind {
@@ -239,6 +241,7 @@ impl TypeErrorKind {
             16 => Self::TooLong,
             17 => Self::NotACalendarDate,
             22 => Self::BadTime,
+            25 => Self::NoInstant,
             _ => unreachable!("the library has no refusal {number}"),
         }
     }
@@ -260,6 +263,7 @@ impl TypeErrorKind {
                 | Self::TooLong
                 | Self::NotACalendarDate
                 | Self::BadTime
+                | Self::NoInstant
         )
     }
 }
@@ -285,6 +289,7 @@ impl Display for TypeErrorKind {
             Self::TooLong => "more than 64 chunks or 4,096 bytes",
             Self::NotACalendarDate => "not a date of the calendar from -9999 to 9999",
             Self::BadTime => "not a time of a day",
+            Self::NoInstant => "no day, no time or no offset",
         })
     }
 }

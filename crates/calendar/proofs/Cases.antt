@@ -1,12 +1,11 @@
 -- The order's answer for two Datetimes of the calendar without a time, counted: by the years, then the months, then the days.
 -- Assumes nothing.
-use mathlib.Core.Path.{_≡_, refl, sym, ap, _∙_, subst}
-use mathlib.Core.Bool.{Bool, true, false, false≢true}
+use mathlib.Core.Path.{_≡_, refl, sym, ap, subst}
+use mathlib.Core.Bool.{true, false, false≢true}
 use mathlib.Core.Logic.{inl, inr}
 use Prim.Native.Nat.{ℕ, suc, _+_, _-_, _≤_, _<_}
 use native.Mathlib.Omega.{arith}
 use borrow.Author.Tests.{ltb-true}
-use lib.Dec.{ltb, lit<}
 use lib.IntN.{ℤ, pos, negsuc}
 use lib.Signed.{ltZ}
 use Rattle.dates.specs.declared.Month.{Month}
@@ -15,12 +14,11 @@ use Rattle.dates.specs.declared.OptionMonth.the-variants.{NoMonth, SomeMonth}
 use Rattle.dates.specs.declared.OptionDay.{OptionDay}
 use Rattle.dates.specs.declared.OptionDay.the-variants.{NoDay, SomeDay}
 use Rattle.dates.specs.declared.OptionTime.the-variants.{NoTime}
-use Rattle.dates.specs.Calendar.{monthLength}
 use Rattle.dates.specs.Domain.{PartsIn}
 use Rattle.dates.specs.Value.{datetime}
 use Rattle.dates.proofs.Lengths.{length-most}
 use Rattle.dates.proofs.Months.{month-least}
-use Rattle.days.specs.Days.{yearLength, daysFrom}
+use Rattle.days.specs.Days.{yearLength}
 use Rattle.days.specs.Covered.{yearIn, lengthOf}
 use Rattle.days.specs.Counts.{counted, daysTo}
 use Rattle.days.proofs.Years.{year-least}
@@ -28,8 +26,7 @@ use Rattle.days.proofs.Numbers.{counted-pos, counted-neg, year-neg}
 use Rattle.days.proofs.Steps.{from-mono, before-mono, beginning}
 use Rattle.days.proofs.Theorems.{month-length, year-length, within}
 use Rattle.order.specs.declared.Order.{Order}
-use Rattle.order.specs.declared.Order.the-variants.{Less, Equal, Greater, None}
-use Rattle.order.specs.Order.{number, inTurn, both, monthOf, dayOf, timeOf, fromTime, fromDay, fromMonth, order}
+use Rattle.order.specs.Order.{inTurn, both, monthOf, dayOf, timeOf, fromTime, fromDay, fromMonth, order}
 use Rattle.order.proofs.Numbers.{Cases, less, equal, greater, cases}
 use Rattle.calendar.proofs.Counted.{Counted}
 

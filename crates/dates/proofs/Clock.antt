@@ -49,3 +49,6 @@ module _ (n : ℕ) (h : n < 1000000) (z : ℤ) (f : SFits w64 z) (k : mag z < 10
 
   pub utc : toZ w64 (ofZ w64 (toZ w64 n -ℤ toZ w64 (ofZ w64 z))) ≡ pos n -ℤ z
   utc = rw (toZ-ofZ w64 (toZ w64 n -ℤ toZ w64 (ofZ w64 z)) utc-fits, cast n h, toZ-ofZ w64 z f)
+
+  pub utc-small : mag (toZ w64 (ofZ w64 (toZ w64 n -ℤ toZ w64 (ofZ w64 z)))) < 2000001
+  utc-small = rw utc (let g = difference-mag (pos n) z in omega arith)

@@ -102,7 +102,7 @@ impl Time {
 
     // The seconds in UTC, by which times compare. They may be negative, or more than a day has.
     pub fn to_utc_seconds(self) -> i64
-        ensures { λ r. ⌜ r ≡ clock.utcSeconds self ⌝ }
+        ensures { λ r. ⌜ (r ≡ clock.utcSeconds self) × (mag r < 2000001) ⌝ }
     {
         let offset = self.offset;
         let ahead = ahead_of(offset);

@@ -19,7 +19,7 @@ pub enum Order {
 }
 
 // Two numbers are never without an order.
-fn cmp(a: i64, b: i64) -> Order
+pub fn cmp(a: i64, b: i64) -> Order
     ensures { λ r. ⌜ r ≡ spec.number a b ⌝ }
 {
     if a < b {

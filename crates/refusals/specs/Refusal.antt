@@ -3,7 +3,7 @@ use Prim.Native.Nat.{ℕ}
 use mathlib.Core.Bool.{Bool, true, false}
 use Rattle.chars.specs.Pick.{pick}
 use Rattle.refusals.specs.declared.Kind.{Kind}
-use Rattle.refusals.specs.declared.Kind.the-variants.{UndefinedRange, DayOutOfRange, MonthOutOfRange, InvalidNumber, MissingNumber, WrongNumberOfDigits, InvalidFormat, YearZeroCE, RustPanics, BadUtf8, UnsupportedChar, NotStrict, NoRoom, BadFrame, BadChunks, TooLong, NotACalendarDate, BadTime}
+use Rattle.refusals.specs.declared.Kind.the-variants.{UndefinedRange, DayOutOfRange, MonthOutOfRange, InvalidNumber, MissingNumber, WrongNumberOfDigits, InvalidFormat, YearZeroCE, RustPanics, BadUtf8, UnsupportedChar, NotStrict, NoRoom, BadFrame, BadChunks, TooLong, NotACalendarDate, BadTime, NoInstant}
 use Rattle.refusals.specs.declared.FileSpan.{FileSpan}
 use Rattle.refusals.specs.declared.Refusal.{Refusal}
 
@@ -27,6 +27,7 @@ number BadChunks = 15
 number TooLong = 16
 number NotACalendarDate = 17
 number BadTime = 22
+number NoInstant = 25
 
 -- whether a refusal names a place; where it does not, its place is 0, 0
 abbrev pub hasPlace : Kind → Bool
@@ -48,6 +49,7 @@ hasPlace BadChunks = false
 hasPlace TooLong = false
 hasPlace NotACalendarDate = false
 hasPlace BadTime = false
+hasPlace NoInstant = false
 
 -- a place in the file, from a byte to another
 abbrev pub fileSpan : ℕ → ℕ → FileSpan

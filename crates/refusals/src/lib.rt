@@ -43,6 +43,8 @@ pub enum Kind {
     NotACalendarDate,
     // A time without a day beside a month, or one that no clock shows, or whose offset none has.
     BadTime,
+    // A day, a time or its offset is absent, so there is no instant.
+    NoInstant,
 }
 
 // A place in the file, from a byte to another.
@@ -103,6 +105,7 @@ pub fn number(kind: Kind) -> u8
         Kind::TooLong => 16,
         Kind::NotACalendarDate => 17,
         Kind::BadTime => 22,
+        Kind::NoInstant => 25,
     }
 }
 

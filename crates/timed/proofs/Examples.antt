@@ -28,7 +28,8 @@ use Rattle.writer.specs.Answers.{refused, decided}
 use Rattle.writer.specs.Numbers.{count, digitCount, width, decimal}
 use Rattle.writer.specs.Texts.{minus, yearText, writtenMonth, writtenDay, dayParts, monthParts, partsOf, partText, hyphenPart, partsText, datetimeText, markText, tooLarge, endPanics, valuePanics, panics}
 use Rattle.timed.specs.Texts.{field, sign, offsetText, zoneText, clockText, timeText, endText, valueText, timedText}
-use Rattle.timed.specs.Answers.{offsetIn, zoneIn, clockIn, onDay, badTime, endBad, valueBad, measured, answer}
+use Rattle.clocks.specs.Clocks.{offsetIn, zoneIn, clockIn, onDay, badTime, hasBadTime}
+use Rattle.timed.specs.Answers.{valueBad, measured, answer}
 
 -- a date, and what is written
 pub record Example : Type 0 where
@@ -69,7 +70,7 @@ text-examples = refl
 
 -- 70 bytes are room for each
 pub written-examples : map (λ (e : Example). answer (e .of) 70) texts ≡ map (λ (e : Example). Done (length (ascii (e .text)))) texts
-unfolding answer measured decided valueBad endBad badTime onDay clockIn zoneIn offsetIn inRange timedText valueText endText timeText clockText zoneText offsetText sign field datetimeText yearText minus decimal width digitCount count partsOf monthParts dayParts writtenMonth writtenDay partsText hyphenPart partText markText panics valuePanics endPanics tooLarge pick
+unfolding answer measured decided valueBad hasBadTime badTime onDay clockIn zoneIn offsetIn inRange timedText valueText endText timeText clockText zoneText offsetText sign field datetimeText yearText minus decimal width digitCount count partsOf monthParts dayParts writtenMonth writtenDay partsText hyphenPart partText markText panics valuePanics endPanics tooLarge pick
 written-examples = refl
 
 -- a date, so much room, and why it is refused
@@ -100,7 +101,7 @@ refusals =
     ∷ []
 
 pub refused-examples : map (λ (e : Refusal). answer (e .of) (e .room)) refusals ≡ map (λ (e : Refusal). Refused (refused (e .kind))) refusals
-unfolding answer measured decided valueBad endBad badTime onDay clockIn zoneIn offsetIn inRange timedText valueText endText timeText clockText zoneText offsetText sign field datetimeText yearText minus decimal width digitCount count partsOf monthParts dayParts writtenMonth writtenDay partsText hyphenPart partText markText panics valuePanics endPanics tooLarge pick
+unfolding answer measured decided valueBad hasBadTime badTime onDay clockIn zoneIn offsetIn inRange timedText valueText endText timeText clockText zoneText offsetText sign field datetimeText yearText minus decimal width digitCount count partsOf monthParts dayParts writtenMonth writtenDay partsText hyphenPart partText markText panics valuePanics endPanics tooLarge pick
 refused-examples = refl
 
 -- the refusal's number is 22, and it has no place

@@ -22,7 +22,8 @@ use Rattle.dates.specs.declared.Datetime.{Datetime}
 use Rattle.dates.specs.declared.DateValue.{DateValue}
 use Rattle.dates.specs.declared.DateValue.the-variants.{At, After, Before, Between}
 use Rattle.dates.specs.Time.{inRange}
-use Rattle.timed.specs.Answers.{offsetIn, zoneIn, clockIn, onDay, badTime, endBad, valueBad}
+use Rattle.clocks.specs.Clocks.{offsetIn, zoneIn, clockIn, onDay, badTime, hasBadTime}
+use Rattle.timed.specs.Answers.{valueBad}
 
 -- Why a time is bad.
 pub data Fault : OptionMonth → OptionDay → OptionTime → Type 0 where
@@ -127,8 +128,8 @@ cause NoMonth da (SomeTime t) e = no-month
 cause (SomeMonth m) NoDay (SomeTime t) e = no-day
 cause (SomeMonth m) (SomeDay d) (SomeTime t) e = clock-cause t (not-not (clockIn t) e)
 
-end-bad : (d : Datetime) → (endBad d ≡ true) ↔ EndFault d
-unfolding endBad
+end-bad : (d : Datetime) → (hasBadTime d ≡ true) ↔ EndFault d
+unfolding hasBadTime
 end-bad d = (cause (d .month) (d .day) (d .time), λ f. bad f)
 
 either : (a : Bool) {b : Bool} → a || b ≡ true → (a ≡ true) ⊎ (b ≡ true)
@@ -146,12 +147,12 @@ unfolding valueBad
 value-bad (At d) = end-bad d
 value-bad (After d) = end-bad d
 value-bad (Before d) = end-bad d
-value-bad (Between a b) = (λ e. there (either (endBad a) e), λ f. one-of (endBad a) (back f))
+value-bad (Between a b) = (λ e. there (either (hasBadTime a) e), λ f. one-of (hasBadTime a) (back f))
   where
-    there : (endBad a ≡ true) ⊎ (endBad b ≡ true) → EndFault a ⊎ EndFault b
+    there : (hasBadTime a ≡ true) ⊎ (hasBadTime b ≡ true) → EndFault a ⊎ EndFault b
     there (inl e) = inl (end-bad a .0 e)
     there (inr e) = inr (end-bad b .0 e)
 
-    back : EndFault a ⊎ EndFault b → (endBad a ≡ true) ⊎ (endBad b ≡ true)
+    back : EndFault a ⊎ EndFault b → (hasBadTime a ≡ true) ⊎ (hasBadTime b ≡ true)
     back (inl f) = inl (end-bad a .1 f)
     back (inr f) = inr (end-bad b .1 f)

@@ -43,7 +43,8 @@ use Rattle.writer.specs.Texts.{minus, yearText, writtenMonth, writtenDay, dayPa
 use Rattle.writer.specs.Texts as untimed
 use Rattle.writer.proofs.Bounds.{Ends, Stored, text-most}
 use Rattle.timed.specs.Texts.{field, sign, offsetText, zoneText, clockText, timeText, endText, valueText, timedText}
-use Rattle.timed.specs.Answers.{offsetIn, zoneIn, clockIn, onDay, badTime, endBad, valueBad, measured, answer, afterwards}
+use Rattle.clocks.specs.Clocks.{offsetIn, zoneIn, clockIn, onDay, badTime, hasBadTime}
+use Rattle.timed.specs.Answers.{valueBad, measured, answer, afterwards}
 use Rattle.timed.specs.Domain.{ZoneIn, ClockIn, TimeIn, TimedIn, InTimed}
 use Rattle.timed.proofs.Pieces.{timed-most}
 use Rattle.timed.proofs.Faults.{Fault, no-month, no-day, hour-above, minute-above, second-above, offset-hours, offset-minutes, EndFault, FaultIn, value-bad}
@@ -73,8 +74,8 @@ value-untimed (After a) w = rw (end-untimed a w)
 value-untimed (Before a) w = rw (end-untimed a w)
 value-untimed (Between a b) w = rw (end-untimed a (w .0), end-untimed b (w .1))
 
-end-good : (d : Datetime) → d .time ≡ NoTime → endBad d ≡ false
-unfolding endBad badTime
+end-good : (d : Datetime) → d .time ≡ NoTime → hasBadTime d ≡ false
+unfolding hasBadTime badTime
 end-good d e = ap (badTime (onDay (d .month) (d .day))) e
 
 value-good : (v : DateValue) → Untimed v → valueBad v ≡ false
@@ -131,7 +132,7 @@ widest-stored = (longest-stored, longest-stored)
 
 -- and one that is written reaches them
 pub reached : (length (timedText widest) ≡ 70) × (answer widest 70 ≡ Done 70)
-unfolding answer measured decided valueBad endBad badTime onDay clockIn zoneIn offsetIn inRange timedText valueText endText timeText clockText zoneText offsetText sign field datetimeText yearText minus decimal width digitCount count partsOf monthParts dayParts writtenMonth writtenDay partsText hyphenPart partText markText panics valuePanics endPanics tooLarge pick
+unfolding answer measured decided valueBad hasBadTime badTime onDay clockIn zoneIn offsetIn inRange timedText valueText endText timeText clockText zoneText offsetText sign field datetimeText yearText minus decimal width digitCount count partsOf monthParts dayParts writtenMonth writtenDay partsText hyphenPart partText markText panics valuePanics endPanics tooLarge pick
 reached = (refl, refl)
 
 -- ---- which answer is given

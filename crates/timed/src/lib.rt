@@ -10,11 +10,10 @@ ghost use Rattle.writer.specs.Answers.{Put};
 ghost use Rattle.writer.specs.Texts as text;
 ghost use Rattle.timed.specs.Texts as timed;
 ghost use Rattle.timed.specs.Answers as spec;
+use clocks::has_bad_time;
 use dates::Date;
 use dates::DateValue;
 use dates::Datetime;
-use dates::OptionDay;
-use dates::OptionMonth;
 use dates::OptionOffset;
 use dates::OptionTime;
 use dates::Time;
@@ -29,101 +28,19 @@ use writer::write_text;
 
 // ---- which times are written
 
-// Whether the hours and minutes of an offset are in range.
-fn offset_in(o: TimeOffset) -> bool
-    ensures { λ r. ⌜ r ≡ spec.offsetIn o ⌝ }
-{
-    match o {
-        TimeOffset::Utc => true,
-        TimeOffset::Offset {
-            positive: _,
-            hours,
-            minutes,
-        } => {
-            if hours <= 23 {
-                return minutes <= 59;
-            }
-            false
-        }
-    }
-}
-
-// The same of an offset that may be absent.
-fn zone_in(o: OptionOffset) -> bool
-    ensures { λ r. ⌜ r ≡ spec.zoneIn o ⌝ }
-{
-    match o {
-        OptionOffset::NoOffset => true,
-        OptionOffset::SomeOffset(o) => offset_in(o),
-    }
-}
-
-// Whether all parts of a time are in range.
-fn clock_in(t: Time) -> bool
-    ensures { λ r. ⌜ r ≡ spec.clockIn t ⌝ }
-{
-    let offset = t.offset;
-    if t.hour <= 23 {
-        if t.minute <= 59 {
-            if t.second <= 59 {
-                return zone_in(offset);
-            }
-        }
-    }
-    false
-}
-
-// Whether there is a day beside a month.
-fn on_day(month: OptionMonth, day: OptionDay) -> bool
-    ensures { λ r. ⌜ r ≡ spec.onDay month day ⌝ }
-{
-    match month {
-        OptionMonth::NoMonth => false,
-        OptionMonth::SomeMonth(_) => match day {
-            OptionDay::NoDay => false,
-            OptionDay::SomeDay(_) => true,
-        },
-    }
-}
-
-// Whether a time is bad: without a day, or out of range.
-fn bad_time(dated: bool, t: OptionTime) -> bool
-    ensures { λ r. ⌜ r ≡ spec.badTime dated t ⌝ }
-{
-    match t {
-        OptionTime::NoTime => false,
-        OptionTime::SomeTime(t) => {
-            if dated {
-                return !clock_in(t);
-            }
-            true
-        }
-    }
-}
-
-// Whether an end has a bad time.
-fn end_bad(d: Datetime) -> bool
-    ensures { λ r. ⌜ r ≡ spec.endBad d ⌝ }
-{
-    let month = d.month;
-    let day = d.day;
-    let time = d.time;
-    bad_time(on_day(month, day), time)
-}
-
-// Whether one of the ends has.
+// Whether one of the ends has a bad time.
 fn value_bad(v: DateValue) -> bool
     ensures { λ r. ⌜ r ≡ spec.valueBad v ⌝ }
 {
     match v {
-        DateValue::At(d) => end_bad(d),
-        DateValue::After(d) => end_bad(d),
-        DateValue::Before(d) => end_bad(d),
+        DateValue::At(d) => has_bad_time(d),
+        DateValue::After(d) => has_bad_time(d),
+        DateValue::Before(d) => has_bad_time(d),
         DateValue::Between(a, b) => {
-            if end_bad(a) {
+            if has_bad_time(a) {
                 return true;
             }
-            end_bad(b)
+            has_bad_time(b)
         }
     }
 }

@@ -13,7 +13,7 @@ by-seconds : (c : tie.After-cmp) → c .cmp .result ≡ number (utcSeconds (c .b
 by-seconds c =
     let a = c .before .before .to-utc-seconds in
     let b = c .before .to-utc-seconds2 in
-    rw (toZ-ofZ w64 (a .result) (record { sfits = a .ok }), toZ-ofZ w64 (b .result) (record { sfits = b .ok }), a .ensures, b .ensures) at (c .cmp .ensures)
+    rw (toZ-ofZ w64 (a .result) (record { sfits = a .ok }), toZ-ofZ w64 (b .result) (record { sfits = b .ok }), a .ensures .0, b .ensures .0) at (c .cmp .ensures)
 
 alike-requires : tie.Need-alike-requires
 alike-requires c κs = search needs

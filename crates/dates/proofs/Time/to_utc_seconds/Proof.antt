@@ -1,6 +1,6 @@
 use native.Mathlib.Omega.{arith}
 use Rattle.dates.specs.Time.{utcSeconds}
-use Rattle.dates.proofs.Clock.{utc-fits, utc}
+use Rattle.dates.proofs.Clock.{utc-fits, utc, utc-small}
 use mathlib.Core.Path.{_∙_}
 use borrow.Author.Needs.{needs}
 use Rattle.dates.proofs.Time.to_utc_seconds.Statement.{statement}
@@ -20,7 +20,12 @@ sub-result c = let a = c .before .ahead-of in utc-fits (c .seconds .result) (c .
 
 returns : tie.Need-returns
 unfolding utcSeconds
-returns c = let a = c .before .ahead-of in utc (c .seconds .result) (c .seconds .ensures .1) (a .result) (record { sfits = a .ok }) (a .ensures .1) ∙ simp (c .seconds .ensures .0, a .ensures .0)
+returns c =
+    let a = c .before .ahead-of in
+    let s = c .seconds in (
+      utc (s .result) (s .ensures .1) (a .result) (record { sfits = a .ok }) (a .ensures .1) ∙ simp (s .ensures .0, a .ensures .0),
+      utc-small (s .result) (s .ensures .1) (a .result) (record { sfits = a .ok }) (a .ensures .1),
+    )
 
 pub to-utc-seconds-spec : {M : Type 1} → statement M
 to-utc-seconds-spec =

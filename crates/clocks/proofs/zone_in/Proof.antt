@@ -1,7 +1,7 @@
-use Rattle.timed.specs.Answers.{zoneIn}
+use Rattle.clocks.specs.Clocks.{zoneIn}
 use borrow.Author.Needs.{needs}
-use Rattle.timed.proofs.zone_in.Statement.{statement}
-use Rattle.timed.proofs.zone_in.Tie as tie
+use Rattle.clocks.proofs.zone_in.Statement.{statement}
+use Rattle.clocks.proofs.zone_in.Tie as tie
 
 enum-told : tie.Need-enum-told
 enum-told c = c .match .keys1

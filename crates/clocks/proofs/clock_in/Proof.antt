@@ -1,9 +1,9 @@
 use Rattle.dates.specs.Time.{inRange}
-use Rattle.timed.specs.Answers.{clockIn}
+use Rattle.clocks.specs.Clocks.{clockIn}
 use borrow.Author.Tests.{le-leb, lt-leb}
 use borrow.Author.Needs.{needs}
-use Rattle.timed.proofs.clock_in.Statement.{statement}
-use Rattle.timed.proofs.clock_in.Tie as tie
+use Rattle.clocks.proofs.clock_in.Statement.{statement}
+use Rattle.clocks.proofs.clock_in.Tie as tie
 
 zone-in-requires : tie.Need-zone-in-requires
 zone-in-requires c κs = search needs

@@ -1,6 +1,6 @@
-use Rattle.timed.specs.Answers.{onDay}
-use Rattle.timed.proofs.on_day.Statement.{statement}
-use Rattle.timed.proofs.on_day.Tie as tie
+use Rattle.clocks.specs.Clocks.{onDay}
+use Rattle.clocks.proofs.on_day.Statement.{statement}
+use Rattle.clocks.proofs.on_day.Tie as tie
 
 enum-told : tie.Need-enum-told
 enum-told c = c .match .keys1

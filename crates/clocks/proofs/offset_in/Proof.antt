@@ -1,7 +1,7 @@
-use Rattle.timed.specs.Answers.{offsetIn}
+use Rattle.clocks.specs.Clocks.{offsetIn}
 use borrow.Author.Tests.{le-leb, lt-leb}
-use Rattle.timed.proofs.offset_in.Statement.{statement}
-use Rattle.timed.proofs.offset_in.Tie as tie
+use Rattle.clocks.proofs.offset_in.Statement.{statement}
+use Rattle.clocks.proofs.offset_in.Tie as tie
 
 enum-told : tie.Need-enum-told
 enum-told c = c .match .keys1

@@ -1,7 +1,7 @@
-use Rattle.timed.specs.Answers.{endBad}
+use Rattle.clocks.specs.Clocks.{hasBadTime}
 use borrow.Author.Needs.{needs}
-use Rattle.timed.proofs.end_bad.Statement.{statement}
-use Rattle.timed.proofs.end_bad.Tie as tie
+use Rattle.clocks.proofs.has_bad_time.Statement.{statement}
+use Rattle.clocks.proofs.has_bad_time.Tie as tie
 
 on-day-requires : tie.Need-on-day-requires
 on-day-requires c κs = search needs
@@ -10,13 +10,13 @@ bad-time-requires : tie.Need-bad-time-requires
 bad-time-requires c κs = search needs
 
 returns : tie.Need-returns
-unfolding endBad
+unfolding hasBadTime
 returns c =
     let b1 = c .before in
     simp (← b1 .on-day .ensures, ← c .bad-time .ensures)
 
-pub end-bad-spec : {M : Type 1} → statement M
-end-bad-spec =
+pub has-bad-time-spec : {M : Type 1} → statement M
+has-bad-time-spec =
     tie.close
     (tie.spec
     on-day-requires

@@ -1,7 +1,7 @@
-use Rattle.timed.specs.Answers.{badTime}
+use Rattle.clocks.specs.Clocks.{badTime}
 use borrow.Author.Needs.{needs}
-use Rattle.timed.proofs.bad_time.Statement.{statement}
-use Rattle.timed.proofs.bad_time.Tie as tie
+use Rattle.clocks.proofs.bad_time.Statement.{statement}
+use Rattle.clocks.proofs.bad_time.Tie as tie
 
 enum-told : tie.Need-enum-told
 enum-told c = c .match .keys1

@@ -1,0 +1,92 @@
+-- Two broadcasts across midnight, and Datetimes that are no instants. Assumes nothing.
+use mathlib.Core.Path.{_≡_, refl, ap, _∙_}
+use mathlib.Core.Bool.{true, false}
+use mathlib.Core.List.{List, [], _∷_, map}
+use Prim.Native.Nat.{ℕ}
+use lib.IntN.{pos}
+use Rattle.chars.specs.Pick.{pick}
+use Rattle.refusals.specs.declared.Kind.{Kind}
+use Rattle.refusals.specs.declared.Kind.the-variants.{NotACalendarDate, BadTime, NoInstant}
+use Rattle.refusals.specs.Refusal.{fileSpan, refusal}
+use Rattle.dates.specs.declared.OptionMonth.the-variants.{NoMonth}
+use Rattle.dates.specs.declared.OptionDay.the-variants.{NoDay}
+use Rattle.dates.specs.declared.TimeOffset.the-variants.{Utc, Offset}
+use Rattle.dates.specs.declared.OptionOffset.{OptionOffset}
+use Rattle.dates.specs.declared.OptionOffset.the-variants.{NoOffset, SomeOffset}
+use Rattle.dates.specs.declared.OptionTime.{OptionTime}
+use Rattle.dates.specs.declared.OptionTime.the-variants.{NoTime, SomeTime}
+use Rattle.dates.specs.declared.Datetime.{Datetime}
+use Rattle.dates.specs.Calendar.{multiple, leapYear, february, monthLengths, monthLength}
+use Rattle.dates.specs.Value.{month, day, datetime}
+use Rattle.dates.specs.Time.{time, inRange, seconds, signed, offsetSeconds, aheadOf, utcSeconds}
+use Rattle.days.specs.Days.{total, yearLength}
+use Rattle.days.specs.Covered.{yearIn, notADate}
+use Rattle.days.specs.Counts.{counted, askedMonth, askedYear, asked, numbered, periodFrom}
+use Rattle.days.proofs.Counts.{answer}
+use Rattle.days.proofs.Engines.{byFormula, formula-covers}
+use Rattle.order.specs.declared.Order.the-variants.{Less, Greater}
+use Rattle.order.specs.Order as ported
+use Rattle.clocks.specs.Clocks.{offsetIn, zoneIn, clockIn, hasBadTime}
+use Rattle.clocks.specs.Clocks as clocks
+use Rattle.instants.specs.declared.Instant.{Instant}
+use Rattle.instants.specs.declared.Instant.the-variants.{Seconds}
+use Rattle.instants.specs.declared.Compared.the-variants.{Stands, Refused}
+use Rattle.instants.specs.Instants.{refused, secondsAt, onTime, onDay, onCovered, instantOf, both, compared}
+
+abbrev at : ℕ → ℕ → ℕ → OptionOffset → OptionTime
+at h m s o = SomeTime (time h m s o)
+
+-- the last hour of a day in UTC, and half past ten of it, as a clock two hours ahead shows it on the next day
+abbrev pub late : Datetime
+late = datetime (pos 2000) (month 0) (day 0) (at 23 0 0 (SomeOffset Utc))
+
+abbrev pub ahead : Datetime
+ahead = datetime (pos 2000) (month 0) (day 1) (at 0 30 0 (SomeOffset (Offset true 2 0)))
+
+-- by the formula, which is quicker to compute than the sum of the months
+counting : (d : Datetime) → instantOf d ≡ onCovered d (answer byFormula (asked d))
+unfolding instantOf
+counting d = rw (formula-covers d)
+
+late-is : instantOf late ≡ Seconds (pos 63113986800)
+unfolding asked askedYear askedMonth yearIn counted yearLength total numbered periodFrom notADate multiple leapYear february monthLengths monthLength pick refused secondsAt onTime onDay onCovered inRange seconds signed offsetSeconds aheadOf utcSeconds offsetIn zoneIn clockIn clocks.onDay clocks.badTime hasBadTime
+late-is = counting late ∙ refl
+
+ahead-is : instantOf ahead ≡ Seconds (pos 63113985000)
+unfolding asked askedYear askedMonth yearIn counted yearLength total numbered periodFrom notADate multiple leapYear february monthLengths monthLength pick refused secondsAt onTime onDay onCovered inRange seconds signed offsetSeconds aheadOf utcSeconds offsetIn zoneIn clockIn clocks.onDay clocks.badTime hasBadTime
+ahead-is = counting ahead ∙ refl
+
+-- the second is before the first, by half an hour; the ported order, which looks at the stored days first, has it behind
+pub across-midnight : (compared late ahead ≡ Stands Greater) × (ported.order late ahead ≡ Less)
+unfolding compared both ported.order ported.number ported.inTurn ported.fromMonth ported.both ported.monthOf ported.fromDay ported.dayOf pick
+across-midnight = (rw (late-is, ahead-is), refl)
+
+-- what is no instant, and why
+pub record Example : Type 0 where
+  pub of : Datetime
+  pub why : Kind
+
+abbrev pub examples : List Example
+examples =
+    record { of = datetime (pos 2000) NoMonth NoDay NoTime; why = NoInstant }
+    ∷ record { of = datetime (pos 2000) (month 0) (day 0) NoTime; why = NoInstant }
+    ∷ record { of = datetime (pos 2000) (month 0) (day 0) (at 10 20 30 NoOffset); why = NoInstant }
+    ∷ record { of = datetime (pos 2000) (month 0) NoDay (at 10 20 30 (SomeOffset Utc)); why = BadTime }
+    ∷ record { of = datetime (pos 2000) (month 0) (day 0) (at 24 0 0 NoOffset); why = BadTime }
+    ∷ record { of = datetime (pos 2000) (month 0) (day 0) (at 10 20 30 (SomeOffset (Offset false 24 0))); why = BadTime }
+    ∷ record { of = datetime (pos 2000) (month 12) (day 0) (at 24 0 0 NoOffset); why = NotACalendarDate }
+    ∷ record { of = datetime (pos 10000) (month 0) (day 0) (at 10 20 30 (SomeOffset Utc)); why = NotACalendarDate }
+    ∷ []
+
+all-counted : (l : List Example) → map (λ (e : Example). instantOf (e .of)) l ≡ map (λ (e : Example). onCovered (e .of) (answer byFormula (asked (e .of)))) l
+all-counted [] = refl
+all-counted (e ∷ l) = rw (counting (e .of), all-counted l)
+
+pub all-refused : map (λ (e : Example). instantOf (e .of)) examples ≡ map (λ (e : Example). refused (e .why)) examples
+unfolding asked askedYear askedMonth yearIn counted yearLength total numbered periodFrom notADate multiple leapYear february monthLengths monthLength pick refused secondsAt onTime onDay onCovered inRange seconds signed offsetSeconds aheadOf utcSeconds offsetIn zoneIn clockIn clocks.onDay clocks.badTime hasBadTime
+all-refused = all-counted examples ∙ refl
+
+-- all about the first operand comes before the second
+pub first-first : compared (datetime (pos 2000) NoMonth NoDay NoTime) (datetime (pos 10000) NoMonth NoDay NoTime) ≡ Refused (refusal NoInstant (fileSpan 0 0))
+unfolding asked askedYear askedMonth yearIn counted yearLength total numbered periodFrom notADate multiple leapYear february monthLengths monthLength pick refused secondsAt onTime onDay onCovered inRange seconds signed offsetSeconds aheadOf utcSeconds offsetIn zoneIn clockIn clocks.onDay clocks.badTime hasBadTime compared both
+first-first = ap (λ (i : Instant). both i (instantOf (datetime (pos 10000) NoMonth NoDay NoTime))) (counting (datetime (pos 2000) NoMonth NoDay NoTime)) ∙ refl

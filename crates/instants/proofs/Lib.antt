@@ -1,0 +1,4 @@
+pub mod Sums
+pub mod Shift
+pub mod Theorems
+pub mod Examples

@@ -1,0 +1,62 @@
+-- Instants: the day's number times 86,400 plus the time's seconds in UTC; and their order.
+use lib.IntN.{ℤ, pos, _+ℤ_, _*ℤ_}
+use Rattle.chars.specs.Pick.{pick}
+use Rattle.refusals.specs.declared.Kind.{Kind}
+use Rattle.refusals.specs.declared.Kind.the-variants.{BadTime, NoInstant}
+use Rattle.refusals.specs.Refusal.{fileSpan, refusal}
+use Rattle.dates.specs.declared.OptionDay.{OptionDay}
+use Rattle.dates.specs.declared.OptionDay.the-variants.{NoDay, SomeDay}
+use Rattle.dates.specs.declared.OptionOffset.{OptionOffset}
+use Rattle.dates.specs.declared.OptionOffset.the-variants.{NoOffset, SomeOffset}
+use Rattle.dates.specs.declared.Time.{Time}
+use Rattle.dates.specs.declared.OptionTime.{OptionTime}
+use Rattle.dates.specs.declared.OptionTime.the-variants.{NoTime, SomeTime}
+use Rattle.dates.specs.declared.Datetime.{Datetime}
+use Rattle.dates.specs.Time.{utcSeconds}
+use Rattle.days.specs.declared.Covered.{Covered}
+use Rattle.days.specs.declared.Covered.the-variants.{Days, Refused as NoDays}
+use Rattle.days.specs.Covered.{covered}
+use Rattle.order.specs.Order.{number}
+use Rattle.clocks.specs.Clocks.{hasBadTime}
+use Rattle.instants.specs.declared.Instant.{Instant}
+use Rattle.instants.specs.declared.Instant.the-variants.{Seconds, NoSeconds}
+use Rattle.instants.specs.declared.Compared.{Compared}
+use Rattle.instants.specs.declared.Compared.the-variants.{Stands, Refused}
+
+-- a refusal names no place
+unfoldable pub refused : Kind → Instant
+refused k = NoSeconds (refusal k (fileSpan 0 0))
+
+-- the seconds of a time on a day, from the start of day 0 in UTC
+unfoldable pub secondsAt : ℤ → Time → ℤ
+secondsAt day t = day *ℤ pos 86400 +ℤ utcSeconds t
+
+-- a time without an offset is no instant
+unfoldable pub onTime : ℤ → Time → OptionOffset → Instant
+onTime day t NoOffset = refused NoInstant
+onTime day t (SomeOffset o) = Seconds (secondsAt day t)
+
+-- nor is a date without a day, or without a time
+unfoldable pub onDay : ℤ → OptionDay → OptionTime → Instant
+onDay first NoDay time = refused NoInstant
+onDay first (SomeDay d) NoTime = refused NoInstant
+onDay first (SomeDay d) (SomeTime t) = onTime first t (t .offset)
+
+-- a date of the calendar, with no bad time
+unfoldable pub onCovered : Datetime → Covered → Instant
+onCovered d (Days p) = pick (hasBadTime d) (refused BadTime) (onDay (p .first) (d .day) (d .time))
+onCovered d (NoDays e) = NoSeconds e
+
+-- the instant of a Datetime
+unfoldable pub instantOf : Datetime → Instant
+instantOf d = onCovered d (covered d)
+
+-- two instants; all about the first comes before the second
+unfoldable pub both : Instant → Instant → Compared
+both (NoSeconds e) j = Refused e
+both (Seconds x) (NoSeconds e) = Refused e
+both (Seconds x) (Seconds y) = Stands (number x y)
+
+-- how the first stands to the second
+unfoldable pub compared : Datetime → Datetime → Compared
+compared a b = both (instantOf a) (instantOf b)
