@@ -46,8 +46,13 @@ enum {
     KNOBSTREAM_BAD_CHUNKS = 15,           /* the table does not fit the bytes */
     KNOBSTREAM_TOO_LONG = 16,             /* over 64 chunks or 4,096 bytes */
     KNOBSTREAM_NOT_A_CALENDAR_DATE = 17,  /* no date of the years -9999 to 9999 */
+    KNOBSTREAM_BAD_PERIOD = 18,           /* last day before the first, or none of those years */
+    KNOBSTREAM_DUPLICATE_ENTRY = 19,      /* the identifier is in the chronology */
+    KNOBSTREAM_CHRONOLOGY_FULL = 20,      /* 512 entries */
+    KNOBSTREAM_UNKNOWN_ENTRY = 21,        /* the identifier is not in the chronology */
     KNOBSTREAM_BAD_TIME = 22,             /* no time of a clock, or without a day */
-    KNOBSTREAM_NO_INSTANT = 25            /* no day, no time or no offset */
+    KNOBSTREAM_NO_INSTANT = 25,           /* no day, no time or no offset */
+    KNOBSTREAM_BAD_CHRONOLOGY = 26        /* what was lent is no chronology */
 };
 
 /* The name of a refusal; "" for a number that is none. */
@@ -72,14 +77,15 @@ static inline const char *knobstream_refusal_name(unsigned refusal)
         "BadChunks",
         "TooLong",
         "NotACalendarDate",
-        "",
-        "",
-        "",
-        "",
+        "BadPeriod",
+        "DuplicateEntry",
+        "ChronologyFull",
+        "UnknownEntry",
         "BadTime",
         "",
         "",
         "NoInstant",
+        "BadChronology",
     };
     return refusal < sizeof names / sizeof *names ? names[refusal] : "";
 }

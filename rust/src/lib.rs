@@ -214,10 +214,20 @@ pub enum TypeErrorKind {
     TooLong = 16,
     /// Not a year, month or day of the calendar, or outside the years -9999 to 9999. No place.
     NotACalendarDate = 17,
+    /// The last day is before the first, or a day is outside the years -9999 to 9999. No place.
+    BadPeriod = 18,
+    /// The identifier is in the chronology. No place.
+    DuplicateEntry = 19,
+    /// The chronology has 512 entries. No place.
+    ChronologyFull = 20,
+    /// The identifier is not in the chronology. No place.
+    UnknownEntry = 21,
     /// A time without a day beside a month, or with a part or an offset out of range. No place.
     BadTime = 22,
     /// The day, the time or its offset is absent, so there is no instant. No place.
     NoInstant = 25,
+    /// What was lent is no chronology. No place.
+    BadChronology = 26,
 }
 
 impl TypeErrorKind {
@@ -240,8 +250,13 @@ impl TypeErrorKind {
             15 => Self::BadChunks,
             16 => Self::TooLong,
             17 => Self::NotACalendarDate,
+            18 => Self::BadPeriod,
+            19 => Self::DuplicateEntry,
+            20 => Self::ChronologyFull,
+            21 => Self::UnknownEntry,
             22 => Self::BadTime,
             25 => Self::NoInstant,
+            26 => Self::BadChronology,
             _ => unreachable!("the library has no refusal {number}"),
         }
     }
@@ -262,8 +277,13 @@ impl TypeErrorKind {
                 | Self::BadChunks
                 | Self::TooLong
                 | Self::NotACalendarDate
+                | Self::BadPeriod
+                | Self::DuplicateEntry
+                | Self::ChronologyFull
+                | Self::UnknownEntry
                 | Self::BadTime
                 | Self::NoInstant
+                | Self::BadChronology
         )
     }
 }
@@ -288,8 +308,13 @@ impl Display for TypeErrorKind {
             Self::BadChunks => "chunks do not fit the text",
             Self::TooLong => "more than 64 chunks or 4,096 bytes",
             Self::NotACalendarDate => "not a date of the calendar from -9999 to 9999",
+            Self::BadPeriod => "not a period of the calendar from -9999 to 9999",
+            Self::DuplicateEntry => "the identifier is in the chronology",
+            Self::ChronologyFull => "the chronology has 512 entries",
+            Self::UnknownEntry => "the identifier is not in the chronology",
             Self::BadTime => "not a time of a day",
             Self::NoInstant => "no day, no time or no offset",
+            Self::BadChronology => "not a chronology",
         })
     }
 }

@@ -3,7 +3,7 @@ use Prim.Native.Nat.{ℕ}
 use mathlib.Core.Bool.{Bool, true, false}
 use Rattle.chars.specs.Pick.{pick}
 use Rattle.refusals.specs.declared.Kind.{Kind}
-use Rattle.refusals.specs.declared.Kind.the-variants.{UndefinedRange, DayOutOfRange, MonthOutOfRange, InvalidNumber, MissingNumber, WrongNumberOfDigits, InvalidFormat, YearZeroCE, RustPanics, BadUtf8, UnsupportedChar, NotStrict, NoRoom, BadFrame, BadChunks, TooLong, NotACalendarDate, BadTime, NoInstant}
+use Rattle.refusals.specs.declared.Kind.the-variants.{UndefinedRange, DayOutOfRange, MonthOutOfRange, InvalidNumber, MissingNumber, WrongNumberOfDigits, InvalidFormat, YearZeroCE, RustPanics, BadUtf8, UnsupportedChar, NotStrict, NoRoom, BadFrame, BadChunks, TooLong, NotACalendarDate, BadPeriod, DuplicateEntry, ChronologyFull, UnknownEntry, BadTime, NoInstant, BadChronology}
 use Rattle.refusals.specs.declared.FileSpan.{FileSpan}
 use Rattle.refusals.specs.declared.Refusal.{Refusal}
 
@@ -26,8 +26,13 @@ number BadFrame = 14
 number BadChunks = 15
 number TooLong = 16
 number NotACalendarDate = 17
+number BadPeriod = 18
+number DuplicateEntry = 19
+number ChronologyFull = 20
+number UnknownEntry = 21
 number BadTime = 22
 number NoInstant = 25
+number BadChronology = 26
 
 -- whether a refusal names a place; where it does not, its place is 0, 0
 abbrev pub hasPlace : Kind → Bool
@@ -48,8 +53,13 @@ hasPlace BadFrame = false
 hasPlace BadChunks = false
 hasPlace TooLong = false
 hasPlace NotACalendarDate = false
+hasPlace BadPeriod = false
+hasPlace DuplicateEntry = false
+hasPlace ChronologyFull = false
+hasPlace UnknownEntry = false
 hasPlace BadTime = false
 hasPlace NoInstant = false
+hasPlace BadChronology = false
 
 -- a place in the file, from a byte to another
 abbrev pub fileSpan : ℕ → ℕ → FileSpan

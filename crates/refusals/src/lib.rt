@@ -41,10 +41,20 @@ pub enum Kind {
     TooLong,
     // No year, month or day of the calendar from -9999 to 9999.
     NotACalendarDate,
+    // The last day is before the first, or a day outside the calendar from -9999 to 9999.
+    BadPeriod,
+    // The chronology has an entry of this identifier.
+    DuplicateEntry,
+    // The chronology has as many entries as it keeps.
+    ChronologyFull,
+    // The chronology has no entry of this identifier.
+    UnknownEntry,
     // A time without a day beside a month, or one that no clock shows, or whose offset none has.
     BadTime,
     // A day, a time or its offset is absent, so there is no instant.
     NoInstant,
+    // What was lent is no chronology.
+    BadChronology,
 }
 
 // A place in the file, from a byte to another.
@@ -104,8 +114,13 @@ pub fn number(kind: Kind) -> u8
         Kind::BadChunks => 15,
         Kind::TooLong => 16,
         Kind::NotACalendarDate => 17,
+        Kind::BadPeriod => 18,
+        Kind::DuplicateEntry => 19,
+        Kind::ChronologyFull => 20,
+        Kind::UnknownEntry => 21,
         Kind::BadTime => 22,
         Kind::NoInstant => 25,
+        Kind::BadChronology => 26,
     }
 }
 

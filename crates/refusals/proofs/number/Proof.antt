@@ -59,6 +59,21 @@ enum-told-18 c = c .match .keys18
 enum-told-19 : tie.Need-enum-told-19
 enum-told-19 c = c .match .keys19
 
+enum-told-20 : tie.Need-enum-told-20
+enum-told-20 c = c .match .keys20
+
+enum-told-21 : tie.Need-enum-told-21
+enum-told-21 c = c .match .keys21
+
+enum-told-22 : tie.Need-enum-told-22
+enum-told-22 c = c .match .keys22
+
+enum-told-23 : tie.Need-enum-told-23
+enum-told-23 c = c .match .keys23
+
+enum-told-24 : tie.Need-enum-told-24
+enum-told-24 c = c .match .keys24
+
 returns : tie.Need-returns
 returns c = simp (c .enum-told .given .1)
 
@@ -116,6 +131,21 @@ returns-18 c = simp (c .enum-told18 .given .1)
 returns-19 : tie.Need-returns-19
 returns-19 c = simp (c .enum-told19 .given .1)
 
+returns-20 : tie.Need-returns-20
+returns-20 c = simp (c .enum-told20 .given .1)
+
+returns-21 : tie.Need-returns-21
+returns-21 c = simp (c .enum-told21 .given .1)
+
+returns-22 : tie.Need-returns-22
+returns-22 c = simp (c .enum-told22 .given .1)
+
+returns-23 : tie.Need-returns-23
+returns-23 c = simp (c .enum-told23 .given .1)
+
+returns-24 : tie.Need-returns-24
+returns-24 c = simp (c .enum-told24 .given .1)
+
 pub number-spec : {M : Type 1} → statement M
 number-spec =
     tie.close
@@ -139,6 +169,11 @@ number-spec =
     enum-told-17
     enum-told-18
     enum-told-19
+    enum-told-20
+    enum-told-21
+    enum-told-22
+    enum-told-23
+    enum-told-24
     returns
     returns-2
     returns-3
@@ -157,4 +192,9 @@ number-spec =
     returns-16
     returns-17
     returns-18
-    returns-19)
+    returns-19
+    returns-20
+    returns-21
+    returns-22
+    returns-23
+    returns-24)

@@ -1,0 +1,9 @@
+pub mod Tests
+pub mod Days
+pub mod Columns
+pub mod Shift
+pub mod Answers
+pub mod Order
+pub mod Contents
+pub mod Theorems
+pub mod Examples

@@ -1,0 +1,62 @@
+use lib.ListN.{take, drop}
+use native.Mathlib.Omega.{arith}
+use Prim.Native.Nat.{_+_, _-_, _≤_}
+use mathlib.Core.Path.{_≡_, refl, sym, _∙_}
+use Rattle.chronology.specs.Store.{placeOf}
+use Rattle.chronology.proofs.Columns.{found, passed, missing}
+use Rattle.chronology.proofs.find.Statement.{statement}
+use Rattle.chronology.proofs.find.Tie as tie
+
+abbrev Inv-loop : tie.InvT-loop
+Inv-loop ids from count id i₀ i = (from + placeOf id (drop from (take count ids)) ≡ i + placeOf id (drop i (take count ids))) × (i ≤ count)
+
+abbrev μ-loop : tie.MeasureT-loop
+μ-loop ids from count id i₀ i = count - i
+
+loop-holds : tie.Need-loop-holds Inv-loop μ-loop
+loop-holds c = (refl, c .pre .0)
+
+mul-if1 : tie.Need-mul-if1 Inv-loop μ-loop
+mul-if1 c = omega (arith, c .before .before .pre .1, c .before .before .good)
+
+shared-slice-read-if1 : tie.Need-shared-slice-read-if1 Inv-loop μ-loop
+shared-slice-read-if1 c = omega (arith, c .before .before .before .pre .1)
+
+returns : tie.Need-returns Inv-loop μ-loop
+returns c =
+    let s = c .before .before .before .before in
+    let l = c .before .before .before .loop in
+    (found (s .args .ids .now) (s .args .count) (l .i) (s .args .id) (c .before .before .loop-test .taken) (s .pre .1) (c .if1 .taken) ∙ sym (l .inv .0), l .inv .1)
+
+add-i : tie.Need-add-i Inv-loop μ-loop
+add-i c = omega (arith, c .before .before .loop-test .taken, c .before .before .before .before .good)
+
+loop-less : tie.Need-loop-less Inv-loop μ-loop
+loop-less c = omega arith
+
+loop-again : tie.Need-loop-again Inv-loop μ-loop
+loop-again c =
+    let s = c .before .before .before .before in
+    let l = c .before .before .before .loop in
+    (l .inv .0 ∙ passed (s .args .ids .now) (s .args .count) (l .i) (s .args .id) (c .before .before .loop-test .taken) (s .pre .1) (c .if1 .left), omega arith)
+
+returns-2 : tie.Need-returns-2 Inv-loop μ-loop
+returns-2 c =
+    let s = c .before .before in
+    let l = c .before .loop in
+    (missing (s .args .ids .now) (s .args .count) (l .i) (s .args .id) (c .loop-test .left) (s .pre .1) ∙ sym (l .inv .0), l .inv .1)
+
+pub find-spec : {M : Type 1} → statement M
+find-spec =
+    tie.close
+    (tie.spec
+    Inv-loop
+    μ-loop
+    loop-holds
+    mul-if1
+    shared-slice-read-if1
+    returns
+    add-i
+    loop-less
+    loop-again
+    returns-2)

@@ -1,0 +1,71 @@
+use borrow.Author.Needs.{needs}
+use borrow.Author.Tests.{not-true, not-false}
+use lib.ListN.{drop}
+use native.Mathlib.Omega.{arith}
+use native.Mathlib.Nat.{zero-add}
+use Prim.Native.Nat.{_+_, _-_, _≤_}
+use mathlib.Core.Path.{_≡_, sym, _∙_}
+use Rattle.chronology.specs.Store as spec
+use Rattle.chronology.specs.Store.{store, contents}
+use Rattle.chronology.proofs.Columns.{room, rank-found, rank-passed, rank-end}
+use Rattle.chronology.proofs.rank.Statement.{statement}
+use Rattle.chronology.proofs.rank.Tie as tie
+
+abbrev Inv-loop : tie.InvT-loop
+Inv-loop firsts lasts ids count e i₀ i = (spec.rank e (contents (store count firsts lasts ids)) ≡ i + spec.rank e (drop i (contents (store count firsts lasts ids)))) × (i ≤ count)
+
+abbrev μ-loop : tie.MeasureT-loop
+μ-loop firsts lasts ids count e i₀ i = count - i
+
+loop-holds : tie.Need-loop-holds Inv-loop μ-loop
+loop-holds c = (sym (zero-add _), omega arith)
+
+entry-at-requires : tie.Need-entry-at-requires Inv-loop μ-loop
+entry-at-requires c κs =
+    let s = c .before .before .before .before .before in
+    let r = room _ (s .pre) in
+    (omega (arith, r .few, r .of-firsts), omega (arith, r .few, r .of-lasts), omega (arith, r .few, r .of-ids))
+
+precedes-requires : tie.Need-precedes-requires Inv-loop μ-loop
+precedes-requires c κs = search needs
+
+returns : tie.Need-returns Inv-loop μ-loop
+returns c =
+    let s = c .before .before .before .before .before .before .before .before in
+    let l = c .before .before .before .before .loop in
+    let b = c .before in
+    (rank-found _ (room _ (s .pre)) (l .i) (s .args .e) (c .before .before .before .loop-test .taken) (b .before .entry-at .ensures) (sym (b .precedes .ensures) ∙ not-true _ (c .if1 .taken)) ∙ sym (l .inv .0), l .inv .1)
+
+add-i : tie.Need-add-i Inv-loop μ-loop
+add-i c = omega (arith, c .before .before .before .loop-test .taken, c .before .before .before .before .before .before .before .before .good)
+
+loop-less : tie.Need-loop-less Inv-loop μ-loop
+loop-less c = omega arith
+
+loop-again : tie.Need-loop-again Inv-loop μ-loop
+loop-again c =
+    let s = c .before .before .before .before .before .before .before .before in
+    let l = c .before .before .before .before .loop in
+    let b = c .before in
+    (l .inv .0 ∙ rank-passed _ (room _ (s .pre)) (l .i) (s .args .e) (c .before .before .before .loop-test .taken) (b .before .entry-at .ensures) (sym (b .precedes .ensures) ∙ not-false _ (c .if1 .left)), omega arith)
+
+returns-2 : tie.Need-returns-2 Inv-loop μ-loop
+returns-2 c =
+    let s = c .before .before .before .before .before in
+    let l = c .before .loop in
+    (rank-end _ (room _ (s .pre)) (l .i) (s .args .e) (c .loop-test .left) ∙ sym (l .inv .0), l .inv .1)
+
+pub rank-spec : {M : Type 1} → statement M
+rank-spec =
+    tie.close
+    (tie.spec
+    Inv-loop
+    μ-loop
+    loop-holds
+    entry-at-requires
+    precedes-requires
+    returns
+    add-i
+    loop-less
+    loop-again
+    returns-2)

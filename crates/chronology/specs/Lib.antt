@@ -1,0 +1,4 @@
+pub mod Entries
+pub mod Store
+pub mod Calls
+pub mod History
