@@ -1,5 +1,6 @@
 -- Worked examples: calls from an empty start, and what is refused. Assumes nothing.
 use mathlib.Core.Path.{_≡_, refl}
+use mathlib.Core.Bool.{true, false}
 use mathlib.Core.List.{List, [], _∷_, map}
 use Prim.Native.Nat.{ℕ}
 use lib.IntN.{pos, negsuc}
@@ -9,10 +10,13 @@ use Rattle.refusals.specs.declared.Kind.the-variants.{NoRoom, BadPeriod, Duplic
 use Rattle.days.specs.Covered.{period}
 use Rattle.days.specs.Counts.{numbered}
 use Rattle.chronology.specs.declared.Answer.{Answer}
+use Rattle.chronology.specs.declared.Reply.{Reply}
+use Rattle.chronology.specs.declared.Reply.the-variants.{Told}
 use Rattle.chronology.specs.declared.Answer.the-variants.{Entries}
 use Rattle.chronology.specs.Entries.{precedes, inSpan, goodPeriod, counted, entryOf, periodOf, goodDays, idsOf, among, has, beforeNext, keptFirst, wellKept, listed}
 use Rattle.chronology.specs.Store.{Store, store, rows, contents, inRoom, sound, placeOf, rank, inserted, removed}
 use Rattle.chronology.specs.Calls.{refused, accepted, countAnswer, addAnswer, removeAnswer, listAnswer, withEntry, withoutAt, afterAdd, afterRemove}
+use Rattle.chronology.specs.Asked.{beginsAfter, touches, anyTouches, stops, firstWhere, stopAt, entriesRead, untold, reply}
 use Rattle.chronology.specs.History.{adds, removes, afterCall, afterCalls}
 
 -- columns of 512 numbers that begin with those given
@@ -71,3 +75,22 @@ bad =
 pub all-bad : map countAnswer bad ≡ replicate 7 (refused BadChronology)
 unfolding bad kept column contents rows numbered precedes goodPeriod inSpan has among idsOf sound inRoom wellKept keptFirst beforeNext goodDays periodOf pick countAnswer
 all-bad = refl
+
+-- whether anything is dated in a period, and how many entries are read: before all, at the first, from its last day on, behind all, at the
+-- second; of no entries; a bad period; no chronology
+pub replies : List Reply
+replies =
+    reply three (period (negsuc 9) (negsuc 3))
+    ∷ reply three (period (negsuc 9) (negsuc 2))
+    ∷ reply three (period (pos 10) (pos 12))
+    ∷ reply three (period (pos 11) (pos 12))
+    ∷ reply (kept 2 (400 ∷ 500 ∷ []) (400 ∷ 500 ∷ []) (1 ∷ 2 ∷ [])) (period (numbered 450) (numbered 600))
+    ∷ reply (kept 2 (400 ∷ 500 ∷ []) (400 ∷ 500 ∷ []) (1 ∷ 2 ∷ [])) (period (numbered 450) (numbered 499))
+    ∷ reply (kept 0 [] [] []) (period (pos 0) (pos 0))
+    ∷ reply three (period (pos 6) (pos 5))
+    ∷ reply (kept 513 [] [] []) (period (pos 6) (pos 5))
+    ∷ []
+
+pub replied : replies ≡ Told false 1 ∷ Told true 1 ∷ Told true 1 ∷ Told false 3 ∷ Told true 2 ∷ Told false 2 ∷ Told false 0 ∷ untold BadPeriod ∷ untold BadChronology ∷ []
+unfolding replies reply untold entriesRead stopAt firstWhere stops anyTouches touches beginsAfter three kept column contents rows numbered afterCalls afterCall afterAdd accepted addAnswer withEntry inserted rank precedes entryOf counted goodPeriod inSpan has among idsOf sound inRoom wellKept keptFirst beforeNext goodDays periodOf pick
+replied = refl

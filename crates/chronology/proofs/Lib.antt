@@ -7,3 +7,4 @@ pub mod Order
 pub mod Contents
 pub mod Theorems
 pub mod Examples
+pub mod Asked

@@ -11,6 +11,7 @@ ghost use Rattle.chronology.specs.Entries as entries;
 ghost use Rattle.chronology.specs.Store as spec;
 ghost use Rattle.chronology.specs.Store.{store};
 ghost use Rattle.chronology.specs.Calls as calls;
+ghost use Rattle.chronology.specs.Asked as asked;
 use days::Period;
 use refusals::FileSpan;
 use refusals::Kind;
@@ -29,6 +30,13 @@ pub enum Answer {
     // So many entries: those that there are now, or that were listed.
     Entries(usize),
     Refused(Refusal),
+}
+
+// What is answered to the question whether anything is dated in a period.
+pub enum Reply {
+    // Whether an entry touches the period, and how many entries were read to tell.
+    Told { found: bool, read: usize },
+    Untold(Refusal),
 }
 
 // ---- refusals
@@ -411,4 +419,82 @@ pub fn list(firsts: &[u32], lasts: &[u32], ids: &[u32], count: usize, out: &mut 
         }
         Answer::Refused(e) => Answer::Refused(e),
     }
+}
+
+// ---- is anything dated in a period
+
+// The refusal of the question.
+fn untold(kind: Kind) -> Reply
+    ensures { λ r. ⌜ r ≡ asked.untold kind ⌝ }
+{
+    Reply::Untold(refuse(kind, FileSpan(0, 0)))
+}
+
+// Whether two entries share a day.
+fn shares(q: Entry, e: Entry) -> bool
+    ensures { λ r. ⌜ r ≡ asked.shares q e ⌝ }
+{
+    if q.last < e.first {
+        return false;
+    }
+    q.first <= e.last
+}
+
+// Whether a walk for q stops at an entry: it shares a day with q, or begins after it.
+fn halts(q: Entry, e: Entry) -> bool
+    ensures { λ r. ⌜ r ≡ asked.halts q e ⌝ }
+{
+    if q.last < e.first {
+        return true;
+    }
+    q.first <= e.last
+}
+
+// The place of the first entry at which a walk for q stops; the count if there is none.
+fn halt_at(firsts: &[u32], lasts: &[u32], ids: &[u32], count: usize, q: Entry) -> usize
+    requires { ⌜ spec.inRoom (store count (now firsts) (now lasts) (now ids)) ≡ true ⌝ }
+    ensures { λ r. ⌜ (r ≡ asked.haltAt q (spec.contents (store count (now (firsts .entry)) (now (lasts .entry)) (now (ids .entry))))) × (r ≤ count) ⌝ }
+{
+    let mut i = 0;
+    while i < count {
+        let x = entry_at(firsts, lasts, ids, i);
+        if halts(q, x) {
+            return i;
+        }
+        i += 1;
+    }
+    i
+}
+
+// The walk: the entry at which it stops decides, and none behind it is read.
+fn walk(firsts: &[u32], lasts: &[u32], ids: &[u32], count: usize, q: Entry) -> Reply
+    requires { ⌜ spec.inRoom (store count (now firsts) (now lasts) (now ids)) ≡ true ⌝ }
+    ensures { λ r. ⌜ r ≡ asked.walked q (store count (now (firsts .entry)) (now (lasts .entry)) (now (ids .entry))) ⌝ }
+{
+    let at = halt_at(firsts, lasts, ids, count, q);
+    if at < count {
+        let e = entry_at(firsts, lasts, ids, at);
+        return Reply::Told {
+            found: shares(q, e),
+            read: at + 1,
+        };
+    }
+    Reply::Told {
+        found: false,
+        read: count,
+    }
+}
+
+// Whether anything is dated in a period, and how many entries were read to tell.
+pub fn any_dated(firsts: &[u32], lasts: &[u32], ids: &[u32], count: usize, period: Period) -> Reply
+    ensures { λ r. ⌜ r ≡ asked.reply (store count (now (firsts .entry)) (now (lasts .entry)) (now (ids .entry))) period ⌝ }
+{
+    if !sound(firsts, lasts, ids, count) {
+        return untold(Kind::BadChronology);
+    }
+    if !good_period(period) {
+        return untold(Kind::BadPeriod);
+    }
+    let q = entry_of(period, 0);
+    walk(firsts, lasts, ids, count, q)
 }
