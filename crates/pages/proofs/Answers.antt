@@ -1,0 +1,78 @@
+-- What an answer says of the pieces and of the lent table; and a number by its run. Assumes nothing.
+use mathlib.Core.Path.{_≡_, refl, sym, ap, _∙_}
+use mathlib.Core.Bool.{Bool, true, false, false≢true}
+use mathlib.Core.List.{List}
+use Prim.Native.Nat.{ℕ, _*_, _≤_, _<_}
+use borrow.Author.Tests.{le-leb, lt-leb, leb-true}
+use lib.Dec.{leb}
+use lib.ListN.{length}
+use Rattle.chars.specs.Pick.{pick}
+use Rattle.chars.proofs.Cases.{of-test}
+use Rattle.scanner.specs.declared.Run.{Run}
+use Rattle.scanner.specs.declared.Class.the-variants.{AsciiDigit}
+use Rattle.scanner.specs.Scan.{part, nextRun}
+use Rattle.strs.specs.declared.ParsedNumber.{ParsedNumber}
+use Rattle.strs.specs.declared.ParsedNumber.the-variants.{Value, NoValue}
+use Rattle.strs.specs.Parse.{parse}
+use Rattle.refusals.specs.declared.Refusal.{Refusal}
+use Rattle.refusals.specs.declared.Kind.the-variants.{TooLong, BadChunks, NoRoom}
+use Rattle.pages.specs.declared.ReadNumber.{ReadNumber}
+use Rattle.pages.specs.declared.ReadNumber.the-variants.{NumberIs, NoNumber}
+use Rattle.pages.specs.declared.Answer.{Answer}
+use Rattle.pages.specs.declared.Answer.the-variants.{Ranges, Refused}
+use Rattle.pages.specs.Piece.{noNumber, numbered, numberOf, numberAt}
+use Rattle.pages.specs.Pieces.{addsUp, judged, refused, answer, put, stored, afterwards}
+
+module _ (s : List ℕ) (start at : ℕ) {run : Run} {t : List ℕ} {p : ParsedNumber} (r : run ≡ nextRun AsciiDigit s at) (f : t ≡ part s (run .start .0) (run .end .0)) (q : p ≡ parse 4294967295 t) where
+  by-run : numbered start run p ≡ numberAt s start at
+  unfolding numberAt numberOf
+  by-run = rw (q, f) (ap (λ (x : Run). numbered start x (parse 4294967295 (part s (x .start .0) (x .end .0)))) r)
+
+  pub is-number : {v : ℕ} → p ≡ Value v → NumberIs v (run .end) ≡ numberAt s start at
+  unfolding numbered
+  is-number e = sym (ap (numbered start run) e) ∙ by-run
+
+  pub is-none : {e : Refusal} → p ≡ NoValue → e ≡ noNumber start (run .start .0) (run .end .0) → NoNumber e ≡ numberAt s start at
+  unfolding numbered
+  is-none e g = ap NoNumber g ∙ sym (ap (numbered start run) e) ∙ by-run
+
+abbrev isRanges : Answer → Bool
+isRanges (Ranges n) = true
+isRanges (Refused e) = false
+
+-- an answer that counts ranges: all adds up, and there is room
+pub says : (b t cs : List ℕ) (room : ℕ) {n : ℕ} → answer b t cs room ≡ Ranges n → (addsUp b t cs ≡ true) × (2 * length cs ≤ room)
+unfolding answer refused pick
+says b t cs room e =
+    of-test (leb (length cs) 64)
+    (λ p. of-test (addsUp b t cs)
+    (λ q. of-test (leb (2 * length cs) room) (λ r. (q, leb-true (2 * length cs) room r)) (λ r. absurd (false≢true (ap isRanges (rw (p, q, r) at e)))))
+    (λ q. absurd (false≢true (ap isRanges (rw (p, q) at e)))))
+    (λ p. absurd (false≢true (ap isRanges (rw p at e))))
+
+pub leaves : (b t cs out : List ℕ) {n : ℕ} {new : List ℕ} → answer b t cs (length out) ≡ Ranges n → new ≡ put 0 b t cs out → new ≡ afterwards b t cs out
+unfolding afterwards stored
+leaves b t cs out e g = rw e g
+
+pub keeps : (b t cs out : List ℕ) {e : Refusal} → answer b t cs (length out) ≡ Refused e → out ≡ afterwards b t cs out
+unfolding afterwards stored
+keeps b t cs out e = rw e
+
+-- the answers in their order
+module _ (b t cs : List ℕ) (room : ℕ) where
+  pub too-many : 64 < length cs → refused TooLong ≡ answer b t cs room
+  unfolding answer pick
+  too-many h = rw (lt-leb (length cs) 64 h)
+
+  module _ (h : length cs ≤ 64) where
+    pub bad-shape : addsUp b t cs ≡ false → refused BadChunks ≡ answer b t cs room
+    unfolding answer pick
+    bad-shape e = rw (le-leb (length cs) 64 h, e)
+
+    pub no-space : addsUp b t cs ≡ true → room < 2 * length cs → refused NoRoom ≡ answer b t cs room
+    unfolding answer pick
+    no-space e g = rw (le-leb (length cs) 64 h, e, lt-leb (2 * length cs) room g)
+
+    pub by-pieces : addsUp b t cs ≡ true → 2 * length cs ≤ room → judged (length cs) b t cs ≡ answer b t cs room
+    unfolding answer pick
+    by-pieces e g = rw (le-leb (length cs) 64 h, e, le-leb (2 * length cs) room g)

@@ -1,0 +1,7 @@
+pub mod Sums
+pub mod Walk
+pub mod Entries
+pub mod Written
+pub mod Answers
+pub mod Back
+pub mod Examples

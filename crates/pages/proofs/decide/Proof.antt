@@ -1,0 +1,51 @@
+use Rattle.pages.proofs.Answers.{too-many, bad-shape, no-space, by-pieces}
+use borrow.Author.Tests.{not-true, not-false}
+use mathlib.Core.Path.{sym, _∙_}
+use borrow.Author.Needs.{needs}
+use Rattle.pages.proofs.decide.Statement.{statement}
+use Rattle.pages.proofs.decide.Tie as tie
+
+refused-requires : tie.Need-refused-requires
+refused-requires c κs = search needs
+
+returns : tie.Need-returns
+returns c = c .refused .ensures ∙ too-many (c .before .before .before .before .before .args .bytes .now) (c .before .before .before .before .before .args .table .now) (c .before .before .before .before .before .args .counts .now) (c .before .before .before .before .before .args .room) (c .before .if1 .taken)
+
+adds-up-requires : tie.Need-adds-up-requires
+adds-up-requires c κs = search needs
+
+refused-requires-2 : tie.Need-refused-requires-2
+refused-requires-2 c κs = search needs
+
+returns-2 : tie.Need-returns-2
+returns-2 c = c .refused2 .ensures ∙ bad-shape (c .before .before .before .before .before .before .before .args .bytes .now) (c .before .before .before .before .before .before .before .args .table .now) (c .before .before .before .before .before .before .before .args .counts .now) (c .before .before .before .before .before .before .before .args .room) (c .before .before .before .if1 .left) (sym (c .before .before .adds-up .ensures) ∙ not-true _ (c .before .if2 .taken))
+
+mul-if3 : tie.Need-mul-if3
+mul-if3 c = search needs
+
+refused-requires-3 : tie.Need-refused-requires-3
+refused-requires-3 c κs = search needs
+
+returns-3 : tie.Need-returns-3
+returns-3 c = c .refused3 .ensures ∙ no-space (c .before .before .before .before .before .before .before .before .args .bytes .now) (c .before .before .before .before .before .before .before .before .args .table .now) (c .before .before .before .before .before .before .before .before .args .counts .now) (c .before .before .before .before .before .before .before .before .args .room) (c .before .before .before .before .if1 .left) (sym (c .before .before .before .adds-up .ensures) ∙ not-false _ (c .before .before .if2 .left)) (c .before .if3 .taken)
+
+judge-requires : tie.Need-judge-requires
+judge-requires c κs = sym (c .before .before .adds-up .ensures) ∙ not-false _ (c .before .if2 .left)
+
+returns-4 : tie.Need-returns-4
+returns-4 c = c .judge .ensures ∙ by-pieces (c .before .before .before .before .before .before .before .before .args .bytes .now) (c .before .before .before .before .before .before .before .before .args .table .now) (c .before .before .before .before .before .before .before .before .args .counts .now) (c .before .before .before .before .before .before .before .before .args .room) (c .before .before .before .before .if1 .left) (sym (c .before .before .before .adds-up .ensures) ∙ not-false _ (c .before .before .if2 .left)) (c .before .if3 .left)
+
+pub decide-spec : {M : Type 1} → statement M
+decide-spec =
+    tie.close
+    (tie.spec
+    refused-requires
+    returns
+    adds-up-requires
+    refused-requires-2
+    returns-2
+    mul-if3
+    refused-requires-3
+    returns-3
+    judge-requires
+    returns-4)

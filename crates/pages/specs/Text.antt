@@ -1,0 +1,8 @@
+-- The text of a range.
+use Prim.Native.Nat.{ℕ}
+use mathlib.Core.List.{List, [], _∷_, _++_}
+use Rattle.writer.specs.Numbers.{decimal}
+
+-- two numbers with a hyphen, each without zeros in front
+unfoldable pub rangeText : ℕ → ℕ → List ℕ
+rangeText start end = decimal 1 start ++ ((0x2D ∷ []) ++ decimal 1 end)
