@@ -1,4 +1,4 @@
--- How a place in the formatted text becomes one in the file. There is no other way.
+-- How a place in the formatted text of a date becomes one in the file. There is no other way.
 use Prim.Native.Nat.{ℕ, _+_}
 use lib.Dec.{leb}
 use Rattle.chars.specs.Pick.{pick}
@@ -39,6 +39,6 @@ offset e amount = refusal (e .kind) (fileSpan (saturatingAdd (e .place .0) amoun
 unfoldable pub offsetSecond : TextRefusal → ℕ → ℕ → Refusal
 offsetSecond e start slash = pick (leb (start + slash + 1) top) (offset e (start + slash + 1)) (refusal RustPanics (fileSpan 0 0))
 
--- the one exception: the day that the month field holds has its place in the formatted text, whatever the list's span
+-- the one exception among dates: the day that the month field holds has its place in the formatted text, whatever the list's span
 unfoldable pub unshifted : TextRefusal → Refusal
 unshifted e = refusal (e .kind) (fileSpan (e .place .0) (e .place .1))
