@@ -3,7 +3,6 @@ use mathlib.Core.Path.{_≡_, refl, sym, ap, _∙_}
 use mathlib.Core.Bool.{Bool, true, false, not, _||_, false≢true}
 use mathlib.Core.List.{List, [], _∷_}
 use Prim.Native.Nat.{ℕ, suc, _+_, _≤_, _<_}
-use native.Mathlib.Nat.{add-zero}
 use native.Mathlib.Omega.{arith}
 use borrow.Author.Tests.{lt-ltb, le-ltb, ltb-true, ltb-false, lt-leb, le-leb}
 use lib.Dec.{leb, ltb}
@@ -18,57 +17,18 @@ use Rattle.chronology.specs.declared.Entry.{Entry}
 use Rattle.chronology.specs.declared.Reply.{Reply}
 use Rattle.chronology.specs.declared.Reply.the-variants.{Told}
 use Rattle.chronology.specs.Entries.{goodPeriod, entryOf, periodOf, beforeNext, wellKept}
-use Rattle.chronology.specs.Store.{Store, contents, sound, entryAt}
-use Rattle.chronology.specs.Asked.{beginsAfter, touches, anyTouches, stops, firstWhere, stopAt, entriesRead, untold, reply, shares, halts, haltAt, walked}
+use Rattle.chronology.specs.Store.{Store, contents, sound, firstWhere, entryAt}
+use Rattle.chronology.specs.Asked.{beginsAfter, touches, anyTouches, stops, stopAt, entriesRead, untold, reply, shares, halts, haltAt, walked}
 use Rattle.chronology.proofs.Days.{period-back}
 use Rattle.chronology.proofs.Order.{Before, by-first, by-last, by-id, before-yes, kept}
-use Rattle.chronology.proofs.Columns.{Room, contents-cons, contents-end, contents-length}
+use Rattle.chronology.proofs.Columns.{contents-cons, contents-length}
 use Rattle.chronology.proofs.Answers.{sound-room, sound-well}
-
--- ---- the first entry of a sort
-
-module _ (is : Entry → Bool) where
-  where-here : (x : Entry) (l : List Entry) → is x ≡ true → firstWhere is (x ∷ l) ≡ 0
-  unfolding firstWhere pick
-  where-here x l t = rw t
-
-  where-on : (x : Entry) (l : List Entry) → is x ≡ false → firstWhere is (x ∷ l) ≡ suc (firstWhere is l)
-  unfolding firstWhere pick
-  where-on x l t = rw t
-
-  where-in : (l : List Entry) → firstWhere is l ≤ length l
-  unfolding firstWhere pick
-  where-in [] = omega arith
-  where-in (x ∷ l) = go (is x) (where-in l)
-    where
-      go : (t : Bool) → firstWhere is l ≤ length l → pick t 0 (suc (firstWhere is l)) ≤ suc (length l)
-      go true h = omega arith
-      go false h = omega arith
 
 -- two sorts that are the same
 where-same : (is was : Entry → Bool) → ((e : Entry) → is e ≡ was e) → (l : List Entry) → firstWhere is l ≡ firstWhere was l
 unfolding firstWhere
 where-same is was f [] = refl
 where-same is was f (x ∷ l) = rw (f x, where-same is was f l)
-
--- its place in the columns, from a place on
-module _ (s : Store) (r : Room s) (i : ℕ) (is : Entry → Bool) where
-  pub where-found : {x : Entry} → i < s .count → x ≡ entryAt (s .firsts) (s .lasts) (s .ids) i → is x ≡ true → i ≡ i + firstWhere is (drop i (contents s))
-  where-found {x} h e t =
-      rw (contents-cons s r i h) (sym (ap (λ (k : ℕ). i + k) (where-here is _ (drop (suc i) (contents s)) (ap is (sym e) ∙ t)) ∙ add-zero i))
-
-  pub where-passed : {x : Entry} → i < s .count → x ≡ entryAt (s .firsts) (s .lasts) (s .ids) i → is x ≡ false
-      → i + firstWhere is (drop i (contents s)) ≡ i + 1 + firstWhere is (drop (i + 1) (contents s))
-  where-passed {x} h e t =
-      let n : suc i ≡ i + 1 = omega arith in
-      ap (λ (l : List Entry). i + firstWhere is l) (contents-cons s r i h)
-      ∙ ap (λ (k : ℕ). i + k) (where-on is _ (drop (suc i) (contents s)) (ap is (sym e) ∙ t))
-      ∙ ap (λ (k : ℕ). i + suc (firstWhere is (drop k (contents s)))) n
-      ∙ omega arith
-
-  pub where-end : s .count ≤ i → i ≡ i + firstWhere is (drop i (contents s))
-  unfolding firstWhere
-  where-end h = rw (contents-end s r i h) (sym (add-zero i))
 
 -- ---- the tests over counted days
 

@@ -14,7 +14,7 @@ use borrow.Author.Tests.{leb-true, lt-ltb, le-ltb, eq-eqb, ne-eqb}
 use Rattle.chars.specs.Pick.{pick}
 use Rattle.chronology.specs.declared.Entry.{Entry}
 use Rattle.chronology.specs.Entries.{precedes, goodDays, idsOf, among, has, beforeNext, keptFirst, wellKept, listed}
-use Rattle.chronology.specs.Store.{Store, rows, contents, inRoom, placeOf, rank, entryAt, beforeAt, keptAt}
+use Rattle.chronology.specs.Store.{Store, rows, contents, inRoom, placeOf, firstWhere, rank, entryAt, beforeAt, keptAt}
 use Rattle.chronology.proofs.Tests.{both}
 
 -- what a store that is in room has
@@ -160,14 +160,33 @@ end-test d l k n e = go (place d l)
     go (in-it a h) = ne-eqb (k + placeOf d l) n (λ (q : k + placeOf d l ≡ n). omega arith) ∙ sym (ap not a)
     go (past-it a h) = eq-eqb (k + placeOf d l) n (omega arith) ∙ sym (ap not a)
 
+-- the first entry of a sort
+module _ (is : Entry → Bool) where
+  pub where-here : (x : Entry) (l : List Entry) → is x ≡ true → firstWhere is (x ∷ l) ≡ 0
+  unfolding firstWhere pick
+  where-here x l t = rw t
+
+  pub where-on : (x : Entry) (l : List Entry) → is x ≡ false → firstWhere is (x ∷ l) ≡ suc (firstWhere is l)
+  unfolding firstWhere pick
+  where-on x l t = rw t
+
+  pub where-in : (l : List Entry) → firstWhere is l ≤ length l
+  unfolding firstWhere pick
+  where-in [] = omega arith
+  where-in (x ∷ l) = go (is x) (where-in l)
+    where
+      go : (t : Bool) → firstWhere is l ≤ length l → pick t 0 (suc (firstWhere is l)) ≤ suc (length l)
+      go true h = omega arith
+      go false h = omega arith
+
 -- the place of an entry in order
 pub rank-here : (e x : Entry) (l : List Entry) → precedes x e ≡ false → rank e (x ∷ l) ≡ 0
-unfolding rank pick
-rank-here e x l t = rw t
+unfolding rank
+rank-here e x l t = where-here (λ y. not (precedes y e)) x l (ap not t)
 
 pub rank-on : (e x : Entry) (l : List Entry) → precedes x e ≡ true → rank e (x ∷ l) ≡ suc (rank e l)
-unfolding rank pick
-rank-on e x l t = rw t
+unfolding rank
+rank-on e x l t = where-on (λ y. not (precedes y e)) x l (ap not t)
 
 -- entries that are well kept, from one on
 pub kept-on : (e : Entry) (l : List Entry) → keptFirst e l ≡ true → wellKept (e ∷ l) ≡ wellKept l
@@ -178,25 +197,27 @@ pub kept-not : (e : Entry) (l : List Entry) → keptFirst e l ≡ false → well
 unfolding wellKept pick
 kept-not e l t = rw t
 
+-- its place in the columns, from a place on
+module _ (s : Store) (r : Room s) (i : ℕ) (is : Entry → Bool) where
+  pub where-found : {x : Entry} → i < s .count → x ≡ entryAt (s .firsts) (s .lasts) (s .ids) i → is x ≡ true → i ≡ i + firstWhere is (drop i (contents s))
+  where-found {x} h e t =
+      rw (contents-cons s r i h) (sym (ap (λ (k : ℕ). i + k) (where-here is _ (drop (suc i) (contents s)) (ap is (sym e) ∙ t)) ∙ add-zero i))
+
+  pub where-passed : {x : Entry} → i < s .count → x ≡ entryAt (s .firsts) (s .lasts) (s .ids) i → is x ≡ false
+      → i + firstWhere is (drop i (contents s)) ≡ i + 1 + firstWhere is (drop (i + 1) (contents s))
+  where-passed {x} h e t =
+      let n : suc i ≡ i + 1 = omega arith in
+      ap (λ (l : List Entry). i + firstWhere is l) (contents-cons s r i h)
+      ∙ ap (λ (k : ℕ). i + k) (where-on is _ (drop (suc i) (contents s)) (ap is (sym e) ∙ t))
+      ∙ ap (λ (k : ℕ). i + suc (firstWhere is (drop k (contents s)))) n
+      ∙ omega arith
+
+  pub where-end : s .count ≤ i → i ≡ i + firstWhere is (drop i (contents s))
+  unfolding firstWhere
+  where-end h = rw (contents-end s r i h) (sym (add-zero i))
+
 -- loops over the entries of a store in room
 module _ (s : Store) (r : Room s) (i : ℕ) where
-  -- an entry that the one at i does not precede, or precedes; past the end
-  pub rank-found : {x : Entry} (e : Entry) → i < s .count → x ≡ entryAt (s .firsts) (s .lasts) (s .ids) i → precedes x e ≡ false
-      → i ≡ i + rank e (drop i (contents s))
-  rank-found {x} e h q t =
-      rw (contents-cons s r i h) (sym (ap (λ (k : ℕ). i + k) (rank-here e _ (drop (suc i) (contents s)) (ap (λ (y : Entry). precedes y e) (sym q) ∙ t)) ∙ add-zero i))
-
-  pub rank-passed : {x : Entry} (e : Entry) → i < s .count → x ≡ entryAt (s .firsts) (s .lasts) (s .ids) i → precedes x e ≡ true
-      → i + rank e (drop i (contents s)) ≡ i + 1 + rank e (drop (i + 1) (contents s))
-  rank-passed {x} e h q t =
-      ap (λ (l : List Entry). i + rank e l) (contents-cons s r i h)
-      ∙ ap (λ (k : ℕ). i + k) (rank-on e _ (drop (suc i) (contents s)) (ap (λ (y : Entry). precedes y e) (sym q) ∙ t))
-      ∙ rw (add-one i) (omega arith)
-
-  pub rank-end : (e : Entry) → s .count ≤ i → i ≡ i + rank e (drop i (contents s))
-  unfolding rank
-  rank-end e h = rw (contents-end s r i h) (sym (add-zero i))
-
   -- whether the entry at i stands before the next one
   pub before-one : {x y : Entry} → i + 1 < s .count → x ≡ entryAt (s .firsts) (s .lasts) (s .ids) i → y ≡ entryAt (s .firsts) (s .lasts) (s .ids) (i + 1)
       → precedes x y ≡ beforeAt s i

@@ -1,6 +1,6 @@
 -- What a store holds after an add or a removal: its entries with one more in its place, or with one less. Assumes nothing.
 use mathlib.Core.Path.{_≡_, refl, sym, ap, _∙_, subst}
-use mathlib.Core.Bool.{Bool, true, false}
+use mathlib.Core.Bool.{Bool, true, false, not}
 use mathlib.Core.List.{List, [], _∷_, _++_}
 use Prim.Native.Nat.{ℕ, zero, suc, _-_, _≤_, _<_}
 use native.Mathlib.Nat.{le-of-suc-le-suc, not-suc-le-zero}
@@ -13,9 +13,9 @@ use borrow.Author.Tests.{le-leb, eqb-true, eqb-false}
 use Rattle.chars.specs.Pick.{pick}
 use Rattle.chronology.specs.declared.Entry.{Entry}
 use Rattle.chronology.specs.Entries.{entry, precedes, idsOf, insert, without}
-use Rattle.chronology.specs.Store.{Store, rows, contents, inRoom, placeOf, rank, inserted, removed}
+use Rattle.chronology.specs.Store.{Store, rows, contents, inRoom, placeOf, firstWhere, rank, inserted, removed}
 use Rattle.chronology.specs.Calls.{withEntry, withoutAt}
-use Rattle.chronology.proofs.Columns.{Room, contents-length, here, on, rank-here, rank-on}
+use Rattle.chronology.proofs.Columns.{Room, contents-length, here, on, where-in, rank-here, rank-on}
 use Rattle.chronology.proofs.Order.{insert-on, insert-here, without-here, without-on}
 
 -- a value put at a place of a list, and the one at a place taken out
@@ -119,7 +119,7 @@ rows-cut (suc i) (f ∷ fs) (e ∷ ls) (d ∷ ds) = ap {B = List Entry} (λ (l :
 
 -- at the place that list order says, at the place of an identifier
 put-ranked : (e : Entry) (l : List Entry) → putAt (rank e l) e l ≡ insert e l
-unfolding putAt rank insert
+unfolding putAt rank firstWhere insert
 put-ranked e [] = refl
 put-ranked e (x ∷ l) = go (precedes x e) refl (put-ranked e l)
   where
@@ -143,12 +143,7 @@ cut-found d (x ∷ l) = go (eqb (x .id) d) refl (cut-found d l)
 
 rank-in : (e : Entry) (l : List Entry) → rank e l ≤ length l
 unfolding rank
-rank-in e [] = omega arith
-rank-in e (x ∷ l) = go (precedes x e) refl (rank-in e l)
-  where
-    go : (t : Bool) → precedes x e ≡ t → rank e l ≤ length l → rank e (x ∷ l) ≤ suc (length l)
-    go true p i = rw (rank-on e x l p) (omega arith)
-    go false p i = rw (rank-here e x l p) (omega arith)
+rank-in e l = where-in (λ x. not (precedes x e)) l
 
 -- a store in room
 pub in-room : (s : Store) → Room s → inRoom s ≡ true

@@ -14,9 +14,9 @@ use Rattle.chronology.specs.declared.Reply.{Reply}
 use Rattle.chronology.specs.declared.Reply.the-variants.{Told}
 use Rattle.chronology.specs.declared.Answer.the-variants.{Entries}
 use Rattle.chronology.specs.Entries.{precedes, inSpan, goodPeriod, counted, entryOf, periodOf, goodDays, idsOf, among, has, beforeNext, keptFirst, wellKept, listed}
-use Rattle.chronology.specs.Store.{Store, store, rows, contents, inRoom, sound, placeOf, rank, inserted, removed}
+use Rattle.chronology.specs.Store.{Store, store, rows, contents, inRoom, sound, placeOf, firstWhere, rank, inserted, removed}
 use Rattle.chronology.specs.Calls.{refused, accepted, countAnswer, addAnswer, removeAnswer, listAnswer, withEntry, withoutAt, afterAdd, afterRemove}
-use Rattle.chronology.specs.Asked.{beginsAfter, touches, anyTouches, stops, firstWhere, stopAt, entriesRead, untold, reply}
+use Rattle.chronology.specs.Asked.{beginsAfter, touches, anyTouches, stops, stopAt, entriesRead, untold, reply}
 use Rattle.chronology.specs.History.{adds, removes, afterCall, afterCalls}
 
 -- columns of 512 numbers that begin with those given
@@ -34,11 +34,11 @@ three = afterCalls (adds (period (pos 5) (pos 5)) 3 ∷ adds (period (negsuc 2) 
 
 -- they are listed by first day, last day, identifier; a removal closes its gap
 pub in-list-order : listed (contents three) ≡ negsuc 2 ∷ pos 10 ∷ pos 2 ∷ pos 5 ∷ pos 5 ∷ pos 3 ∷ pos 5 ∷ pos 5 ∷ pos 7 ∷ []
-unfolding three kept column listed contents rows numbered afterCalls afterCall afterAdd accepted addAnswer withEntry inserted rank precedes entryOf counted goodPeriod inSpan has among idsOf sound inRoom wellKept keptFirst beforeNext goodDays periodOf pick
+unfolding three kept column listed contents rows numbered afterCalls afterCall afterAdd accepted addAnswer withEntry inserted rank firstWhere precedes entryOf counted goodPeriod inSpan has among idsOf sound inRoom wellKept keptFirst beforeNext goodDays periodOf pick
 in-list-order = refl
 
 pub one-removed : listed (contents (afterCall (removes 3) three)) ≡ negsuc 2 ∷ pos 10 ∷ pos 2 ∷ pos 5 ∷ pos 5 ∷ pos 7 ∷ []
-unfolding three kept column listed contents rows numbered afterCalls afterCall afterAdd accepted addAnswer withEntry inserted rank precedes entryOf counted goodPeriod inSpan has among idsOf sound inRoom wellKept keptFirst beforeNext goodDays periodOf pick afterRemove removeAnswer withoutAt removed placeOf
+unfolding three kept column listed contents rows numbered afterCalls afterCall afterAdd accepted addAnswer withEntry inserted rank firstWhere precedes entryOf counted goodPeriod inSpan has among idsOf sound inRoom wellKept keptFirst beforeNext goodDays periodOf pick afterRemove removeAnswer withoutAt removed placeOf
 one-removed = refl
 
 -- what each call answers
@@ -57,7 +57,7 @@ answers =
     ∷ []
 
 pub answered : answers ≡ refused BadPeriod ∷ refused BadPeriod ∷ refused BadPeriod ∷ refused DuplicateEntry ∷ Entries 4 ∷ refused UnknownEntry ∷ Entries 2 ∷ Entries 3 ∷ refused NoRoom ∷ Entries 3 ∷ []
-unfolding answers three kept column contents rows numbered afterCalls afterCall afterAdd accepted addAnswer withEntry inserted rank precedes entryOf counted goodPeriod inSpan has among idsOf sound inRoom wellKept keptFirst beforeNext goodDays periodOf pick removeAnswer countAnswer listAnswer
+unfolding answers three kept column contents rows numbered afterCalls afterCall afterAdd accepted addAnswer withEntry inserted rank firstWhere precedes entryOf counted goodPeriod inSpan has among idsOf sound inRoom wellKept keptFirst beforeNext goodDays periodOf pick removeAnswer countAnswer listAnswer
 answered = refl
 
 -- no chronology: above 512, out of order, an identifier twice, a last day before the first, a day outside the calendar
@@ -92,5 +92,5 @@ replies =
     ∷ []
 
 pub replied : replies ≡ Told false 1 ∷ Told true 1 ∷ Told true 1 ∷ Told false 3 ∷ Told true 2 ∷ Told false 2 ∷ Told false 0 ∷ untold BadPeriod ∷ untold BadChronology ∷ []
-unfolding replies reply untold entriesRead stopAt firstWhere stops anyTouches touches beginsAfter three kept column contents rows numbered afterCalls afterCall afterAdd accepted addAnswer withEntry inserted rank precedes entryOf counted goodPeriod inSpan has among idsOf sound inRoom wellKept keptFirst beforeNext goodDays periodOf pick
+unfolding replies reply untold entriesRead stopAt stops anyTouches touches beginsAfter three kept column contents rows numbered afterCalls afterCall afterAdd accepted addAnswer withEntry inserted rank firstWhere precedes entryOf counted goodPeriod inSpan has among idsOf sound inRoom wellKept keptFirst beforeNext goodDays periodOf pick
 replied = refl

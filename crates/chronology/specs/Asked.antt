@@ -1,5 +1,5 @@
 -- Is anything dated in a period, and how many entries are read to tell.
-use Prim.Native.Nat.{ℕ, suc, _+_}
+use Prim.Native.Nat.{ℕ, _+_}
 use mathlib.Core.Bool.{Bool, true, false, not, _||_}
 use mathlib.Core.List.{List, [], _∷_}
 use lib.Dec.{leb, ltb}
@@ -14,7 +14,7 @@ use Rattle.chronology.specs.declared.Entry.{Entry}
 use Rattle.chronology.specs.declared.Reply.{Reply}
 use Rattle.chronology.specs.declared.Reply.the-variants.{Told, Untold}
 use Rattle.chronology.specs.Entries.{goodPeriod, periodOf}
-use Rattle.chronology.specs.Store.{Store, contents, sound, entryAt}
+use Rattle.chronology.specs.Store.{Store, contents, sound, firstWhere, entryAt}
 
 -- whether an entry begins after a period
 unfoldable pub beginsAfter : Period → Entry → Bool
@@ -32,11 +32,6 @@ anyTouches p (e ∷ l) = touches p e || anyTouches p l
 -- whether a walk stops at an entry: it touches the period or begins after it
 unfoldable pub stops : Period → Entry → Bool
 stops p e = touches p e || beginsAfter p e
-
--- the place of the first entry of a sort; past them if there is none
-unfoldable pub firstWhere : (Entry → Bool) → List Entry → ℕ
-firstWhere is [] = 0
-firstWhere is (e ∷ l) = pick (is e) 0 (suc (firstWhere is l))
 
 -- the place of the first entry that stops a walk
 unfoldable pub stopAt : Period → List Entry → ℕ

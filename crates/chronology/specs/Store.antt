@@ -1,6 +1,6 @@
 -- A chronology as it is kept in lent memory: a count, and three columns with room for 512 numbers. What lies behind the count is no entry.
 use Prim.Native.Nat.{ℕ, suc, _-_}
-use mathlib.Core.Bool.{Bool, false}
+use mathlib.Core.Bool.{Bool, false, not}
 use mathlib.Core.List.{List, [], _∷_, _++_}
 use lib.Dec.{eqb, leb}
 use lib.ListN.{length, getD, take, drop}
@@ -50,10 +50,14 @@ unfoldable pub placeOf : ℕ → List ℕ → ℕ
 placeOf d [] = 0
 placeOf d (x ∷ l) = pick (eqb x d) 0 (suc (placeOf d l))
 
--- the place of an entry among those in order: how many precede it
+-- the place of the first entry of a sort; past them if there is none
+unfoldable pub firstWhere : (Entry → Bool) → List Entry → ℕ
+firstWhere is [] = 0
+firstWhere is (e ∷ l) = pick (is e) 0 (suc (firstWhere is l))
+
+-- the place of an entry among those in order: behind those that precede it
 unfoldable pub rank : Entry → List Entry → ℕ
-rank e [] = 0
-rank e (x ∷ l) = pick (precedes x e) (suc (rank e l)) 0
+rank e l = firstWhere (λ x. not (precedes x e)) l
 
 -- a column with a value put among its first n at a place: those from there on move up by one, over what stood behind them
 unfoldable pub inserted : List ℕ → ℕ → ℕ → ℕ → List ℕ

@@ -38,7 +38,7 @@ use Rattle.writer.proofs.Counts.{length-digits, length-decimal, few, one-more, 
 use Rattle.pages.specs.declared.ReadNumber.the-variants.{NumberIs}
 use Rattle.pages.specs.declared.ReadRange.the-variants.{Range}
 use Rattle.pages.specs.Piece.{numbered, numberOf, numberAt, orElse, dashAt, onNumber, secondAt, behindDash, onDash, behindFirst, rangeText as readText, onClean, piece}
-use Rattle.pages.specs.Text.{rangeText}
+use Rattle.pages.specs.Text.{writtenRange}
 
 -- bytes from a low one to the digit nine
 abbrev In : ℕ → List ℕ → Type 0
@@ -206,22 +206,22 @@ oneChunk u start end = 0 ∷ length u ∷ start ∷ end ∷ []
 
 module _ (a b : ℕ) (ha : a < 4294967296) (hb : b < 4294967296) where
   abbrev s : List ℕ
-  s = rangeText a b
+  s = writtenRange a b
 
   shown : In 45 s
-  unfolding rangeText
+  unfolding writtenRange
   shown =
       in-append 45 (decimal 1 a) ((0x2D ∷ []) ++ decimal 1 b) (in-more (decimal 1 a) (in-text a ha))
       ((lit≤ tt, lit< tt), in-more (decimal 1 b) (in-text b hb))
 
   -- a written range has at most 21 bytes
   pub at-most : length s ≤ 21
-  unfolding rangeText
+  unfolding writtenRange
   at-most =
       omega (arith, length-append (decimal 1 a) ((0x2D ∷ []) ++ decimal 1 b), short-text a ha, short-text b hb)
 
   from-0 : From s 0 (decimal 1 a ++ (0x2D ∷ decimal 1 b))
-  unfolding rangeText
+  unfolding writtenRange
   from-0 = record { is = refl }
 
   from-1 : From s (0 + length (decimal 1 a)) (0x2D ∷ decimal 1 b)

@@ -11,7 +11,7 @@ use Rattle.pages.specs.declared.ReadRange.the-variants.{Range, NoRange}
 use Rattle.pages.specs.declared.Answer.the-variants.{Ranges, Refused}
 use Rattle.pages.specs.Piece.{piece}
 use Rattle.pages.specs.Pieces.{answer, afterwards}
-use Rattle.pages.specs.Text.{rangeText}
+use Rattle.pages.specs.Text.{writtenRange}
 use Rattle.chars.specs.Ascii as charsAscii
 use Rattle.chars.specs.Classes as charsClasses
 use Rattle.chars.specs.Pick as charsPick
@@ -56,6 +56,6 @@ unfolding charsAscii.digitOf charsClasses.within charsClasses.isAdmitted charsCl
 left = refl
 
 -- the longest written range has 21 bytes
-pub longest : length (rangeText 4294967295 4294967295) ≡ 21
-unfolding pagesText.rangeText writerNumbers.decimal writerNumbers.width writerNumbers.digitCount writerNumbers.count charsPick.pick
+pub longest : length (writtenRange 4294967295 4294967295) ≡ 21
+unfolding pagesText.writtenRange writerNumbers.decimal writerNumbers.width writerNumbers.digitCount writerNumbers.count charsPick.pick
 longest = refl

@@ -15,25 +15,25 @@ use Rattle.writer.specs.Numbers.{digits, width, decimal}
 use Rattle.writer.specs.Answers.{refused, measured, decided, answer, afterwards, Put}
 use Rattle.writer.proofs.Counts.{length-digits, length-decimal}
 use Rattle.writer.proofs.Puts.{kept, both, as-text, at-front}
-use Rattle.pages.specs.Text.{rangeText}
+use Rattle.pages.specs.Text.{writtenRange}
 
-pub length-range : (a b : ℕ) → length (rangeText a b) ≡ width 1 a + 1 + width 1 b
-unfolding rangeText
+pub length-range : (a b : ℕ) → length (writtenRange a b) ≡ width 1 a + 1 + width 1 b
+unfolding writtenRange
 length-range a b =
     omega (arith, length-append (decimal 1 a) ((0x2D ∷ []) ++ decimal 1 b), length-decimal 1 a, length-decimal 1 b)
 
 module _ (a b : ℕ) {w v : ℕ} (ew : w ≡ width 1 a) (ev : v ≡ width 1 b) (l : List ℕ) where
-  pub first-room : length (rangeText a b) ≤ length l → 0 + w ≤ length l
+  pub first-room : length (writtenRange a b) ≤ length l → 0 + w ≤ length l
   first-room h = omega (arith, ew, length-range a b)
 
-  pub hyphen-room : {m : List ℕ} {i : ℕ} → length (rangeText a b) ≤ length l → Put (digits w a) l 0 m i → i + 1 ≤ length m
+  pub hyphen-room : {m : List ℕ} {i : ℕ} → length (writtenRange a b) ≤ length l → Put (digits w a) l 0 m i → i + 1 ≤ length m
   hyphen-room h x = omega (arith, ew, length-range a b, length-digits w a, x .behind, kept x)
 
-  pub second-room : {m p : List ℕ} {i j : ℕ} → length (rangeText a b) ≤ length l → Put (digits w a) l 0 m i → Put (0x2D ∷ []) m i p j → j + v ≤ length p
+  pub second-room : {m p : List ℕ} {i j : ℕ} → length (writtenRange a b) ≤ length l → Put (digits w a) l 0 m i → Put (0x2D ∷ []) m i p j → j + v ≤ length p
   second-room h x y = omega (arith, ew, ev, length-range a b, length-digits w a, x .behind, kept x, y .behind, kept y)
 
-  pub joined : {m p q : List ℕ} {i j k : ℕ} → Put (digits w a) l 0 m i → Put (0x2D ∷ []) m i p j → Put (digits v b) p j q k → Put (rangeText a b) l 0 q k
-  unfolding rangeText decimal
+  pub joined : {m p q : List ℕ} {i j k : ℕ} → Put (digits w a) l 0 m i → Put (0x2D ∷ []) m i p j → Put (digits v b) p j q k → Put (writtenRange a b) l 0 q k
+  unfolding writtenRange decimal
   joined x y z =
       both (as-text (ap (λ (n : ℕ). digits n a) (sym ew)) x) (both y (as-text (ap (λ (n : ℕ). digits n b) (sym ev)) z))
 

@@ -4,5 +4,5 @@ use mathlib.Core.List.{List, [], _∷_, _++_}
 use Rattle.writer.specs.Numbers.{decimal}
 
 -- two numbers with a hyphen, each without zeros in front
-unfoldable pub rangeText : ℕ → ℕ → List ℕ
-rangeText start end = decimal 1 start ++ ((0x2D ∷ []) ++ decimal 1 end)
+unfoldable pub writtenRange : ℕ → ℕ → List ℕ
+writtenRange start end = decimal 1 start ++ ((0x2D ∷ []) ++ decimal 1 end)

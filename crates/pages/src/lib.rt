@@ -381,8 +381,8 @@ fn put_hyphen(out: &mut [u8], at: usize) -> usize
 
 // The text of a range whose numbers have so many digits, at the front of a buffer with room for it.
 fn put_text(start: u32, end: u32, first: usize, second: usize, out: &mut [u8]) -> usize
-    requires { ⌜ (first ≡ numbers.width 1 start) × (second ≡ numbers.width 1 end) × (length (text.rangeText start end) ≤ length (now out)) ⌝ }
-    ensures { λ r. ⌜ Put (text.rangeText start end) (now (out .entry)) 0 (now (out .exit)) r ⌝ }
+    requires { ⌜ (first ≡ numbers.width 1 start) × (second ≡ numbers.width 1 end) × (length (text.writtenRange start end) ≤ length (now out)) ⌝ }
+    ensures { λ r. ⌜ Put (text.writtenRange start end) (now (out .entry)) 0 (now (out .exit)) r ⌝ }
 {
     let k = put_digits(first, start, out, 0);
     let m = put_hyphen(out, k);
@@ -391,9 +391,9 @@ fn put_text(start: u32, end: u32, first: usize, second: usize, out: &mut [u8]) -
 
 // A range as text: two numbers with a hyphen, at the front of the lent buffer. A refusal stores nothing.
 pub fn write_range(start: u32, end: u32, out: &mut [u8]) -> Written
-    ensures { λ r. ⌜ r ≡ writing.answer false (text.rangeText start end) (length (now (out .entry))) ⌝ }
-    ensures { λ r. ⌜ now (out .exit) ≡ writing.afterwards false (text.rangeText start end) (now (out .entry)) ⌝ }
-    ensures { λ r. ⌜ length (text.rangeText start end) ≤ 21 ⌝ }
+    ensures { λ r. ⌜ r ≡ writing.answer false (text.writtenRange start end) (length (now (out .entry))) ⌝ }
+    ensures { λ r. ⌜ now (out .exit) ≡ writing.afterwards false (text.writtenRange start end) (now (out .entry)) ⌝ }
+    ensures { λ r. ⌜ length (text.writtenRange start end) ≤ 21 ⌝ }
 {
     let first = width(start);
     let second = width(end);

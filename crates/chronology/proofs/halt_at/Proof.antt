@@ -4,10 +4,9 @@ use native.Mathlib.Omega.{arith}
 use native.Mathlib.Nat.{zero-add}
 use Prim.Native.Nat.{_+_, _-_, _≤_}
 use mathlib.Core.Path.{_≡_, sym, _∙_}
-use Rattle.chronology.specs.Asked.{firstWhere, halts, haltAt}
-use Rattle.chronology.specs.Store.{store, contents}
-use Rattle.chronology.proofs.Columns.{room}
-use Rattle.chronology.proofs.Asked.{where-found, where-passed, where-end}
+use Rattle.chronology.specs.Asked.{halts, haltAt}
+use Rattle.chronology.specs.Store.{store, contents, firstWhere}
+use Rattle.chronology.proofs.Columns.{room, where-found, where-passed, where-end}
 use Rattle.chronology.proofs.halt_at.Statement.{statement}
 use Rattle.chronology.proofs.halt_at.Tie as tie
 

@@ -1,5 +1,5 @@
 use Rattle.pages.proofs.Written.{length-range, no-room, done}
-use Rattle.pages.specs.Text.{rangeText}
+use Rattle.pages.specs.Text.{writtenRange}
 use Rattle.writer.specs.declared.Written.the-variants.{Refused}
 use native.Mathlib.Omega.{arith}
 use mathlib.Core.Path.{ap, _∙_}
@@ -27,7 +27,7 @@ returns c =
     let s = c .before .before .before .before .before in
     let e = c .before .before .before .width .ensures in
     let f = c .before .before .width2 .ensures in
-    let t = rangeText (s .args .start) (s .args .end) in
+    let t = writtenRange (s .args .start) (s .args .end) in
     let g = length-range (s .args .start) (s .args .end) in
     let q = no-room t (s .args .out .now) (omega (arith, e .0, f .0, g, c .before .if1 .taken)) in
     (ap Refused (c .refuse .ensures) ∙ q .0, (q .1, omega (arith, e .0, e .1, f .0, f .1, g)))
@@ -48,7 +48,7 @@ returns-2 c =
     let s = c .before .before .before .before .before .before .before .before in
     let e = c .before .before .before .before .before .before .width .ensures in
     let f = c .before .before .before .before .before .width2 .ensures in
-    let t = rangeText (s .args .start) (s .args .end) in
+    let t = writtenRange (s .args .start) (s .args .end) in
     let g = length-range (s .args .start) (s .args .end) in
     let q = done t (s .args .out .now) (omega (arith, e .0, f .0, g, c .before .before .before .before .if1 .left)) (c .before .before .put-text .ensures) in
     (q .0, (q .1, omega (arith, e .0, e .1, f .0, f .1, g)))
