@@ -21,6 +21,8 @@ def functions(library):
     """Name to frame, what is kept below it, and callees."""
     command = ['objdump', '-d', '-r', '-w', '--no-show-raw-insn', library]
     lines = subprocess.run(command, capture_output=True, check=True, text=True).stdout.splitlines()
+    if not any('file format elf64-x86-64' in line for line in lines):
+        sys.exit(f'{library} has no machine code for x86-64, and this reads no other')
     found, name = {}, None
     for line in lines:
         if head := re.fullmatch(r'[0-9a-f]+ <(.*)>:', line):

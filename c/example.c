@@ -10,7 +10,9 @@ static knobstream_answer read_text(const char *text)
 {
     const uint64_t n = strlen(text);
     const uint64_t table[4] = { KNOBSTREAM_NORMAL, n, 0, n };
-    return knobstream_parse((const uint8_t *)text, n, table, 4);
+    knobstream_answer a;
+    knobstream_parse((const uint8_t *)text, n, table, 4, &a);
+    return a;
 }
 
 static int show(const char *text)
@@ -46,6 +48,7 @@ static int gave(knobstream_written w, const uint8_t *out, const char *text)
 
 static void self_check(void)
 {
+    check(knobstream_version() == KNOBSTREAM_VERSION, "the library is that of the header");
     knobstream_answer a = read_text("49");
     check(a.refusal == 0 && a.date.shape == KNOBSTREAM_AT && a.date.first.year == 2049, "49 is 2049");
     check(a.date.first.has_month == 0 && a.start == 0 && a.end == 0, "49 has no month and no place");
@@ -59,23 +62,23 @@ static void self_check(void)
           "an offset");
 
     const uint64_t at_100[4] = { KNOBSTREAM_NORMAL, 15, 100, 115 };
-    a = knobstream_parse((const uint8_t *)"2000/1900-02-29", 15, at_100, 4);
+    knobstream_parse((const uint8_t *)"2000/1900-02-29", 15, at_100, 4, &a);
     check(a.refusal == KNOBSTREAM_DAY_OUT_OF_RANGE && a.start == 105 && a.end == 115, "the second half's place");
 
-    a = knobstream_parse_strict((const uint8_t *)"49", 2, (const uint64_t[4]){ 0, 2, 0, 2 }, 4);
+    knobstream_parse_strict((const uint8_t *)"49", 2, (const uint64_t[4]){ 0, 2, 0, 2 }, 4, &a);
     check(a.refusal == KNOBSTREAM_NOT_STRICT && a.start == 0 && a.end == 0, "49 is not strict");
 
-    a = knobstream_parse(NULL, 0, NULL, 0);
+    knobstream_parse(NULL, 0, NULL, 0, &a);
     check(a.refusal == KNOBSTREAM_INVALID_FORMAT, "the empty list, by null pointers");
-    a = knobstream_parse(NULL, 0, (const uint64_t[3]){ 0, 0, 0 }, 3);
+    knobstream_parse(NULL, 0, (const uint64_t[3]){ 0, 0, 0 }, 3, &a);
     check(a.refusal == KNOBSTREAM_BAD_CHUNKS, "a table of three numbers");
 
     const uint64_t four[4] = { KNOBSTREAM_NORMAL, 4, 0, 4 }, three[4] = { KNOBSTREAM_NORMAL, 3, 5, 8 },
                    one[4] = { KNOBSTREAM_NORMAL, 1, 9, 10 };
-    a = knobstream_parse_three_fields((const uint8_t *)"49BC", 4, four, 4, 1, (const uint8_t *)"jul", 3, three, 4, 1,
-                                      (const uint8_t *)"4", 1, one, 4);
+    knobstream_parse_three_fields((const uint8_t *)"49BC", 4, four, 4, 1, (const uint8_t *)"jul", 3, three, 4, 1,
+                                  (const uint8_t *)"4", 1, one, 4, &a);
     check(a.refusal == 0 && a.date.first.year == -48 && a.date.first.month == 6 && a.date.first.day == 3, "three fields");
-    a = knobstream_parse_three_fields((const uint8_t *)"49BC", 4, four, 4, 0, NULL, 0, NULL, 7, 1, NULL, 0, NULL, 9);
+    knobstream_parse_three_fields((const uint8_t *)"49BC", 4, four, 4, 0, NULL, 0, NULL, 7, 1, NULL, 0, NULL, 9, &a);
     check(a.refusal == 0 && a.date.first.has_month == 0 && a.date.first.has_day == 0, "absent lists are not looked at");
 
     uint8_t out[128];

@@ -1,20 +1,23 @@
 /* Reads, writes and compares the dates of bibliographies. The functions are
- * in libknobstream.a, for x86-64 Linux; their contracts are in
- * crates/knobstream/src/lib.rt, and each is proved.
+ * in libknobstream.a, for x86-64 and Arm (aarch64) Linux; their contracts are
+ * in crates/knobstream/src/lib.rt, and each is proved.
  *
  * What is lent. A slice is a pointer and a number of elements. It is lent for
- * the one call: nothing of it is kept, and nothing but `out` is stored to. An
- * empty slice may have any pointer, NULL too. Structs go in and come out by
- * value, so there is nothing to free.
+ * the one call: nothing of it is kept, and nothing but `out` and `answer` is
+ * stored to. An empty slice may have any pointer, NULL too. A struct of at most
+ * 16 bytes goes in or comes out by value; an answer is stored into a struct
+ * that is lent, every byte of it, so that it need not have values before.
  *
  * No call allocates, keeps state, takes a lock or traps: every number and
  * every byte has an answer. A call uses at most 8,192 bytes of stack, the one
  * that answers a frame at most 65,536; this is measured, not proved. Calls may
- * run at once in any number of threads, if no two of them have the same `out`.
+ * run at once in any number of threads, if no two of them have the same `out`
+ * or `answer`.
  *
  * What the caller owes: a pointer that is readable (for `out` writable) for as
- * many elements as are said, a table that is aligned as uint64_t is, and
- * structs whose members have values.
+ * many elements as are said, a table that is aligned as uint64_t is, an
+ * `answer` that overlaps nothing else that is lent, and for a struct that goes
+ * in members that have values.
  */
 #ifndef KNOBSTREAM_H
 #define KNOBSTREAM_H
@@ -26,7 +29,13 @@
 extern "C" {
 #endif
 
-/* Why a call refuses. 0 is no refusal. */
+/* The version of the calls and structs below, and of those in the library: a
+ * program that finds them different was made for another library. */
+enum { KNOBSTREAM_VERSION = 2 };
+uint32_t knobstream_version(void);
+
+/* Why a call refuses. 0 is no refusal. Those from 17 on are of calls in Rattle
+ * that this library does not have yet. */
 enum {
     KNOBSTREAM_OK = 0,
     KNOBSTREAM_UNDEFINED_RANGE = 1,       /* a range that is open on both sides */
@@ -123,6 +132,7 @@ typedef struct {
     uint8_t has_day, day; /* the first is 0 */
     uint8_t has_time, hour, minute, second;
     uint8_t offset, offset_hours, offset_minutes;
+    uint8_t season; /* 0 none; there is no other yet, and it is not looked at */
 } knobstream_datetime;
 
 /* The shape of a date: a point, a range with an open end, one with an open
@@ -138,26 +148,51 @@ enum {
  * other it is not looked at, and a reader puts zeros there. A mark is set if it
  * is not 0. */
 typedef struct {
-    uint8_t shape, uncertain, approximate;
     knobstream_datetime first, second;
+    uint8_t shape, uncertain, approximate;
+    uint8_t reserved; /* 0 */
 } knobstream_date;
 
 /* What a reader answers. If `refusal` is 0, `date` is the date and the place is
  * 0, 0. Else `refusal` says why there is none and [start, end) where, in bytes
- * of the file; `date` is all zeros. 9 and all from 12 on name no place: 0, 0. */
+ * of the file (of 10 and 11, and of a day that a month field holds, in bytes of
+ * the list's text); `date` is all zeros. 9 and all from 12 on name no place:
+ * 0, 0. */
 typedef struct {
     uint64_t start, end;
     knobstream_date date;
     uint8_t refusal;
+    uint8_t unused[3]; /* 0 */
 } knobstream_answer;
 
 /* What a writer answers. If `refusal` is 0, the first `length` bytes of `out`
  * are the text, without a NUL, and the bytes behind it are as they were. Else
- * `length` is 0 and `out` is as it was. */
+ * `length` is 0 and `out` is as it was. Measuring, which has no `out`, answers
+ * the length of the text in the same way. */
 typedef struct {
     size_t length;
     uint8_t refusal;
 } knobstream_written;
+
+/* The layout, of which the contracts speak: an answer is seven words of eight
+ * bytes, the lowest first, and a datetime two of them. */
+#if defined __BYTE_ORDER__ && __BYTE_ORDER__ != __ORDER_LITTLE_ENDIAN__
+#error "the library is for processors that store the lowest byte first"
+#endif
+#if defined __cplusplus && __cplusplus >= 201103L
+#define KNOBSTREAM_HOLDS(fact) static_assert(fact, #fact)
+#elif defined __STDC_VERSION__ && __STDC_VERSION__ >= 201112L
+#define KNOBSTREAM_HOLDS(fact) _Static_assert(fact, #fact)
+#endif
+#ifdef KNOBSTREAM_HOLDS
+KNOBSTREAM_HOLDS(sizeof(knobstream_datetime) == 16 && offsetof(knobstream_datetime, has_month) == 4);
+KNOBSTREAM_HOLDS(offsetof(knobstream_datetime, has_time) == 8 && offsetof(knobstream_datetime, season) == 15);
+KNOBSTREAM_HOLDS(sizeof(knobstream_date) == 36 && offsetof(knobstream_date, second) == 16);
+KNOBSTREAM_HOLDS(offsetof(knobstream_date, shape) == 32 && offsetof(knobstream_date, approximate) == 34);
+KNOBSTREAM_HOLDS(sizeof(knobstream_answer) == 56 && offsetof(knobstream_answer, date) == 16);
+KNOBSTREAM_HOLDS(offsetof(knobstream_answer, refusal) == 52 && sizeof(knobstream_written) == 16);
+#undef KNOBSTREAM_HOLDS
+#endif
 
 /* A chunk list is its text, chunk behind chunk, and a table of four numbers a
  * chunk: kind, length in bytes, and where it starts and ends in the file. So
@@ -166,19 +201,21 @@ typedef struct {
 
 /* A date field, as the Rust crate biblatex reads it: "49" is 2049, "0049" is
  * the year 49. */
-knobstream_answer knobstream_parse(
+void knobstream_parse(
     const uint8_t *bytes, size_t bytes_len,
-    const uint64_t *table, size_t table_len);
+    const uint64_t *table, size_t table_len,
+    knobstream_answer *answer);
 
 /* A date field by the strict grammar alone: "49" is refused. */
-knobstream_answer knobstream_parse_strict(
+void knobstream_parse_strict(
     const uint8_t *bytes, size_t bytes_len,
-    const uint64_t *table, size_t table_len);
+    const uint64_t *table, size_t table_len,
+    knobstream_answer *answer);
 
 /* The fields year, month and day: the year field "49" is the year 49. If
  * `has_month` or `has_day` is 0, that field is absent, and what is passed for
  * it is not looked at; nor is a day field without a month field. */
-knobstream_answer knobstream_parse_three_fields(
+void knobstream_parse_three_fields(
     const uint8_t *year, size_t year_len,
     const uint64_t *year_table, size_t year_table_len,
     uint8_t has_month,
@@ -186,7 +223,8 @@ knobstream_answer knobstream_parse_three_fields(
     const uint64_t *month_table, size_t month_table_len,
     uint8_t has_day,
     const uint8_t *day, size_t day_len,
-    const uint64_t *day_table, size_t day_table_len);
+    const uint64_t *day_table, size_t day_table_len,
+    knobstream_answer *answer);
 
 /* How long the text of a date is, for whoever must reserve room before it is
  * written: `length` is what the next call stores. It refuses what that call

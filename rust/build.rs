@@ -1,5 +1,5 @@
 //! Links libknobstream.a: from the folder that KNOBSTREAM_LIB_DIR names, or
-//! else made here, by the Rattle toolchain's `rt staticlib`.
+//! else made here, by native/make with the Rattle toolchain.
 
 use std::env;
 use std::path::{Path, PathBuf};
@@ -10,13 +10,20 @@ fn main() {
     println!("cargo:rerun-if-env-changed=KNOBSTREAM_LIB_DIR");
 
     let target = env::var("TARGET").unwrap();
-    if !(target.starts_with("x86_64-") && target.contains("-linux-")) {
-        fail(&format!("libknobstream.a is for x86-64 Linux, and this is a build for {target}"));
+    let processor = target.split('-').next().unwrap_or("");
+    if !(matches!(processor, "x86_64" | "aarch64") && target.contains("-linux-")) {
+        fail(&format!(
+            "libknobstream.a is for x86-64 and Arm Linux, and this is a build for {target}"
+        ));
     }
 
     let folder = match env::var_os("KNOBSTREAM_LIB_DIR") {
         Some(folder) => PathBuf::from(folder),
-        None => make(),
+        None if target == env::var("HOST").unwrap() => make(),
+        None => fail(&format!(
+            "libknobstream.a is made here for this machine alone, and this is a build for {target}: \
+             set KNOBSTREAM_LIB_DIR to a folder with the library for it"
+        )),
     };
     let library = folder.join("libknobstream.a");
     if !library.is_file() {
@@ -33,16 +40,17 @@ fn make() -> PathBuf {
     let top = here.parent().map(Path::to_path_buf).unwrap_or(here);
     println!("cargo:rerun-if-changed={}", top.join("crates").display());
     println!("cargo:rerun-if-changed={}", top.join("crates.txt").display());
+    println!("cargo:rerun-if-changed={}", top.join("native").display());
 
-    match Command::new("rt").args(["staticlib", "knobstream"]).current_dir(&top).output() {
-        Ok(done) if done.status.success() => top.join("target/staticlib"),
+    match Command::new(top.join("native/make")).arg("library").output() {
+        Ok(done) if done.status.success() => top.join("target/native"),
         Ok(done) => fail(&format!(
-            "rt staticlib knobstream failed:\n{}{}",
+            "native/make library failed:\n{}{}",
             String::from_utf8_lossy(&done.stdout),
             String::from_utf8_lossy(&done.stderr)
         )),
         Err(e) => fail(&format!(
-            "the Rattle toolchain's rt can not be run ({e}): \
+            "native/make can not be run ({e}): \
              set KNOBSTREAM_LIB_DIR to a folder with libknobstream.a"
         )),
     }

@@ -32,23 +32,31 @@ static size_t digits;
 #define LENT(l) (l).bytes, (l).length, (l).table, (l).rows
 
 /* A call on a thread. It looks at the stack on the spot: what a thread does at its end goes down too. */
+#if defined __aarch64__
+#define STACK_POINTER "mov %0, sp"
+#else
+#define STACK_POINTER "mov %%rsp, %0"
+#endif
 #define ON_A_THREAD(name, call) \
     static void *name(void *unused) \
     { \
-        __asm__ volatile("mov %%rsp, %0" : "=m"(top) : : "memory"); \
+        const uint8_t *here; \
+        __asm__ volatile(STACK_POINTER : "=r"(here) : : "memory"); \
+        top = here; \
         call; \
         for (low = stack; *low == paint; low++) { \
         } \
         return unused; \
     }
 
-ON_A_THREAD(parse, answer = knobstream_parse(LENT(field)))
-ON_A_THREAD(parse_strict, answer = knobstream_parse_strict(LENT(field)))
-ON_A_THREAD(parse_three_fields, answer = knobstream_parse_three_fields(LENT(field), 1, LENT(month), 1, LENT(day)))
+ON_A_THREAD(parse, knobstream_parse(LENT(field), &answer))
+ON_A_THREAD(parse_strict, knobstream_parse_strict(LENT(field), &answer))
+ON_A_THREAD(parse_three_fields, knobstream_parse_three_fields(LENT(field), 1, LENT(month), 1, LENT(day), &answer))
 ON_A_THREAD(measure_date, written = knobstream_date_length(&date))
 ON_A_THREAD(write_date, written = knobstream_date_text(&date, out, sizeof out))
 ON_A_THREAD(write_fields, written = knobstream_date_fields(&date, out, sizeof out))
 ON_A_THREAD(answer_frame, written = knobstream_answer_frame(line, digits, out, sizeof out))
+ON_A_THREAD(version, order = (int32_t)knobstream_version())
 ON_A_THREAD(compare, order = knobstream_compare(date.first, date.second))
 
 static struct {
@@ -56,6 +64,7 @@ static struct {
     void *(*on_a_thread)(void *);
     size_t allowed, most;
 } calls[] = {
+    { "knobstream_version", version, KNOBSTREAM_STACK, 0 },
     { "knobstream_parse", parse, KNOBSTREAM_STACK, 0 },
     { "knobstream_parse_strict", parse_strict, KNOBSTREAM_STACK, 0 },
     { "knobstream_parse_three_fields", parse_three_fields, KNOBSTREAM_STACK, 0 },
@@ -155,7 +164,7 @@ static const char *const texts[] = {
     "2000-2-9 T 1:2:3 - 2 : 3", "1999/2003", "1999-07-01/2003-08-31", "2000/..", "../2000", "../..",
     "2000-02-29T10:20:30+02:30/2003-08-31T10:20:30-02:30~", "19XX", "199X", "19XX/2005", "2000-XX-XX", "2000-02-XX",
     "1900-02-29", "2000/1900-02-29", "2000-13", "2000-02-29T10:20:30+2", "forthcoming", "\xC3\xA9", "2000\xC2\xA0",
-    "\xC2\xBD/q", "20\xE2\x80\x93", "20\xF0\x9F\x98\x80", "\xFF", "2000\n-02",
+    "\xC2\xBD/q", "20\xE2\x80\x93", "20\xE2\x82\xAC", "20\xF0\x9F\x98\x80", "\xFF", "2000\n-02",
     "1000 BC", "5 AD", "5 BCE x", "- 5", "+5 CE", "12345", "0 AD",
 };
 static const char *const months[] = { "July", "jul-4", "sept", "07", "13", "jul-999", "jul-32", "x" };
@@ -172,7 +181,8 @@ int main(void)
                     fill(&field, texts[i], lengths[n], numbers[m], kind);
                     fill(&month, months[i % COUNT(months)], lengths[n], numbers[m], kind);
                     fill(&day, "31", lengths[n], numbers[m], kind);
-                    date = knobstream_parse(LENT(field)).date;
+                    knobstream_parse(LENT(field), &answer);
+                    date = answer.date;
                     put_frame(i % 4 + 1);
                     measure();
                 }

@@ -1,6 +1,8 @@
 //! The calls of libknobstream.a, as c/knobstream.h has them. All that is
 //! unsafe in this crate stands here.
 
+use std::mem::{offset_of, MaybeUninit};
+
 /// A Datetime as plain numbers.
 #[repr(C)]
 #[derive(Copy, Clone, Default)]
@@ -17,17 +19,19 @@ pub struct Datetime {
     pub offset: u8,
     pub offset_hours: u8,
     pub offset_minutes: u8,
+    pub season: u8,
 }
 
 /// A Date as plain numbers.
 #[repr(C)]
 #[derive(Copy, Clone)]
 pub struct Date {
+    pub first: Datetime,
+    pub second: Datetime,
     pub shape: u8,
     pub uncertain: u8,
     pub approximate: u8,
-    pub first: Datetime,
-    pub second: Datetime,
+    pub reserved: u8,
 }
 
 /// What a reader answers.
@@ -37,9 +41,10 @@ pub struct Answer {
     pub end: u64,
     pub date: Date,
     pub refusal: u8,
+    pub unused: [u8; 3],
 }
 
-/// What a writer answers.
+/// What a writer answers, and what measuring does.
 #[repr(C)]
 pub struct Written {
     pub length: usize,
@@ -48,26 +53,34 @@ pub struct Written {
 
 const _: () = assert!(size_of::<Datetime>() == 16 && size_of::<Date>() == 36);
 const _: () = assert!(size_of::<Answer>() == 56 && size_of::<Written>() == 16);
+const _: () = assert!(offset_of!(Datetime, has_month) == 4 && offset_of!(Datetime, has_time) == 8);
+const _: () = assert!(offset_of!(Date, second) == 16 && offset_of!(Date, shape) == 32);
+const _: () = assert!(offset_of!(Answer, date) == 16 && offset_of!(Answer, refusal) == 52);
+const _: () = assert!(cfg!(target_endian = "little"));
 
 /// A reader of one chunk list: its bytes and its table.
-type Reader = unsafe extern "C" fn(*const u8, usize, *const u64, usize) -> Answer;
+type Reader = unsafe extern "C" fn(*const u8, usize, *const u64, usize, *mut Answer);
 
 /// A writer: the two Datetimes, the buffer, then shape and marks.
 type Writer = unsafe extern "C" fn(Datetime, Datetime, *mut u8, usize, u8, u8, u8) -> Written;
 
 extern "C" {
+    #[cfg(test)]
+    fn knobstream_version() -> u32;
     fn knobstream_parse(
         bytes: *const u8,
         bytes_len: usize,
         table: *const u64,
         table_len: usize,
-    ) -> Answer;
+        answer: *mut Answer,
+    );
     fn knobstream_parse_strict(
         bytes: *const u8,
         bytes_len: usize,
         table: *const u64,
         table_len: usize,
-    ) -> Answer;
+        answer: *mut Answer,
+    );
     fn knobstream_parse_three_fields(
         year: *const u8,
         year_len: usize,
@@ -83,7 +96,8 @@ extern "C" {
         day_len: usize,
         day_table: *const u64,
         day_table_len: usize,
-    ) -> Answer;
+        answer: *mut Answer,
+    );
     fn knobstream_measure_date(
         first: Datetime,
         second: Datetime,
@@ -137,15 +151,20 @@ pub fn parse_strict(list: List) -> Answer {
 }
 
 fn read(reader: Reader, List { bytes, table }: List) -> Answer {
+    let mut answer = MaybeUninit::uninit();
     // SAFETY: `reader` is one of the two above. The slices are readable for
     // the call, which keeps nothing of them and stores nothing there. It takes
-    // any bytes and any numbers.
-    unsafe { reader(bytes.as_ptr(), bytes.len(), table.as_ptr(), table.len()) }
+    // any bytes and any numbers, and stores every byte of the answer.
+    unsafe {
+        reader(bytes.as_ptr(), bytes.len(), table.as_ptr(), table.len(), answer.as_mut_ptr());
+        answer.assume_init()
+    }
 }
 
 pub fn parse_three_fields(year: List, month: Option<List>, day: Option<List>) -> Answer {
     let m = month.unwrap_or(ABSENT);
     let d = day.unwrap_or(ABSENT);
+    let mut answer = MaybeUninit::uninit();
     // SAFETY: as for `read`.
     unsafe {
         knobstream_parse_three_fields(
@@ -163,7 +182,9 @@ pub fn parse_three_fields(year: List, month: Option<List>, day: Option<List>) ->
             d.bytes.len(),
             d.table.as_ptr(),
             d.table.len(),
-        )
+            answer.as_mut_ptr(),
+        );
+        answer.assume_init()
     }
 }
 
@@ -217,4 +238,11 @@ pub fn answer_frame<'a>(line: &[u8], out: &'a mut [u8]) -> Result<&'a str, u8> {
     // The call keeps nothing of them and stores within `out` alone.
     let w = unsafe { knobstream_answer_frame(line.as_ptr(), line.len(), bytes, room) };
     text(w, out)
+}
+
+#[cfg(test)]
+#[test]
+fn the_library_is_of_this_version() {
+    // SAFETY: the call takes nothing.
+    assert_eq!(unsafe { knobstream_version() }, 2);
 }

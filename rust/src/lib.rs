@@ -2,10 +2,9 @@
 //! biblatex does, by a static library of which every function is proved.
 //!
 //! ```
-//! use knobstream::{Chunk, Date, DateValue, Spanned};
+//! use knobstream::{Date, DateValue};
 //!
-//! let field = [Spanned::new(Chunk::Normal("1999/2003-07~"), 7..20)];
-//! let date = Date::parse(&field)?;
+//! let date = Date::parse_str("1999/2003-07~")?;
 //! assert!(date.approximate);
 //! let DateValue::Between(start, end) = date.value else { panic!() };
 //! assert_eq!((start.year, end.month), (1999, Some(6)));
@@ -29,7 +28,7 @@ use std::ops::Range;
 
 use ffi::List;
 
-/// The bytes of the longest answer to a frame.
+/// The room that every answer to a frame has enough of, its line feed included.
 pub const LINE_ROOM: usize = 139;
 
 /// The answer to a frame, a line of hexadecimal digits without its line feed,
@@ -63,7 +62,11 @@ impl<T> Spanned<T> {
         Self { v, span }
     }
 
-    /// A value that stands in no file.
+    /// A value that stands in no file: its place is the last that there is. A
+    /// refusal in such a text has no place that means anything, and one in the
+    /// second half of a range is [`TypeErrorKind::RustPanics`], since biblatex
+    /// panics where the sum of places is too large. [`Date::parse_str`] counts
+    /// places from the start of the text instead.
     pub fn detached(v: T) -> Self {
         Self { v, span: usize::MAX..usize::MAX }
     }
@@ -169,153 +172,119 @@ pub enum TimeOffset {
 /// Why a field is not read or a date is not written, and where.
 #[derive(Debug, Clone, Eq, PartialEq)]
 pub struct TypeError {
-    /// Where in the file; 0 to 0 if the kind names no place.
+    /// Where in the file; of [`TypeErrorKind::UnsupportedChar`], and of a day that a
+    /// month field holds, where in the field's text. 0 to 0 if the kind names no place.
     pub span: Span,
     /// Why.
     pub kind: TypeErrorKind,
 }
 
-/// The kinds of refusal, with their numbers.
-#[derive(Debug, Copy, Clone, Eq, PartialEq)]
-#[repr(u8)]
-#[non_exhaustive]
-pub enum TypeErrorKind {
+/// Declares the kinds of refusal, each once: its name, its number and its message.
+macro_rules! kinds {
+    ($($(#[$doc:meta])* $name:ident = $number:literal, $message:literal;)*) => {
+        /// The kinds of refusal, with their numbers.
+        #[derive(Debug, Copy, Clone, Eq, PartialEq)]
+        #[non_exhaustive]
+        pub enum TypeErrorKind {
+            $($(#[$doc])* $name,)*
+            /// A number of a later library, which this crate has no name for. No place.
+            Other(u8),
+        }
+
+        impl TypeErrorKind {
+            fn of(number: u8) -> Self {
+                match number {
+                    $($number => Self::$name,)*
+                    _ => Self::Other(number),
+                }
+            }
+
+            /// The number of the refusal.
+            pub fn number(self) -> u8 {
+                match self {
+                    $(Self::$name => $number,)*
+                    Self::Other(number) => number,
+                }
+            }
+        }
+
+        impl Display for TypeErrorKind {
+            fn fmt(&self, f: &mut Formatter) -> fmt::Result {
+                match self {
+                    $(Self::$name => f.write_str($message),)*
+                    Self::Other(number) => write!(f, "refused with the number {number}"),
+                }
+            }
+        }
+
+        #[cfg(test)]
+        const KINDS: &[(TypeErrorKind, u8)] = &[$((TypeErrorKind::$name, $number),)*];
+    };
+}
+
+kinds! {
     /// The range is open on both sides.
-    UndefinedRange = 1,
+    UndefinedRange = 1, "range must not be open on both sides";
     /// The day is no day of a month, or not of its month.
-    DayOutOfRange = 2,
+    DayOutOfRange = 2, "day out of range (must be a day of its month)";
     /// The month is not one of twelve.
-    MonthOutOfRange = 3,
+    MonthOutOfRange = 3, "month out of range (must be between 1 and 12)";
     /// What stands there is no number, or not in its range.
-    InvalidNumber = 4,
+    InvalidNumber = 4, "invalid number";
     /// A number is missing.
-    MissingNumber = 5,
+    MissingNumber = 5, "missing number";
     /// A number has the wrong number of digits.
-    WrongNumberOfDigits = 6,
+    WrongNumberOfDigits = 6, "wrong number of digits";
     /// The text is none of the forms that are read.
-    InvalidFormat = 7,
+    InvalidFormat = 7, "invalid format";
     /// A year zero with an era.
-    YearZeroCE = 8,
-    /// The crate biblatex panics on this. No place.
-    RustPanics = 9,
+    YearZeroCE = 8, "year 0 CE or BCE does not exist";
+    /// The crate biblatex, built with overflow checks, panics on this. No place.
+    RustPanics = 9, "no date: biblatex panics on it";
     /// The bytes are not UTF-8. No text of Rust is refused so.
-    BadUtf8 = 10,
+    BadUtf8 = 10, "not UTF-8";
     /// A character outside U+0000..U+00FF and U+2000..U+206F. Its place is in the text, not in the file.
-    UnsupportedChar = 11,
+    UnsupportedChar = 11, "character outside U+0000..U+00FF and U+2000..U+206F";
     /// The text is not one of the strict grammar. No place.
-    NotStrict = 12,
+    NotStrict = 12, "not a date of the strict grammar";
     /// The buffer is too short. No place.
-    NoRoom = 13,
+    NoRoom = 13, "buffer too short";
     /// Refuses a frame. No call of this crate does.
-    BadFrame = 14,
+    BadFrame = 14, "not a frame";
     /// Refuses a table of chunks. No list of Rust is refused so.
-    BadChunks = 15,
+    BadChunks = 15, "chunks do not fit the text";
     /// More than 64 chunks or 4,096 bytes. No place.
-    TooLong = 16,
+    TooLong = 16, "more than 64 chunks or 4,096 bytes";
     /// Not a year, month or day of the calendar, or outside the years -9999 to 9999. No place.
-    NotACalendarDate = 17,
+    /// No call of this crate refuses so.
+    NotACalendarDate = 17, "not a date of the calendar from -9999 to 9999";
     /// The last day is before the first, or a day is outside the years -9999 to 9999. No place.
-    BadPeriod = 18,
+    /// No call of this crate refuses so.
+    BadPeriod = 18, "not a period of the calendar from -9999 to 9999";
     /// The identifier is in the chronology. No place.
-    DuplicateEntry = 19,
+    /// No call of this crate refuses so.
+    DuplicateEntry = 19, "the identifier is in the chronology";
     /// The chronology has 512 entries. No place.
-    ChronologyFull = 20,
+    /// No call of this crate refuses so.
+    ChronologyFull = 20, "the chronology has 512 entries";
     /// The identifier is not in the chronology. No place.
-    UnknownEntry = 21,
+    /// No call of this crate refuses so.
+    UnknownEntry = 21, "the identifier is not in the chronology";
     /// A time without a day beside a month, or with a part or an offset out of range. No place.
-    BadTime = 22,
+    /// No call of this crate refuses so.
+    BadTime = 22, "not a time of a day";
     /// The day, the time or its offset is absent, so there is no instant. No place.
-    NoInstant = 25,
+    /// No call of this crate refuses so.
+    NoInstant = 25, "no day, no time or no offset";
     /// What was lent is no chronology. No place.
-    BadChronology = 26,
+    /// No call of this crate refuses so.
+    BadChronology = 26, "not a chronology";
 }
 
 impl TypeErrorKind {
-    fn of(number: u8) -> Self {
-        match number {
-            1 => Self::UndefinedRange,
-            2 => Self::DayOutOfRange,
-            3 => Self::MonthOutOfRange,
-            4 => Self::InvalidNumber,
-            5 => Self::MissingNumber,
-            6 => Self::WrongNumberOfDigits,
-            7 => Self::InvalidFormat,
-            8 => Self::YearZeroCE,
-            9 => Self::RustPanics,
-            10 => Self::BadUtf8,
-            11 => Self::UnsupportedChar,
-            12 => Self::NotStrict,
-            13 => Self::NoRoom,
-            14 => Self::BadFrame,
-            15 => Self::BadChunks,
-            16 => Self::TooLong,
-            17 => Self::NotACalendarDate,
-            18 => Self::BadPeriod,
-            19 => Self::DuplicateEntry,
-            20 => Self::ChronologyFull,
-            21 => Self::UnknownEntry,
-            22 => Self::BadTime,
-            25 => Self::NoInstant,
-            26 => Self::BadChronology,
-            _ => unreachable!("the library has no refusal {number}"),
-        }
-    }
-
-    /// The number of the refusal.
-    pub fn number(self) -> u8 {
-        self as u8
-    }
-
     /// Whether the refusal names a place.
     pub fn has_place(self) -> bool {
-        !matches!(
-            self,
-            Self::RustPanics
-                | Self::NotStrict
-                | Self::NoRoom
-                | Self::BadFrame
-                | Self::BadChunks
-                | Self::TooLong
-                | Self::NotACalendarDate
-                | Self::BadPeriod
-                | Self::DuplicateEntry
-                | Self::ChronologyFull
-                | Self::UnknownEntry
-                | Self::BadTime
-                | Self::NoInstant
-                | Self::BadChronology
-        )
-    }
-}
-
-impl Display for TypeErrorKind {
-    fn fmt(&self, f: &mut Formatter) -> fmt::Result {
-        f.write_str(match self {
-            Self::UndefinedRange => "range must not be open on both sides",
-            Self::DayOutOfRange => "day out of range (must be a day of its month)",
-            Self::MonthOutOfRange => "month out of range (must be between 1 and 12)",
-            Self::InvalidNumber => "invalid number",
-            Self::MissingNumber => "missing number",
-            Self::WrongNumberOfDigits => "wrong number of digits",
-            Self::InvalidFormat => "invalid format",
-            Self::YearZeroCE => "year 0 CE or BCE does not exist",
-            Self::RustPanics => "no date: biblatex panics on it",
-            Self::BadUtf8 => "not UTF-8",
-            Self::UnsupportedChar => "character outside U+0000..U+00FF and U+2000..U+206F",
-            Self::NotStrict => "not a date of the strict grammar",
-            Self::NoRoom => "buffer too short",
-            Self::BadFrame => "not a frame",
-            Self::BadChunks => "chunks do not fit the text",
-            Self::TooLong => "more than 64 chunks or 4,096 bytes",
-            Self::NotACalendarDate => "not a date of the calendar from -9999 to 9999",
-            Self::BadPeriod => "not a period of the calendar from -9999 to 9999",
-            Self::DuplicateEntry => "the identifier is in the chronology",
-            Self::ChronologyFull => "the chronology has 512 entries",
-            Self::UnknownEntry => "the identifier is not in the chronology",
-            Self::BadTime => "not a time of a day",
-            Self::NoInstant => "no day, no time or no offset",
-            Self::BadChronology => "not a chronology",
-        })
+        matches!(self.number(), 1..=8 | 10 | 11)
     }
 }
 
@@ -337,7 +306,34 @@ impl Date {
     /// The room that the fields of every date have enough of.
     pub const FIELDS_ROOM: usize = 79;
 
-    /// Reads a date field as biblatex does: "49" is 2049, "0049" the year 49.
+    /// Reads a text as biblatex reads a date field: "49" is 2049, "0049" the
+    /// year 49. The places of a refusal are counted from the start of the text.
+    ///
+    /// ```
+    /// # use knobstream::*;
+    /// assert_eq!(Date::parse_str("49?")?.to_string(), "2049?");
+    /// let error = Date::parse_str("1999/2000-13").unwrap_err();
+    /// assert_eq!((error.kind, error.span), (TypeErrorKind::MonthOutOfRange, 10..12));
+    /// # Ok::<(), TypeError>(())
+    /// ```
+    pub fn parse_str(text: &str) -> Result<Self, TypeError> {
+        Self::parse(&[whole(text)])
+    }
+
+    /// Reads a text by the strict grammar alone: "49" is refused.
+    ///
+    /// ```
+    /// # use knobstream::*;
+    /// assert_eq!(Date::parse_strict_str("0049")?.to_string(), "0049");
+    /// assert_eq!(Date::parse_strict_str("49").unwrap_err().kind, TypeErrorKind::NotStrict);
+    /// # Ok::<(), TypeError>(())
+    /// ```
+    pub fn parse_strict_str(text: &str) -> Result<Self, TypeError> {
+        Self::parse_strict(&[whole(text)])
+    }
+
+    /// Reads a date field as biblatex does, a list of chunks with their places
+    /// in the file.
     ///
     /// ```
     /// # use knobstream::*;
@@ -354,9 +350,9 @@ impl Date {
     ///
     /// ```
     /// # use knobstream::*;
-    /// let field = |text| [Spanned::detached(Chunk::Normal(text))];
-    /// assert!(Date::parse_strict(&field("0049")).is_ok());
-    /// assert_eq!(Date::parse_strict(&field("49")).unwrap_err().kind, TypeErrorKind::NotStrict);
+    /// let chunks = [Spanned::new(Chunk::Normal("20"), 7..9), Spanned::new(Chunk::Verbatim("00"), 10..12)];
+    /// assert_eq!(Date::parse_strict(&chunks)?, Date::parse_strict_str("2000")?);
+    /// # Ok::<(), TypeError>(())
     /// ```
     pub fn parse_strict(chunks: ChunksRef) -> Result<Self, TypeError> {
         with_list(chunks, |list| answered(ffi::parse_strict(list)))
@@ -367,8 +363,8 @@ impl Date {
     ///
     /// ```
     /// # use knobstream::*;
-    /// let year = [Spanned::detached(Chunk::Normal("49 BC"))];
-    /// let month = [Spanned::detached(Chunk::Normal("jul-4"))];
+    /// let year = [Spanned::new(Chunk::Normal("49 BC"), 7..12)];
+    /// let month = [Spanned::new(Chunk::Normal("jul-4"), 24..29)];
     /// let date = Date::parse_three_fields(&year, Some(&month), None)?;
     /// assert_eq!(date.to_string(), "-0048-07-04");
     /// # Ok::<(), TypeError>(())
@@ -395,8 +391,10 @@ impl Date {
     ///
     /// ```
     /// # use knobstream::*;
-    /// let date = Date::parse(&[Spanned::detached(Chunk::Normal("2000-2-9T10?"))])?;
+    /// let mut date = Date::parse_str("2000-2-9T10?")?;
     /// assert_eq!(date.text_length()?, "2000-02-09?".len());
+    /// date.value = DateValue::At(Datetime { year: 2000, month: Some(255), day: None, time: None });
+    /// assert_eq!(date.text_length().unwrap_err().kind, TypeErrorKind::RustPanics);
     /// # Ok::<(), TypeError>(())
     /// ```
     pub fn text_length(&self) -> Result<usize, TypeError> {
@@ -412,7 +410,7 @@ impl Date {
     ///
     /// ```
     /// # use knobstream::*;
-    /// let date = Date::parse(&[Spanned::detached(Chunk::Normal("2000-2-9T10?"))])?;
+    /// let date = Date::parse_str("2000-2-9T10?")?;
     /// assert_eq!(date.write(&mut [0; Date::TEXT_ROOM])?, "2000-02-09?");
     /// # Ok::<(), TypeError>(())
     /// ```
@@ -425,7 +423,7 @@ impl Date {
     ///
     /// ```
     /// # use knobstream::*;
-    /// let date = Date::parse(&[Spanned::detached(Chunk::Normal("1999/2000-02"))])?;
+    /// let date = Date::parse_str("1999/2000-02")?;
     /// let mut out = [0; Date::FIELDS_ROOM];
     /// assert_eq!(date.write_fields(&mut out)?, "year=1999\nendyear=2000\nendmonth=02\n");
     /// # Ok::<(), TypeError>(())
@@ -435,12 +433,13 @@ impl Date {
     }
 }
 
-/// The text of the date, as [`Date::write`] gives it; where that refuses, a
-/// formatting error.
+/// The text of the date, as [`Date::write`] gives it. A date that has none, for
+/// its month is 255, or its day beside a month, is shown as words that no reader
+/// takes for a date; [`Date::text_length`] says why.
 impl Display for Date {
     fn fmt(&self, f: &mut Formatter) -> fmt::Result {
         let mut out = [0; Self::TEXT_ROOM];
-        f.write_str(self.write(&mut out).map_err(|_| fmt::Error)?)
+        f.write_str(self.write(&mut out).unwrap_or("(no text: month or day 255)"))
     }
 }
 
@@ -462,6 +461,11 @@ impl PartialOrd for Datetime {
             _ => None,
         }
     }
+}
+
+/// A text as one chunk of a file that it begins.
+fn whole(text: &str) -> Spanned<Chunk<'_>> {
+    Spanned::new(Chunk::Normal(text), 0..text.len())
 }
 
 /// The table of a list that is refused as too long, wherever in their order the
@@ -590,11 +594,31 @@ fn plain_date(d: &Date) -> ffi::Date {
         DateValue::Between(a, b) => (3, a, b),
     };
     ffi::Date {
+        first: plain_day(first),
+        second: plain_day(second),
         shape,
         uncertain: d.uncertain.into(),
         approximate: d.approximate.into(),
-        first: plain_day(first),
-        second: plain_day(second),
+        reserved: 0,
+    }
+}
+
+#[cfg(test)]
+mod tests {
+    use super::*;
+
+    #[test]
+    fn every_number_has_a_kind() {
+        for number in 0..=255 {
+            let kind = TypeErrorKind::of(number);
+            assert_eq!(kind.number(), number);
+            let named = KINDS.contains(&(kind, number));
+            assert_eq!(named, !matches!(kind, TypeErrorKind::Other(_)));
+            assert_eq!(named, matches!(number, 1..=22 | 25 | 26));
+            assert_eq!(kind.has_place(), matches!(number, 1..=8 | 10 | 11));
+            assert!(!no_place(number).to_string().is_empty());
+        }
+        assert_eq!(TypeErrorKind::of(200).to_string(), "refused with the number 200");
     }
 }
 

@@ -41,7 +41,7 @@ fn word(n: u32) -> [u8; 4]
 }
 
 // A year in two's complement.
-fn twos(year: i32) -> u32
+pub fn twos(year: i32) -> u32
     ensures { λ r. ⌜ r ≡ spec.twos year ⌝ }
 {
     if year < 0 {

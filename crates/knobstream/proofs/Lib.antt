@@ -1,2 +1,4 @@
 pub mod Made
 pub mod Laws
+pub mod Words
+pub mod Examples

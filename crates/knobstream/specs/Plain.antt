@@ -1,6 +1,7 @@
 -- Dates and answers as plain structs: what a caller that is not Rattle gets.
-use Prim.Native.Nat.{ℕ}
+use Prim.Native.Nat.{ℕ, _+_, _*_}
 use mathlib.Core.Bool.{Bool, true, false}
+use mathlib.Core.List.{List, [], _∷_}
 use lib.IntN.{ℤ, pos, negsuc}
 use Rattle.refusals.specs.Refusal.{number}
 use Rattle.dates.specs.declared.OptionMonth.{OptionMonth}
@@ -21,6 +22,7 @@ use Rattle.dates.specs.declared.Date.{Date}
 use Rattle.dates.specs.Time.{time}
 use Rattle.datefield.specs.declared.ReadDate.{ReadDate}
 use Rattle.datefield.specs.declared.ReadDate.the-variants.{Accepted, Refused}
+use Rattle.answers.specs.Answer.{twos}
 use Rattle.writer.specs.declared.Measured.{Measured}
 use Rattle.writer.specs.declared.Measured.the-variants.{Length, NoLength}
 use Rattle.writer.specs.declared.Written.{Written}
@@ -174,6 +176,29 @@ accepted p = record { start = 0; end = 0; date = p; refusal = 0 }
 abbrev pub read : ReadDate → PlainRead
 read (Accepted d) = accepted (date d)
 read (Refused e) = record { start = e .place .0; end = e .place .1; date = noDate; refusal = number (e .kind) }
+
+-- four bytes as a number: the first is the lowest
+abbrev pub fourBytes : ℕ → ℕ → ℕ → ℕ → ℕ
+fourBytes a b c d = a + 256 * b + 65536 * c + 16777216 * d
+
+-- the eight bytes of a Datetime from its year to its day, as a word: the first is the lowest
+abbrev pub dayWord : PlainDatetime → ℕ
+dayWord p = twos (p .year) + 4294967296 * fourBytes (p .«has_month») (p .month) (p .«has_day») (p .day)
+
+-- the eight behind them, of which the last is 0
+abbrev pub timeWord : PlainDatetime → ℕ
+timeWord p =
+    fourBytes (p .«has_time») (p .hour) (p .minute) (p .second) + 4294967296 * fourBytes (p .offset) (p .«offset_hours») (p .«offset_minutes») 0
+
+-- the last eight bytes of an answer: the shape, the two marks, a 0, the refusal, and zeros
+abbrev pub lastWord : ℕ → ℕ → ℕ → ℕ → ℕ
+lastWord shape u p refusal = fourBytes shape u p 0 + 4294967296 * fourBytes refusal 0 0 0
+
+-- what a reader answers, as seven words: the place, two for each Datetime, and the last
+abbrev pub words : PlainRead → List ℕ
+words r =
+    r .start ∷ r .end ∷ dayWord (r .date .first) ∷ timeWord (r .date .first) ∷ dayWord (r .date .second) ∷ timeWord (r .date .second)
+    ∷ lastWord (r .date .shape) (r .date .uncertain) (r .date .approximate) (r .refusal) ∷ []
 
 -- what a writer answers: how many bytes were stored with refusal 0, or 0 with the refusal's number
 abbrev pub written : Written → PlainWritten

@@ -3,6 +3,7 @@
 // A struct is returned arm by arm where its parts would else meet again in registers, and a usual text becomes one at once.
 ghost use mathlib.Core.Path.{_≡_};
 ghost use mathlib.Core.Bool.{false};
+ghost use Prim.Native.Nat.{_<_};
 ghost use lib.ListN.{length};
 ghost use Rattle.reader.specs.Field.{parsed, parsedStrict};
 ghost use Rattle.reader.specs.Fields.{threeFields};
@@ -13,6 +14,7 @@ ghost use Rattle.writer.specs.Answers.{measured, answer, afterwards};
 ghost use Rattle.answers.specs.Answer.{answerLine};
 ghost use Rattle.frames.specs.Frame.{lineRead};
 ghost use Rattle.knobstream.specs.Plain as plain;
+ghost use Rattle.knobstream.specs.Layout.{Answered};
 ghost use Rattle.knobstream.specs.Back as back;
 use datefield::ReadDate;
 use dates::Date;
@@ -50,7 +52,6 @@ pub struct PlainDatetime {
 }
 
 // A Date. The second Datetime is all zeros but in a range with both ends.
-#[repr(C)]
 pub struct PlainDate {
     // 0 At, 1 After, 2 Before, 3 Between.
     pub shape: u8,
@@ -60,8 +61,8 @@ pub struct PlainDate {
     pub second: PlainDatetime,
 }
 
-// What a reader answers: a Date with the refusal 0, or the number of a refusal and its place with a Date that is all zeros.
-#[repr(C)]
+// What a reader answers: a Date with the refusal 0, or the number of a refusal and its place with a Date that is all zeros. A caller that is
+// not Rattle gets it as seven words, which it lends (`put`).
 pub struct PlainRead {
     pub start: u64,
     pub end: u64,
@@ -69,7 +70,7 @@ pub struct PlainRead {
     pub refusal: u8,
 }
 
-// What a writer answers: how many bytes it stored with the refusal 0, or the number of a refusal and 0.
+// What a writer answers, or measuring: how many bytes it stored, or the text has, with the refusal 0; or the number of a refusal and 0.
 #[repr(C)]
 pub struct PlainWritten {
     pub length: usize,
@@ -241,18 +242,6 @@ fn no_datetime() -> PlainDatetime
     }
 }
 
-fn no_date() -> PlainDate
-    ensures { λ r. ⌜ r ≡ plain.noDate ⌝ }
-{
-    PlainDate {
-        shape: 0,
-        uncertain: 0,
-        approximate: 0,
-        first: no_datetime(),
-        second: no_datetime(),
-    }
-}
-
 // What a reader answers that read a Date with one Datetime.
 fn read_one(shape: u8, a: Datetime, uncertain: bool, approximate: bool) -> PlainRead
     ensures { λ r. ⌜ r ≡ plain.accepted (plain.dateWith shape (plain.datetime a) plain.noDatetime uncertain approximate) ⌝ }
@@ -286,39 +275,6 @@ fn read_two(a: Datetime, b: Datetime, uncertain: bool, approximate: bool) -> Pla
             second: plain_datetime(b),
         },
         refusal: 0,
-    }
-}
-
-fn plain_read(r: ReadDate) -> PlainRead
-    ensures { λ q. ⌜ q ≡ plain.read r ⌝ }
-{
-    match r {
-        ReadDate::Accepted(d) => {
-            let v = d.value;
-            match v {
-                DateValue::At(a) => {
-                    return read_one(0, a, d.uncertain, d.approximate);
-                }
-                DateValue::After(a) => {
-                    return read_one(1, a, d.uncertain, d.approximate);
-                }
-                DateValue::Before(a) => {
-                    return read_one(2, a, d.uncertain, d.approximate);
-                }
-                DateValue::Between(a, b) => {
-                    return read_two(a, b, d.uncertain, d.approximate);
-                }
-            }
-        }
-        ReadDate::Refused(e) => {
-            let kind = e.kind;
-            return PlainRead {
-                start: e.place.0,
-                end: e.place.1,
-                date: no_date(),
-                refusal: refusals::number(kind),
-            };
-        }
     }
 }
 
@@ -366,6 +322,80 @@ fn plain_order(o: Order) -> i32
         Order::Equal => 0,
         Order::Greater => 1,
         Order::None => 2,
+    }
+}
+
+// ---- from plain numbers to words: the first byte of a word is its lowest
+
+fn four_bytes(a: u8, b: u8, c: u8, d: u8) -> u64
+    ensures { λ r. ⌜ (r ≡ plain.fourBytes a b c d) × (r < 4294967296) ⌝ }
+{
+    a as u64 + 256 * (b as u64) + 65536 * (c as u64) + 16777216 * (d as u64)
+}
+
+fn day_word(p: PlainDatetime) -> u64
+    ensures { λ r. ⌜ r ≡ plain.dayWord p ⌝ }
+{
+    answers::twos(p.year) as u64 + 4294967296 * four_bytes(p.has_month, p.month, p.has_day, p.day)
+}
+
+fn time_word(p: PlainDatetime) -> u64
+    ensures { λ r. ⌜ r ≡ plain.timeWord p ⌝ }
+{
+    four_bytes(p.has_time, p.hour, p.minute, p.second)
+        + 4294967296 * four_bytes(p.offset, p.offset_hours, p.offset_minutes, 0)
+}
+
+fn last_word(shape: u8, uncertain: u8, approximate: u8, refusal: u8) -> u64
+    ensures { λ r. ⌜ r ≡ plain.lastWord shape uncertain approximate refusal ⌝ }
+{
+    four_bytes(shape, uncertain, approximate, 0) + 4294967296 * four_bytes(refusal, 0, 0, 0)
+}
+
+// Stores an answer into the words that a caller lends.
+fn put(r: PlainRead, words: &mut [u64; 7])
+    ensures { λ _. ⌜ Answered (now (words .exit)) r ⌝ }
+{
+    let date = r.date;
+    let first = date.first;
+    let second = date.second;
+    let a = day_word(first);
+    let b = time_word(first);
+    let c = day_word(second);
+    let d = time_word(second);
+    let last = last_word(date.shape, date.uncertain, date.approximate, r.refusal);
+    *words = [r.start, r.end, a, b, c, d, last];
+}
+
+// Stores what a reader answers.
+fn put_read(r: ReadDate, words: &mut [u64; 7])
+    ensures { λ _. ⌜ Answered (now (words .exit)) (plain.read r) ⌝ }
+{
+    match r {
+        ReadDate::Accepted(d) => {
+            let v = d.value;
+            match v {
+                DateValue::At(a) => {
+                    put(read_one(0, a, d.uncertain, d.approximate), words);
+                }
+                DateValue::After(a) => {
+                    put(read_one(1, a, d.uncertain, d.approximate), words);
+                }
+                DateValue::Before(a) => {
+                    put(read_one(2, a, d.uncertain, d.approximate), words);
+                }
+                DateValue::Between(a, b) => {
+                    put(read_two(a, b, d.uncertain, d.approximate), words);
+                }
+            }
+        }
+        ReadDate::Refused(e) => {
+            let kind = e.kind;
+            let start = e.place.0;
+            let end = e.place.1;
+            let last = last_word(0, 0, 0, refusals::number(kind));
+            *words = [start, end, 0, 0, 0, 0, last];
+        }
     }
 }
 
@@ -477,34 +507,58 @@ fn date_of(p: PlainDate) -> Date
 
 // ---- the calls
 
+const VERSION: u32 = 2;
+
+// The version of these calls and of their structs: a caller that was made for another must not go on.
+#[no_mangle]
+pub extern "C" fn knobstream_version() -> u32
+    ensures { λ r. ⌜ r ≡ 2 ⌝ }
+{
+    VERSION
+}
+
 // A date field, read as the Rust reads it.
 #[no_mangle]
-pub extern "C" fn knobstream_parse(bytes: &[u8], table: &[u64]) -> PlainRead
-    ensures { λ r. ⌜ r ≡ plain.read (parsed (now (bytes .entry)) (now (table .entry))) ⌝ }
+pub extern "C" fn knobstream_parse(bytes: &[u8], table: &[u64], answer: &mut [u64; 7])
+    ensures { λ _. ⌜ Answered (now (answer .exit)) (plain.read (parsed (now (bytes .entry)) (now (table .entry)))) ⌝ }
 {
     if usual::is_one_normal(bytes, table) {
-        return match quick::text(bytes) {
-            UsualText::One(d) => read_one(0, d, false, false),
-            UsualText::Two(a, b) => read_two(a, b, false, false),
-            UsualText::Other => plain_read(usual::parse(bytes, table)),
-        };
+        match quick::text(bytes) {
+            UsualText::One(d) => {
+                put(read_one(0, d, false, false), answer);
+            }
+            UsualText::Two(a, b) => {
+                put(read_two(a, b, false, false), answer);
+            }
+            UsualText::Other => {
+                put_read(usual::parse(bytes, table), answer);
+            }
+        }
+        return;
     }
-    plain_read(usual::parse(bytes, table))
+    put_read(usual::parse(bytes, table), answer);
 }
 
 // A date field, read by the strict grammar alone.
 #[no_mangle]
-pub extern "C" fn knobstream_parse_strict(bytes: &[u8], table: &[u64]) -> PlainRead
-    ensures { λ r. ⌜ r ≡ plain.read (parsedStrict (now (bytes .entry)) (now (table .entry))) ⌝ }
+pub extern "C" fn knobstream_parse_strict(bytes: &[u8], table: &[u64], answer: &mut [u64; 7])
+    ensures { λ _. ⌜ Answered (now (answer .exit)) (plain.read (parsedStrict (now (bytes .entry)) (now (table .entry)))) ⌝ }
 {
     if usual::is_one_normal(bytes, table) {
-        return match quick::text(bytes) {
-            UsualText::One(d) => read_one(0, d, false, false),
-            UsualText::Two(a, b) => read_two(a, b, false, false),
-            UsualText::Other => plain_read(usual::parse_strict(bytes, table)),
-        };
+        match quick::text(bytes) {
+            UsualText::One(d) => {
+                put(read_one(0, d, false, false), answer);
+            }
+            UsualText::Two(a, b) => {
+                put(read_two(a, b, false, false), answer);
+            }
+            UsualText::Other => {
+                put_read(usual::parse_strict(bytes, table), answer);
+            }
+        }
+        return;
     }
-    plain_read(usual::parse_strict(bytes, table))
+    put_read(usual::parse_strict(bytes, table), answer);
 }
 
 // The fields year, month and day; a list is absent if the number before it is 0, and then is not looked at.
@@ -518,10 +572,11 @@ pub extern "C" fn knobstream_parse_three_fields(
     has_day: u8,
     day: &[u8],
     day_table: &[u64],
-) -> PlainRead
-    ensures { λ r. ⌜ r ≡ plain.read (threeFields (now (year .entry)) (now («year_table» .entry)) (back.isSet «has_month») (now (month .entry)) (now («month_table» .entry)) (back.isSet «has_day») (now (day .entry)) (now («day_table» .entry))) ⌝ }
+    answer: &mut [u64; 7],
+)
+    ensures { λ _. ⌜ Answered (now (answer .exit)) (plain.read (threeFields (now (year .entry)) (now («year_table» .entry)) (back.isSet «has_month») (now (month .entry)) (now («month_table» .entry)) (back.isSet «has_day») (now (day .entry)) (now («day_table» .entry)))) ⌝ }
 {
-    plain_read(reader::parse_three_fields(
+    let read = reader::parse_three_fields(
         year,
         year_table,
         is_set(has_month),
@@ -530,7 +585,8 @@ pub extern "C" fn knobstream_parse_three_fields(
         is_set(has_day),
         day,
         day_table,
-    ))
+    );
+    put_read(read, answer);
 }
 
 // How long the text of a Date is, for whoever must reserve room before it is written; it refuses what the writer refuses, apart from NoRoom. The

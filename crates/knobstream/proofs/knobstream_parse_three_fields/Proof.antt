@@ -11,15 +11,15 @@ is-set-requires-2 c κs = search needs
 parse-three-fields-requires : tie.Need-parse-three-fields-requires
 parse-three-fields-requires c κs = search needs
 
-plain-read-requires : tie.Need-plain-read-requires
-plain-read-requires c κs = search needs
+put-read-requires : tie.Need-put-read-requires
+put-read-requires c κs = search needs
 
 returns : tie.Need-returns
 returns c =
-    let b1 = c .before in
-    let b2 = b1 .before in
+    let b2 = c .before .before in
     let b3 = b2 .before in
-    simp (← b3 .is-set .ensures, ← b2 .is-set2 .ensures, ← b1 .parse-three-fields .ensures, ← c .plain-read .ensures)
+    let b4 = b3 .before in
+    simp (← b4 .is-set .ensures, ← b3 .is-set2 .ensures, ← b2 .parse-three-fields .ensures) (c .put-read .ensures)
 
 pub knobstream-parse-three-fields-spec : {M : Type 1} → statement M
 knobstream-parse-three-fields-spec =
@@ -28,5 +28,5 @@ knobstream-parse-three-fields-spec =
     is-set-requires
     is-set-requires-2
     parse-three-fields-requires
-    plain-read-requires
+    put-read-requires
     returns)
