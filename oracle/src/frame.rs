@@ -38,8 +38,8 @@ pub const THREE_FIELDS: u8 = 3;
 /// What the oracle answers in place of its usual answers.
 #[derive(Debug, Default, Clone, Copy)]
 pub struct Options {
-    /// Answer the strict operation's refusals 15, 16, 10 and 11, which come
-    /// before its reading, in place of the skip mark.
+    /// Answer the strict operations' refusals 15, 16, 10 and 11, which come
+    /// before their reading, in place of the skip mark.
     pub strict_checks: bool,
     /// Answer an accepted frame by 00 and its fields instead.
     pub fields: bool,

@@ -72,7 +72,7 @@ fn the_list() {
     let answers = oracle(&list);
     assert_eq!(answers.lines().count(), count);
     let kinds: BTreeSet<&str> = answers.lines().map(|line| &line[..2]).collect();
-    // All but NotStrict and NoRoom.
+    // All that the Rust and the checks before it give: not NotStrict and NoRoom, nor those from 17 on.
     let wanted = [
         "--", "00", "01", "02", "03", "04", "05", "06", "07", "08", "09", "0a", "0b", "0e", "0f",
         "10",

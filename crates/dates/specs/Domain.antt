@@ -1,4 +1,4 @@
--- The Datetimes whose text can be read back: a year of four digits, a month and a day of the calendar, no time.
+-- The Datetimes whose text without times can be read back: a year of four digits, a month and a day of the calendar, no time.
 use Prim.Native.Nat.{_<_}
 use mathlib.Core.Path.{_≡_}
 use lib.IntN.{ℤ, natAbs}
@@ -23,5 +23,5 @@ pub record EndIn (d : Datetime) : Type 0 where
   pub year-in : natAbs (d .year) < 10000
   -- no reader takes what the calendar does not have
   pub parts-in : PartsIn (d .year) (d .month) (d .day)
-  -- a time is read and never written
+  -- the text has no time
   pub untimed : d .time ≡ NoTime

@@ -1,5 +1,5 @@
-// Refusals: why a call gives no date, and where. A place in the formatted text and a place in the file are two types, and only the
-// functions here make one of the other.
+// Refusals: why a call refuses, and where. A place in the formatted text and a place in the file are two types. Of a date only the functions
+// here make one of the other; the places of page ranges are made in `pages`.
 ghost use mathlib.Core.Path.{_≡_};
 ghost use Rattle.refusals.specs.Refusal as spec;
 ghost use Rattle.refusals.specs.Offset as move_;
@@ -35,9 +35,9 @@ pub enum Kind {
     NoRoom,
     // The line is no frame.
     BadFrame,
-    // The chunk table does not fit the bytes.
+    // The chunk table does not fit the bytes, or the counts of pieces the table.
     BadChunks,
-    // Too many chunks or bytes.
+    // Too many chunks, bytes or pieces.
     TooLong,
     // No year, month or day of the calendar from -9999 to 9999.
     NotACalendarDate,

@@ -9,7 +9,7 @@ ghost use Rattle.scanner.specs.declared.Class.the-variants.{Whitespace, 
 use chars::Decoded;
 use chars::wide;
 
-// A place in the formatted text, in bytes. It is no place in the file: only the offset rule of `refusals` makes one of it.
+// A place in the formatted text, in bytes. It is no place in the file: of a date only the offset rule of `refusals` makes one of it.
 pub struct Cursor(pub usize);
 
 // What the ported code gives its scanner as a pattern: a predicate, a few characters or one.

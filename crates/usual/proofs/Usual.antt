@@ -1,4 +1,4 @@
--- What is read at once is what both readers say: a text of the strict grammar is formatted as it stands.
+-- What is read at once is what its reader says: a text of the strict grammar is formatted as it stands.
 -- Assumes nothing.
 use mathlib.Core.Path.{_≡_, refl, sym, ap, _∙_, subst}
 use mathlib.Core.Bool.{Bool, true, false, false≢true}

@@ -117,7 +117,7 @@ const DATES: &[&str] = &[
     "2000-01-X1", "2000-01-1X", "2000-01-XX ", "2000-01-XX q", "2000-01-XX-", "2000-01-XX/2001",
     "2000-01 - XX", "2000-01XX", "2000-01 XX", "2000-01-01X", "2000-½-XX", "2000.XX", "2000/20XX",
     "20XX/q", "../19XX", "19XX/..", "2000-01-01T10:20:30X", "200½X", "0001-XX",
-    // Uppercasing that changes letters, and characters that are not admitted.
+    // Upper case that changes letters; the typesetter's characters, and some that are not admitted.
     "ß", "µ", "ÿ", "é", "\u{a0}", "\u{85}", "\u{ad}", "2000−01", "2000\u{2013}01", "2000\u{2009}",
     "\u{2003}2000", "2000\u{2028}-01", "19XX\u{2009}", "2000/\u{2009}", "2000\u{200b}",
     "2000\u{2007}-\u{205f}01\u{206f}", "\u{2013}2000", "2000\u{2070}", "2000\u{1fff}",
@@ -192,7 +192,7 @@ const ODD: &[char] = &[
 
 const NOON: &str = "2000-01-01T12:00:00Z";
 
-/// Byte sequences: ill-formed ones, and well-formed ones beyond the set.
+/// Byte sequences: ill-formed ones, and well-formed ones at the ends of the set and beyond it.
 #[rustfmt::skip]
 const SEQUENCES: &[&[u8]] = &[
     &[0x80], &[0xbf], &[0x80, 0x80], &[0xc0], &[0xc0, 0x80], &[0xc1, 0xbf], &[0xc2], &[0xc3],
@@ -908,7 +908,7 @@ fn seeded(rng: &mut Rng) -> String {
 fn pieces(rng: &mut Rng, text: &str) -> Vec<Piece> {
     let mut bytes = text.as_bytes().to_vec();
     match rng.below(300) {
-        // Ill-formed, or not admitted.
+        // Ill-formed, of the typesetter's, or not admitted.
         0 => {
             let at = rng.below(bytes.len() + 1);
             bytes.splice(at..at, rng.pick(SEQUENCES).iter().copied());

@@ -13,7 +13,7 @@ const USAGE: &str = "usage: oracle [--strict-checks] [--fields]
        oracle --version
 
 Reads one frame a line, writes one answer a line.
---strict-checks   refusals 15, 16, 10 and 11 of the strict operation, not --
+--strict-checks   refusals 15, 16, 10 and 11 of the strict operations, not --
 --fields          answer an accepted frame by 00 and its fields";
 
 fn main() -> ExitCode {
