@@ -146,6 +146,19 @@ pub length-refused : (e : Refusal) → length (refusedBytes e) ≡ 17
 unfolding refusedBytes
 length-refused e = refl
 
+-- one Datetime or two
+ends-most : (v : DateValue) → length (endsBytes v) ≤ 26
+unfolding endsBytes
+ends-most (At a) = omega (arith, length-datetime a)
+ends-most (After a) = omega (arith, length-datetime a)
+ends-most (Before a) = omega (arith, length-datetime a)
+ends-most (Between a b) = omega (arith, length-append (datetimeBytes a) (datetimeBytes b), length-datetime a, length-datetime b)
+
+-- the line of a Date, by the length of its text
+pub accepted-most : (d : Date) (text : List ℕ) → length (acceptedLine d text) ≤ 2 * (29 + length text) + 1
+unfolding acceptedBytes
+accepted-most d text = omega (arith, length-line (acceptedBytes d text), length-append (endsBytes (d .value)) text, ends-most (d .value))
+
 -- a line that was put
 pub line-put : (b : List ℕ) {l m p : List ℕ} {j k : ℕ} → Put (hexText b) l 0 m j → Put (0x0A ∷ []) m j p k → Put (lineOf b) l 0 p k
 line-put b p q = both p q

@@ -2,14 +2,14 @@
 use mathlib.Core.Path.{_≡_, refl, sym, ap, _∙_}
 use mathlib.Core.Bool.{Bool, true, false, false≢true}
 use mathlib.Core.List.{List, _++_}
-use Prim.Native.Nat.{ℕ, _≤_, _<_}
+use Prim.Native.Nat.{ℕ, _+_, _*_, _≤_, _<_}
 use native.Mathlib.Omega.{arith}
 use borrow.Author.Tests.{lt-leb, le-leb}
 use lib.Dec.{leb}
 use lib.ListN.{length, take, drop, length-append}
 use lib.Seq.{take-at}
 use Rattle.chars.specs.Pick.{pick}
-use Rattle.chars.proofs.Cases.{of-test}
+use Rattle.chars.proofs.Cases.{by-test, of-test}
 use Rattle.refusals.specs.declared.Refusal.{Refusal}
 use Rattle.refusals.specs.declared.Kind.the-variants.{RustPanics}
 use Rattle.refusals.specs.Refusal.{fileSpan, refusal}
@@ -23,7 +23,8 @@ use Rattle.writer.specs.declared.Written.the-variants.{Done, Refused}
 use Rattle.writer.specs.Answers.{refused, measured, decided, answer, afterwards, Put}
 use Rattle.writer.specs.Texts.{dateText, panics}
 use Rattle.writer.proofs.Answered.{has-length, done, refuses}
-use Rattle.answers.specs.Answer.{refusedLine, acceptedLine, answerLine}
+use Rattle.answers.specs.Answer.{refusedBytes, refusedLine, acceptedLine, answerLine}
+use Rattle.answers.proofs.Digits.{length-line, length-refused, accepted-most}
 
 abbrev isDone : Written → Bool
 isDone (Done n) = true
@@ -107,3 +108,16 @@ no-text-line d em en =
     of-test (panics d)
     (λ p. rw p (ap refusedLine (reason-same (sym en ∙ rw p at em))))
     (λ p. absurd (false≢true (ap hasLength (sym en ∙ rw p at em))))
+
+-- the line of a refusal has one length
+pub refused-length : (e : Refusal) → length (refusedLine e) ≡ 35
+refused-length e = omega (arith, length-line (refusedBytes e), length-refused e)
+
+-- how long an answer is, by how long the text of an accepted Date can be
+pub line-most : (n : ℕ) (r : ReadDate) → ((d : Date) → r ≡ Accepted d → length (dateText d) ≤ n) → length (answerLine r) ≤ 2 * (29 + n) + 1
+unfolding answerLine
+line-most n (Accepted d) h =
+    by-test (λ (l : List ℕ). length l ≤ 2 * (29 + n) + 1) (panics d)
+    (λ _. omega (arith, refused-length (refusal RustPanics (fileSpan 0 0))))
+    (λ _. omega (arith, accepted-most d (dateText d), h d refl))
+line-most n (NotRead e) h = omega (arith, refused-length e)

@@ -1,4 +1,5 @@
 pub mod Entries
 pub mod Lists
 pub mod Single
+pub mod Stored
 pub mod Examples

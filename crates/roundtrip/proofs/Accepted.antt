@@ -1,4 +1,5 @@
--- What the ported reader accepts, if it has no time, is a Date whose text is read back, or a day-XX range in a month under 31 days.
+-- What the ported reader accepts is a date of the calendar at each end, whatever its time, or a day-XX range in a month under 31 days. So
+-- without a time it is a Date whose text is read back, or such a range.
 -- Assumes nothing.
 use mathlib.Core.Path.{_≡_, refl, subst}
 use mathlib.Core.Bool.{Bool}
@@ -49,14 +50,14 @@ use Rattle.dates.specs.Domain.{PartsIn, EndIn}
 use Rattle.roundtrip.specs.Domain.{InDomain, Untimed, ShortMonthRange, days-xx}
 
 -- every end is a date of the calendar, whatever its time
-abbrev AllDated : DateValue → Type 0
+abbrev pub AllDated : DateValue → Type 0
 AllDated (At a) = Dated a
 AllDated (After a) = Dated a
 AllDated (Before a) = Dated a
 AllDated (Between a b) = Dated a × Dated b
 
 -- or it is the one exception
-abbrev Known : DateValue → Type 0
+abbrev pub Known : DateValue → Type 0
 Known v = AllDated v ⊎ ShortMonthRange v
 
 data Holds : ReadValue → Type 0 where
@@ -80,10 +81,11 @@ halves-good span s slash =
     (λ _. by-test Holds (isOpen v) (λ _. fails) λ _. half-good v _ λ b h. holds {v = Before b} (inl h))
     (λ _. by-test Holds (isOpen v) (λ _. half-good u _ λ a h. holds {v = After a} (inl h)) λ _. half-good u _ λ a h. half-good v _ λ b k. holds {v = Between a b} (inl (h, k)))
 
--- an X range
-dated : (y : ℕ) (m : OptionMonth) (d : OptionDay) → y < 10000 → PartsIn (pos y) m d → Dated (datetime (pos y) m d NoTime)
+-- a date of a year without a sign, and no time
+pub dated : (y : ℕ) (m : OptionMonth) (d : OptionDay) → y < 10000 → PartsIn (pos y) m d → Dated (datetime (pos y) m d NoTime)
 dated y m d h p = record { year-in = h; parts-in = p }
 
+-- an X range
 range-known : {a b : Datetime} → XRange a b → Known (Between a b)
 range-known (some-years {y} {z} h k) = inl (dated y NoMonth NoDay h tt, dated z NoMonth NoDay k tt)
 range-known (all-months {y} h) = inl (dated y (month 0) NoDay h (lit< tt), dated y (month 11) NoDay h (lit< tt))
@@ -128,7 +130,8 @@ of-fine (fine h) = h
 end-in : {d : Datetime} → Dated d → d .time ≡ NoTime → EndIn d
 end-in w t = record { year-in = w .year-in; parts-in = w .parts-in; untimed = t }
 
-in-domain : (v : DateValue) → AllDated v → Untimed v → InDomain v
+-- without a time it is of the domain
+pub in-domain : (v : DateValue) → AllDated v → Untimed v → InDomain v
 in-domain (At a) h t = end-in h t
 in-domain (After a) h t = end-in h t
 in-domain (Before a) h t = end-in h t
@@ -138,6 +141,10 @@ parsed-fine : (b table : List ℕ) → Fine (parsed b table)
 unfolding parsed parseText trimmedDate
 parsed-fine b table = clean-fine (checked b table) (marked-fine _ _ (value-good (spanOf (chunksOf table)) _))
 
--- an accepted text gives a Date of the domain, if it has no time, or such a range
+-- an accepted text gives dates of the calendar, whatever their time, or such a range
+pub accepted-known : (b table : List ℕ) {d : Date} → parsed b table ≡ Accepted d → Known (d .value)
+accepted-known b table e = of-fine (subst Fine e (parsed-fine b table))
+
+-- so a Date of the domain, if it has no time, or such a range
 pub accepted-in : (b table : List ℕ) {d : Date} → parsed b table ≡ Accepted d → Untimed (d .value) → InDomain (d .value) ⊎ ShortMonthRange (d .value)
-accepted-in b table {d} e t = ⊎-elim (λ h. inl (in-domain (d .value) h t)) inr (of-fine (subst Fine e (parsed-fine b table)))
+accepted-in b table {d} e t = ⊎-elim (λ h. inl (in-domain (d .value) h t)) inr (accepted-known b table e)

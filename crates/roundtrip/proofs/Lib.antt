@@ -14,4 +14,5 @@ pub mod Accepted
 pub mod Unknown
 pub mod Agrees
 pub mod Strictly
+pub mod Narrow
 pub mod Theorems

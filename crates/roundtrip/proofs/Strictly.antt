@@ -1,4 +1,5 @@
--- What the strict reader accepts, if it has no time, is a Date of the domain: so it survives writing and strict rereading. By derivation.
+-- What the strict reader accepts is a date of the calendar at each end, whatever its time. Without a time it is a Date of the domain: so it
+-- survives writing and strict rereading. By derivation.
 -- Assumes nothing.
 use mathlib.Core.Path.{_≡_, refl}
 use mathlib.Core.List.{List}
@@ -11,18 +12,19 @@ use Rattle.dates.specs.declared.OptionMonth.the-variants.{NoMonth}
 use Rattle.dates.specs.declared.OptionDay.{OptionDay}
 use Rattle.dates.specs.declared.OptionDay.the-variants.{NoDay}
 use Rattle.dates.specs.declared.OptionTime.{OptionTime}
-use Rattle.dates.specs.declared.OptionTime.the-variants.{NoTime}
 use Rattle.dates.specs.declared.Datetime.{Datetime}
 use Rattle.dates.specs.declared.DateValue.{DateValue}
 use Rattle.dates.specs.declared.Date.{Date}
-use Rattle.dates.specs.Domain.{PartsIn, EndIn}
+use Rattle.dates.specs.Domain.{PartsIn}
 use Rattle.dates.specs.Value.{month, day}
 use Rattle.dates.proofs.Months.{some-day}
+use Rattle.points.proofs.Accepted.{Dated}
 use Rattle.datefield.specs.declared.ReadDate.the-variants.{Accepted}
-use Rattle.strict.specs.Grammar.{Year, dddd, -dddd, field, no-day, -dd, InYear, no-month, -mm, Point, point, plain, lastDay, Unknown, ddXX, dddX, dddd-XX, dddd-XX-XX, dddd-mm-XX, Value, alone, between, after, before, unknown, Text, text}
+use Rattle.strict.specs.Grammar.{Year, dddd, -dddd, field, no-day, -dd, InYear, no-month, -mm, Point, point, lastDay, Unknown, ddXX, dddX, dddd-XX, dddd-XX-XX, dddd-mm-XX, Value, alone, between, after, before, unknown, Text, text}
 use Rattle.reader.specs.Field.{parsedStrict}
 use Rattle.roundtrip.specs.Domain.{InDomain, Untimed}
 use Rattle.roundtrip.proofs.Agrees.{derivation}
+use Rattle.roundtrip.proofs.Accepted.{AllDated, dated, in-domain}
 
 negated : (n : ℕ) → natAbs (negℤ (pos n)) ≡ n
 negated zero = refl
@@ -37,32 +39,34 @@ parts-in no-month = tt
 parts-in (-mm (field m h) no-day) = omega arith
 parts-in (-mm (field m h) (-dd (field d k) t)) = (omega arith, omega arith)
 
-end-in : {s : List ℕ} {a : Datetime} → Point s a → a .time ≡ NoTime → EndIn a
-end-in (point y p) t = record { year-in = year-in y; parts-in = parts-in p; untimed = t }
+point-dated : {s : List ℕ} {a : Datetime} → Point s a → Dated a
+point-dated (point y p) = record { year-in = year-in y; parts-in = parts-in p }
 
-plain-in : (n : ℕ) (m : OptionMonth) (d : OptionDay) → n < 10000 → PartsIn (pos n) m d → EndIn (plain n m d)
-plain-in n m d h p = record { year-in = h; parts-in = p; untimed = refl }
-
-unknown-in : {s : List ℕ} {v : DateValue} → Unknown s v → InDomain v
+unknown-dated : {s : List ℕ} {v : DateValue} → Unknown s v → AllDated v
 unfolding lastDay
-unknown-in (ddXX n h) = (plain-in _ NoMonth NoDay (omega arith) tt, plain-in _ NoMonth NoDay (omega arith) tt)
-unknown-in (dddX n h) = (plain-in _ NoMonth NoDay (omega arith) tt, plain-in _ NoMonth NoDay (omega arith) tt)
-unknown-in (dddd-XX n h) = (plain-in n (month 0) NoDay h (lit< tt), plain-in n (month 11) NoDay h (lit< tt))
-unknown-in (dddd-XX-XX n h) = (plain-in n (month 0) NoDay h (lit< tt), plain-in n (month 11) NoDay h (lit< tt))
-unknown-in (dddd-mm-XX n h (field m k)) =
+unknown-dated (ddXX n h) = (dated _ NoMonth NoDay (omega arith) tt, dated _ NoMonth NoDay (omega arith) tt)
+unknown-dated (dddX n h) = (dated _ NoMonth NoDay (omega arith) tt, dated _ NoMonth NoDay (omega arith) tt)
+unknown-dated (dddd-XX n h) = (dated n (month 0) NoDay h (lit< tt), dated n (month 11) NoDay h (lit< tt))
+unknown-dated (dddd-XX-XX n h) = (dated n (month 0) NoDay h (lit< tt), dated n (month 11) NoDay h (lit< tt))
+unknown-dated (dddd-mm-XX n h (field m k)) =
     let l : m < 12 = omega arith in
     let f = some-day m (pos n) l in
-    (plain-in n (month m) (day 0) h (l, f), plain-in n (month m) (day (lastDay m n)) h (l, omega (arith, f)))
+    (dated n (month m) (day 0) h (l, f), dated n (month m) (day (lastDay m n)) h (l, omega (arith, f)))
 
-value-in : {s : List ℕ} {v : DateValue} → Value Point s v → Untimed v → InDomain v
-value-in (alone p) t = end-in p t
-value-in (between p q) t = (end-in p (t .0), end-in q (t .1))
-value-in (after p) t = end-in p t
-value-in (before p) t = end-in p t
-value-in (unknown x) t = unknown-in x
+value-dated : {s : List ℕ} {v : DateValue} → Value Point s v → AllDated v
+value-dated (alone p) = point-dated p
+value-dated (between p q) = (point-dated p, point-dated q)
+value-dated (after p) = point-dated p
+value-dated (before p) = point-dated p
+value-dated (unknown x) = unknown-dated x
 
-text-in : {s : List ℕ} {d : Date} → Text s d → Untimed (d .value) → InDomain (d .value)
-text-in (text v m) t = value-in v t
+text-dated : {s : List ℕ} {d : Date} → Text s d → AllDated (d .value)
+text-dated (text v m) = value-dated v
 
+-- an accepted text gives dates of the calendar, whatever their time,
+pub strict-dated : (b table : List ℕ) {d : Date} → parsedStrict b table ≡ Accepted d → AllDated (d .value)
+strict-dated b table e = text-dated (derivation b table e)
+
+-- so a Date of the domain, if it has no time
 pub strict-in : (b table : List ℕ) {d : Date} → parsedStrict b table ≡ Accepted d → Untimed (d .value) → InDomain (d .value)
-strict-in b table e t = text-in (derivation b table e) t
+strict-in b table {d} e t = in-domain (d .value) (strict-dated b table e) t

@@ -1,8 +1,9 @@
--- How long a text and the fields of a date can be: at most 40 and 79 bytes, and both are reached. Assumes nothing.
+-- How long a text and the fields of a date can be: at most 40 and 79 bytes, and both are reached. With a year of four digits and a month and
+-- a day of two, a text has at most 24. Assumes nothing.
 use mathlib.Core.Path.{_≡_, refl}
 use mathlib.Core.Bool.{Bool, true, false}
 use mathlib.Core.List.{_++_}
-use Prim.Native.Nat.{ℕ, _+_, _≤_, _<_}
+use Prim.Native.Nat.{ℕ, _+_, _*_, _≤_, _<_}
 use native.Mathlib.Omega.{arith}
 use lib.Dec.{eqb, ltb}
 use lib.ListN.{length, length-append}
@@ -33,26 +34,39 @@ use Rattle.writer.specs.Fields.{prefix, line, partLines, endLines, value
 use Rattle.writer.proofs.Counts.{few, length-decimal}
 use Rattle.writer.proofs.Pieces.{hyphen-length, line-length}
 
--- ---- a Date as it is stored: a year in 32 bits, months and days in a byte each
+-- ---- the ends of a Date, with a month and a day below a number
 
-abbrev pub MonthIn : OptionMonth → Type 0
-MonthIn NoMonth = Unit {0}
-MonthIn (SomeMonth m) = m .0 < 256
+abbrev pub MonthUnder : ℕ → OptionMonth → Type 0
+MonthUnder n NoMonth = Unit {0}
+MonthUnder n (SomeMonth m) = m .0 < n
 
-abbrev pub DayIn : OptionDay → Type 0
-DayIn NoDay = Unit {0}
-DayIn (SomeDay d) = d .0 < 256
+abbrev pub DayUnder : ℕ → OptionDay → Type 0
+DayUnder n NoDay = Unit {0}
+DayUnder n (SomeDay d) = d .0 < n
 
+abbrev pub EachEnd : (Datetime → Type 0) → DateValue → Type 0
+EachEnd P (At d) = P d
+EachEnd P (After d) = P d
+EachEnd P (Before d) = P d
+EachEnd P (Between a b) = P a × P b
+
+-- as it is stored: a year in 32 bits, months and days in a byte each
 pub record Stored (d : Datetime) : Type 0 where
   pub year-in : SFits w32 (d .year)
-  pub month-in : MonthIn (d .month)
-  pub day-in : DayIn (d .day)
+  pub month-in : MonthUnder 256 (d .month)
+  pub day-in : DayUnder 256 (d .day)
 
 abbrev pub Ends : DateValue → Type 0
-Ends (At d) = Stored d
-Ends (After d) = Stored d
-Ends (Before d) = Stored d
-Ends (Between a b) = Stored a × Stored b
+Ends v = EachEnd Stored v
+
+-- as readers give it: a year of four digits, months and days that are written with two
+pub record Narrow (d : Datetime) : Type 0 where
+  pub year-in : natAbs (d .year) < 10000
+  pub month-in : MonthUnder 99 (d .month)
+  pub day-in : DayUnder 99 (d .day)
+
+abbrev pub NarrowEnds : DateValue → Type 0
+NarrowEnds v = EachEnd Narrow v
 
 -- ---- the pieces
 
@@ -65,54 +79,64 @@ unfolding minus
 minus-most (pos n) = omega arith
 minus-most (negsuc n) = omega arith
 
-year-most : (y : ℤ) → SFits w32 y → length (yearText y) ≤ 11
+year-by : (y : ℤ) (k : ℕ) → 4 ≤ k → digitCount (natAbs y) ≤ k → length (yearText y) ≤ k + 1
 unfolding yearText
-year-most y f =
-    let n = fits-abs y f .fits in
-    let w = at-most 4 (natAbs y) 10 (omega arith) (few 10 (natAbs y) (omega arith)) in
-    omega (arith, length-append (minus y) (decimal 4 (natAbs y)), length-decimal 4 (natAbs y), minus-most y, w)
+year-by y k h g =
+    omega (arith, length-append (minus y) (decimal 4 (natAbs y)), length-decimal 4 (natAbs y), minus-most y, at-most 4 (natAbs y) k h g)
+
+year-most : (y : ℤ) → SFits w32 y → length (yearText y) ≤ 11
+year-most y f = let n = fits-abs y f .fits in year-by y 10 (omega arith) (few 10 (natAbs y) (omega arith))
+
+year-short : (y : ℤ) → natAbs y < 10000 → length (yearText y) ≤ 5
+year-short y h = year-by y 4 (omega arith) (few 4 (natAbs y) (omega arith))
+
+part-by : (n k : ℕ) → 2 ≤ k → digitCount n ≤ k → length (partText n) ≤ k
+unfolding partText
+part-by n k h g = omega (arith, length-decimal 2 n, at-most 2 n k h g)
 
 pub part-most : (n : ℕ) → n < 1000 → length (partText n) ≤ 3
-unfolding partText
-part-most n h = omega (arith, length-decimal 2 n, at-most 2 n 3 (omega arith) (few 3 n h))
+part-most n h = part-by n 3 (omega arith) (few 3 n h)
 
--- the written parts of a stored Datetime have at most three digits each
-data Short : Parts → Type 0 where
-  none : Short NoParts
-  one : {m : WrittenMonth} → m .0 < 1000 → Short (WithMonth m)
-  two : {m : WrittenMonth} {d : WrittenDay} → m .0 < 1000 → d .0 < 1000 → Short (WithDay m d)
-  over : Short TooLarge
+part-short : (n : ℕ) → n < 100 → length (partText n) ≤ 2
+part-short n h = part-by n 2 (omega arith) (few 2 n h)
 
-short : (m : OptionMonth) (d : OptionDay) → MonthIn m → DayIn d → Short (monthParts m d)
+-- the written parts of a Datetime have at most so many digits each
+data Short (k : ℕ) : Parts → Type 0 where
+  none : Short k NoParts
+  one : {m : WrittenMonth} → length (partText (m .0)) ≤ k → Short k (WithMonth m)
+  two : {m : WrittenMonth} {d : WrittenDay} → length (partText (m .0)) ≤ k → length (partText (d .0)) ≤ k → Short k (WithDay m d)
+  over : Short k TooLarge
+
+short-by : (n k : ℕ) → ((i : ℕ) → i ≤ n → length (partText i) ≤ k) → (m : OptionMonth) (d : OptionDay) → MonthUnder n m → DayUnder n d → Short k (monthParts m d)
 unfolding monthParts dayParts writtenMonth writtenDay
-short NoMonth d h k = none
-short (SomeMonth m) NoDay h k = by-test Short (eqb (m .0) 255) (λ _. over) (λ _. one (omega arith))
-short (SomeMonth m) (SomeDay d) h k =
-    by-test Short (eqb (m .0) 255) (λ _. over)
-    (λ _. by-test Short (eqb (d .0) 255) (λ _. over) (λ _. two (omega arith) (omega arith)))
+short-by n k f NoMonth d h g = none
+short-by n k f (SomeMonth m) NoDay h g = by-test (Short k) (eqb (m .0) 255) (λ _. over) (λ _. one (f (m .0 + 1) (omega arith)))
+short-by n k f (SomeMonth m) (SomeDay d) h g =
+    by-test (Short k) (eqb (m .0) 255) (λ _. over)
+    (λ _. by-test (Short k) (eqb (d .0) 255) (λ _. over) (λ _. two (f (m .0 + 1) (omega arith)) (f (d .0 + 1) (omega arith))))
+
+short : (m : OptionMonth) (d : OptionDay) → MonthUnder 256 m → DayUnder 256 d → Short 3 (monthParts m d)
+short = short-by 256 3 λ i h. part-most i (omega arith)
 
 -- ---- texts
 
-parts-most : {p : Parts} → Short p → length (partsText p) ≤ 8
+parts-most : {k : ℕ} {p : Parts} → Short k p → length (partsText p) ≤ 2 * k + 2
 unfolding partsText
 parts-most none = omega arith
-parts-most (one {m} h) = omega (arith, hyphen-length (m .0), part-most (m .0) h)
-parts-most (two {m} {d} h k) =
-    omega (arith, length-append (hyphenPart (m .0)) (hyphenPart (d .0)), hyphen-length (m .0), part-most (m .0) h, hyphen-length (d .0), part-most (d .0) k)
+parts-most (one {m} h) = omega (arith, hyphen-length (m .0))
+parts-most (two {m} {d} h g) = omega (arith, length-append (hyphenPart (m .0)) (hyphenPart (d .0)), hyphen-length (m .0), hyphen-length (d .0))
 parts-most over = omega arith
 
-datetime-most : (d : Datetime) → Stored d → length (datetimeText d) ≤ 19
+datetime-by : (y k : ℕ) (d : Datetime) → length (yearText (d .year)) ≤ y → Short k (monthParts (d .month) (d .day)) → length (datetimeText d) ≤ y + (2 * k + 2)
 unfolding datetimeText partsOf
-datetime-most d s =
-    omega (arith, length-append (yearText (d .year)) (partsText (monthParts (d .month) (d .day))), year-most (d .year) (s .year-in), parts-most (short (d .month) (d .day) (s .month-in) (s .day-in)))
+datetime-by y k d h p = omega (arith, length-append (yearText (d .year)) (partsText (monthParts (d .month) (d .day))), parts-most p)
 
-value-most : (v : DateValue) → Ends v → length (valueText v) ≤ 39
-unfolding valueText
-value-most (At d) s = let h = datetime-most d s in omega arith
-value-most (After d) s = let h = datetime-most d s in omega (arith, length-append (datetimeText d) (ascii "/.."))
-value-most (Before d) s = let h = datetime-most d s in omega (arith, length-append (ascii "../") (datetimeText d))
-value-most (Between a b) s =
-    omega (arith, datetime-most a (s .0), datetime-most b (s .1), length-append (datetimeText a ++ ascii "/") (datetimeText b), length-append (datetimeText a) (ascii "/"))
+datetime-most : (d : Datetime) → Stored d → length (datetimeText d) ≤ 19
+datetime-most d s = datetime-by 11 3 d (year-most (d .year) (s .year-in)) (short (d .month) (d .day) (s .month-in) (s .day-in))
+
+datetime-short : (d : Datetime) → Narrow d → length (datetimeText d) ≤ 11
+datetime-short d s =
+    datetime-by 5 2 d (year-short (d .year) (s .year-in)) (short-by 99 2 (λ i h. part-short i (omega arith)) (d .month) (d .day) (s .month-in) (s .day-in))
 
 mark-most : (u a : Bool) → length (markText u a) ≤ 1
 unfolding markText
@@ -121,11 +145,28 @@ mark-most false true = omega arith
 mark-most true false = omega arith
 mark-most false false = omega arith
 
+-- by the length of an end
+module _ {P : Datetime → Type 0} (n : ℕ) (some : 2 ≤ n) (most : (d : Datetime) → P d → length (datetimeText d) ≤ n) where
+  value-by : (v : DateValue) → EachEnd P v → length (valueText v) ≤ 2 * n + 1
+  unfolding valueText
+  value-by (At d) s = omega (arith, most d s)
+  value-by (After d) s = omega (arith, most d s, length-append (datetimeText d) (ascii "/.."))
+  value-by (Before d) s = omega (arith, most d s, length-append (ascii "../") (datetimeText d))
+  value-by (Between a b) s =
+      omega (arith, most a (s .0), most b (s .1), length-append (datetimeText a ++ ascii "/") (datetimeText b), length-append (datetimeText a) (ascii "/"))
+
+  text-by : (d : Date) → EachEnd P (d .value) → length (dateText d) ≤ 2 * n + 2
+  unfolding dateText
+  text-by d s =
+      omega (arith, length-append (valueText (d .value)) (markText (d .uncertain) (d .approximate)), value-by (d .value) s, mark-most (d .uncertain) (d .approximate))
+
 -- the text of a date has at most 40 bytes
 pub text-most : (d : Date) → Ends (d .value) → length (dateText d) ≤ 40
-unfolding dateText
-text-most d s =
-    omega (arith, length-append (valueText (d .value)) (markText (d .uncertain) (d .approximate)), value-most (d .value) s, mark-most (d .uncertain) (d .approximate))
+text-most = text-by 19 (omega arith) datetime-most
+
+-- and of one as readers give it at most 24
+pub text-short : (d : Date) → NarrowEnds (d .value) → length (dateText d) ≤ 24
+text-short = text-by 11 (omega arith) datetime-short
 
 -- ---- fields
 
@@ -133,12 +174,12 @@ text-most d s =
 extra : Bool → ℕ
 extra end = length (prefix end)
 
-lines-most : (end : Bool) {p : Parts} → Short p → length (partLines end p) ≤ 18 + extra end + extra end
+lines-most : (end : Bool) {p : Parts} → Short 3 p → length (partLines end p) ≤ 18 + extra end + extra end
 unfolding partLines extra
 lines-most end none = omega arith
-lines-most end (one {m} h) = omega (arith, line-length end (ascii "month=") (partText (m .0)), part-most (m .0) h)
+lines-most end (one {m} h) = omega (arith, line-length end (ascii "month=") (partText (m .0)))
 lines-most end (two {m} {d} h k) =
-    omega (arith, length-append (line end (ascii "month=") (partText (m .0))) (line end (ascii "day=") (partText (d .0))), line-length end (ascii "month=") (partText (m .0)), line-length end (ascii "day=") (partText (d .0)), part-most (m .0) h, part-most (d .0) k)
+    omega (arith, length-append (line end (ascii "month=") (partText (m .0))) (line end (ascii "day=") (partText (d .0))), line-length end (ascii "month=") (partText (m .0)), line-length end (ascii "day=") (partText (d .0)))
 lines-most end over = omega arith
 
 end-most : (end : Bool) (d : Datetime) → Stored d → length (endLines end d) ≤ 35 + extra end + extra end + extra end
