@@ -53,6 +53,7 @@ pub record Fits (r : PlainRead) : Type 0 where
   -- a uint64_t each
   pub start-fits : r .start < 18446744073709551616
   pub end-fits : r .end < 18446744073709551616
+  -- both Datetimes
   pub first-fits : DatetimeFits (r .date .first)
   pub second-fits : DatetimeFits (r .date .second)
   -- a uint8_t each

@@ -1,0 +1,95 @@
+use mathlib.Core.Path.{_≡_, refl}
+use Prim.Native.Nat.{_-_, _≤_}
+use native.Mathlib.Omega.{arith}
+use mathlib.Core.List.{[]}
+use lib.ListN.{length, drop}
+use borrow.Author.Needs.{needs}
+use Rattle.lines.specs.Runs.{Onward}
+use Rattle.lines.specs.Frames.{lineAnswer}
+use Rattle.lines.proofs.Unique.{goes-on}
+use Rattle.lines.proofs.Ways.{frames-way}
+use Rattle.lines.proofs.Onwards.{onward-none, onward-step, onward-over, stays-in}
+use Rattle.dateframes.proofs.Moved.{went-on, no-stop}
+use Rattle.dateframes.proofs.steps.Statement.{statement}
+use Rattle.dateframes.proofs.steps.Tie as tie
+
+abbrev Inv-loop : tie.InvT-loop
+Inv-loop block long out₀ at₀ l₀ out at l = (at ≤ length block) × Onward lineAnswer 16384 [] block long (drop at block) l × (length out ≡ length out₀)
+
+abbrev μ-loop : tie.MeasureT-loop
+μ-loop block long out₀ at₀ l₀ out at l = length block - at
+
+loop-holds : tie.Need-loop-holds Inv-loop μ-loop
+loop-holds c = let a = c .before .before .args in (omega arith, onward-none lineAnswer 16384 (a .block .now) (a .long), refl)
+
+sub-step : tie.Need-sub-step Inv-loop μ-loop
+sub-step c = search needs
+
+part-step-start : tie.Need-part-step-start Inv-loop μ-loop
+part-step-start c = search needs
+
+part-step-end : tie.Need-part-step-end Inv-loop μ-loop
+part-step-end c = search needs
+
+step-requires : tie.Need-step-requires Inv-loop μ-loop
+step-requires c κs = search needs
+
+add-at : tie.Need-add-at Inv-loop μ-loop
+add-at c =
+    let x = c .before .before .before in
+    let m = x .before .before .before in
+    omega (arith, stays-in (m .before .before .before .args .block .now) (m .loop .at) (x .step .ensures) (m .loop .inv .0))
+
+flush-requires : tie.Need-flush-requires Inv-loop μ-loop
+flush-requires c κs = search needs
+
+loop-less : tie.Need-loop-less Inv-loop μ-loop
+loop-less c =
+    let f = c .before .before in
+    let x = f .before .before .before .before .before in
+    let m = x .before .before .before in
+    let fit : 139 ≤ length (m .loop .out) = omega arith in
+    let some = goes-on frames-way fit (x .step .ensures) (went-on (x .step .result .full) (f .flush .result) (c .if1 .taken)) .0 in
+    omega (arith, stays-in (m .before .before .before .args .block .now) (m .loop .at) (x .step .ensures) (m .loop .inv .0))
+
+loop-again : tie.Need-loop-again Inv-loop μ-loop
+loop-again c =
+    let f = c .before .before in
+    let x = f .before .before .before .before .before in
+    let m = x .before .before .before in
+    let b = m .before .before .before .args .block .now in
+    (stays-in b (m .loop .at) (x .step .ensures) (m .loop .inv .0), onward-step b (m .loop .at) (x .step .ensures) (m .loop .inv .1), search needs)
+
+same-length : tie.Need-same-length Inv-loop μ-loop
+same-length c = search needs
+
+returns : tie.Need-returns Inv-loop μ-loop
+returns c =
+    let f = c .before .before in
+    let x = f .before .before .before .before .before in
+    let m = x .before .before .before in
+    let b = m .before .before .before .args .block .now in (
+      stays-in b (m .loop .at) (x .step .ensures) (m .loop .inv .0),
+      (
+        onward-step b (m .loop .at) (x .step .ensures) (m .loop .inv .1),
+        λ good. onward-over b (m .loop .at) (x .step .ensures) (no-stop (x .step .result .full) (f .flush .result) (c .if1 .left) good),
+      ),
+    )
+
+pub steps-spec : {M : Type 1} → statement M
+steps-spec =
+    tie.close
+    (tie.spec
+    Inv-loop
+    μ-loop
+    loop-holds
+    sub-step
+    part-step-start
+    part-step-end
+    step-requires
+    add-at
+    flush-requires
+    loop-less
+    loop-again
+    same-length
+    returns)

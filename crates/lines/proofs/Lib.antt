@@ -1,0 +1,10 @@
+pub mod Feeds
+pub mod Cuts
+pub mod Splits
+pub mod Examples
+pub mod Replies
+pub mod Ways
+pub mod Moves
+pub mod Unique
+pub mod Theorems
+pub mod Onwards

@@ -1,0 +1,4 @@
+pub mod Lines
+pub mod Steps
+pub mod Runs
+pub mod Frames
