@@ -14,10 +14,10 @@
  * run at once in any number of threads, if no two of them have the same `out`
  * or `answer`.
  *
- * What the caller owes: a pointer that is readable (for `out` writable) for as
- * many elements as are said, a table that is aligned as uint64_t is, an
- * `answer` that overlaps nothing else that is lent, and for a struct that goes
- * in members that have values.
+ * What the caller owes: a pointer that is readable (for `out` and `answer`
+ * writable) for as many elements as are said, `answer` never NULL; a table that
+ * is aligned as uint64_t is; an `out` or `answer` that overlaps nothing else
+ * that is lent; and for a struct that goes in members that have values.
  */
 #ifndef KNOBSTREAM_H
 #define KNOBSTREAM_H

@@ -3,8 +3,8 @@
 // input comes in blocks, is proved of the crate lines; here is only the reading and the writing.
 ghost use mathlib.Core.Path.{_≡_};
 ghost use mathlib.Core.Bool.{true};
-ghost use mathlib.Core.List.{List, []};
-ghost use Prim.Native.Nat.{ℕ, _-_, _≤_, _<_};
+ghost use mathlib.Core.List.{[]};
+ghost use Prim.Native.Nat.{_+_, _-_, _≤_, _<_};
 ghost use lib.ListN.{length, take, drop};
 ghost use Rattle.lines.specs.Lines.{NoFeed};
 ghost use Rattle.lines.specs.Runs.{Onward};
@@ -76,12 +76,14 @@ fn move_down(buf: &mut [u8], from: usize, to: usize)
     }
 }
 
-// Answers the lines of the first n bytes of the block, and moves what is left of them to its front.
-fn answer_block(buf: &mut [u8], n: usize, long: bool, out: &mut [u8]) -> State
-    requires { ⌜ (n ≤ length (now buf)) × (139 ≤ length (now out)) ⌝ }
-    ensures { λ r. ⌜ Onward lineAnswer 16384 [] (take n (now (buf .entry))) long (take (r .have) (now (buf .exit))) (r .long) ⌝ }
+// Answers the lines of a block, of which the first bytes were kept and as many as are counted were read behind them, and moves what is left
+// to its front: a run goes on with just those bytes read.
+fn answer_read(buf: &mut [u8], have: usize, count: usize, long: bool, out: &mut [u8]) -> State
+    requires { ⌜ (have + count ≤ length (now buf)) × (139 ≤ length (now out)) ⌝ }
+    ensures { λ r. ⌜ Onward lineAnswer 16384 (take count (drop have (now (buf .entry)))) (take have (now (buf .entry))) long (take (r .have) (now (buf .exit))) (r .long) ⌝ }
     ensures { λ r. ⌜ (r .more ≡ true → NoFeed (take (r .have) (now (buf .exit))) × (r .have ≤ 16384)) ⌝ }
 {
+    let n = have + count;
     let d = steps(&buf[..n], long, out);
     let from = d.from;
     move_down(buf, from, n);
@@ -103,10 +105,9 @@ fn read_on(buf: &mut [u8]) -> isize {
     got
 }
 
-// One read, and the lines that it completes: their answers are out before the next. What goes on is a run again, with some new bytes read.
+// One read, and the lines that it completes: their answers are out before the next.
 fn turn(buf: &mut [u8], out: &mut [u8], st: State) -> State
-    requires { ⌜ (st .have < length (now buf)) × (139 ≤ length (now out)) ⌝ }
-    ensures { λ r. ⌜ (r .more ≡ true → (new : List ℕ) × Onward lineAnswer 16384 new (take (st .have) (now (buf .entry))) (st .long) (take (r .have) (now (buf .exit))) (r .long)) ⌝ }
+    requires { ⌜ (st .have ≤ length (now buf)) × (139 ≤ length (now out)) ⌝ }
     ensures { λ r. ⌜ (r .more ≡ true → NoFeed (take (r .have) (now (buf .exit))) × (r .have ≤ 16384)) ⌝ }
 {
     let have = st.have;
@@ -125,8 +126,8 @@ fn turn(buf: &mut [u8], out: &mut [u8], st: State) -> State
         flush(out, k);
         return stop;
     }
-    let n = have + io::count(got, &buf[have..]);
-    answer_block(buf, n, st.long, out)
+    let count = io::count(got, &buf[have..]);
+    answer_read(buf, have, count, st.long, out)
 }
 
 // The loop: a count of turns that no run uses up falls.

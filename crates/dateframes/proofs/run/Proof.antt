@@ -3,21 +3,20 @@ use mathlib.Core.Bool.{true}
 use Prim.Native.Nat.{_≤_}
 use native.Mathlib.Omega.{arith}
 use lib.ListN.{length}
-use Rattle.dateframes.proofs.Blocks.{Held, held-start, held-turn}
 use Rattle.dateframes.proofs.run.Statement.{statement}
 use Rattle.dateframes.proofs.run.Tie as tie
 
 abbrev Inv-loop : tie.InvT-loop
-Inv-loop buf₀ out₀ turns₀ st₀ buf out turns st = (length buf ≡ length buf₀) × (length out ≡ length out₀) × (st .more ≡ true → Held buf (st .have) (st .long) × (st .have ≤ 16384))
+Inv-loop buf₀ out₀ turns₀ st₀ buf out turns st = (length buf ≡ length buf₀) × (length out ≡ length out₀) × (st .more ≡ true → st .have ≤ 16384)
 
 abbrev μ-loop : tie.MeasureT-loop
 μ-loop buf₀ out₀ turns₀ st₀ buf out turns st = turns
 
 loop-holds : tie.Need-loop-holds Inv-loop μ-loop
-loop-holds c = (refl, refl, λ _. (held-start (c .before .before .args .buf .now), omega arith))
+loop-holds c = (refl, refl, λ _. omega arith)
 
 turn-requires : tie.Need-turn-requires Inv-loop μ-loop
-turn-requires c κs = let h = c .before .before .before .before .loop .inv .2 (c .before .before .if1 .taken) .1 in (omega arith, omega arith)
+turn-requires c κs = let h = c .before .before .before .before .loop .inv .2 (c .before .before .if1 .taken) in (omega arith, omega arith)
 
 sub-turns : tie.Need-sub-turns Inv-loop μ-loop
 sub-turns c = omega arith
@@ -26,11 +25,7 @@ loop-less : tie.Need-loop-less Inv-loop μ-loop
 loop-less c = omega arith
 
 loop-again : tie.Need-loop-again Inv-loop μ-loop
-loop-again c =
-    let t = c .before .before .before .before in
-    let m = t .before .before .before .before .before in
-    let h = m .loop .inv .2 (t .before .before .before .if1 .taken) .0 in
-    (omega arith, omega arith, λ e. (held-turn h (t .turn .ensures .0 e), t .turn .ensures .1 e .1))
+loop-again c = (omega arith, omega arith, λ e. c .before .before .before .before .turn .ensures e .1)
 
 same-length : tie.Need-same-length Inv-loop μ-loop
 same-length c = omega arith

@@ -1,12 +1,8 @@
 use mathlib.Core.Path.{sym}
 use mathlib.Core.Bool.{false≢true}
 use native.Mathlib.Omega.{arith}
-use Prim.Native.Nat.{_+_, _-_}
-use lib.ListN.{length}
 use lib.Seq.{length-take-le}
-use borrow.Rule.Slice.PartMut.{putMid, take-put}
 use borrow.Author.Needs.{needs}
-use Rattle.dateframes.proofs.Blocks.{read-onward}
 use Rattle.dateframes.proofs.turn.Statement.{statement}
 use Rattle.dateframes.proofs.turn.Tie as tie
 
@@ -32,7 +28,7 @@ same-length : tie.Need-same-length
 same-length c = search needs
 
 returns : tie.Need-returns
-returns c = (λ e. absurd (false≢true e), λ e. absurd (false≢true e))
+returns c = λ e. absurd (false≢true e)
 
 slice-reshare-prefix-finish : tie.Need-slice-reshare-prefix-finish
 slice-reshare-prefix-finish c = search needs
@@ -53,7 +49,7 @@ same-length-3 : tie.Need-same-length-3
 same-length-3 c = search needs
 
 returns-2 : tie.Need-returns-2
-returns-2 c = (λ e. absurd (false≢true e), λ e. absurd (false≢true e))
+returns-2 c = λ e. absurd (false≢true e)
 
 sub-count : tie.Need-sub-count
 sub-count c = search needs
@@ -67,11 +63,8 @@ part-count-end c = search needs
 count-requires : tie.Need-count-requires
 count-requires c κs = search needs
 
-add-n : tie.Need-add-n
-add-n c = search needs
-
-answer-block-requires : tie.Need-answer-block-requires
-answer-block-requires c κs = search needs
+answer-read-requires : tie.Need-answer-read-requires
+answer-read-requires c κs = search needs
 
 same-length-4 : tie.Need-same-length-4
 same-length-4 c = search needs
@@ -80,18 +73,7 @@ same-length-5 : tie.Need-same-length-5
 same-length-5 c = search needs
 
 returns-3 : tie.Need-returns-3
-returns-3 c =
-    let x = c .before .before .before .before in
-    let n = x .before .before .before in
-    let r = n .before .before .before .before .before .before .before in
-    let a = r .before .before .before .before .args in
-    let b = a .buf .now in
-    let have = a .st .have in
-    let e = x .answer-block .ensures in
-    let before = take-put have (length b - have) b (r .read-on .last .0) (omega arith) in (
-      λ _. read-onward b (putMid have (length b - have) b (r .read-on .last .0)) have (have + n .count .result) before (omega arith) (e .0),
-      e .1,
-    )
+returns-3 c = c .before .before .before .before .answer-read .ensures .1
 
 pub turn-spec : {M : Type 1} → statement M
 turn-spec =
@@ -116,8 +98,7 @@ turn-spec =
     part-count-start
     part-count-end
     count-requires
-    add-n
-    answer-block-requires
+    answer-read-requires
     same-length-4
     same-length-5
     returns-3)
