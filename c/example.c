@@ -1,6 +1,6 @@
-/* Reads each argument as a date field and prints what it says; with no
- * arguments, checks each call on a few dates. It ends with 0 if all is as
- * it should be. */
+/* Reads each argument as a date field, and where that fails by the grammar of
+ * level one, and prints what it says; with no arguments, checks each call on a
+ * few dates. It ends with 0 if all is as it should be. */
 #include "knobstream.h"
 
 #include <stdio.h>
@@ -15,16 +15,27 @@ static knobstream_answer read_text(const char *text)
     return a;
 }
 
+/* The same by the reader that knows seasons and long years. */
+static knobstream_answer read_level_one(const char *text)
+{
+    const uint64_t n = strlen(text);
+    const uint64_t table[4] = { KNOBSTREAM_NORMAL, n, 0, n };
+    knobstream_answer a;
+    knobstream_parse_level_one((const uint8_t *)text, n, table, 4, &a);
+    return a;
+}
+
 static int show(const char *text)
 {
-    const knobstream_answer a = read_text(text);
-    if (a.refusal != KNOBSTREAM_OK) {
+    const knobstream_answer a = read_text(text), level_one = read_level_one(text);
+    if (a.refusal != KNOBSTREAM_OK && level_one.refusal != KNOBSTREAM_OK) {
         printf("%s: %s at %llu to %llu\n", text, knobstream_refusal_name(a.refusal),
                (unsigned long long)a.start, (unsigned long long)a.end);
         return 1;
     }
-    uint8_t out[KNOBSTREAM_TEXT_ROOM];
-    const knobstream_written w = knobstream_date_text(&a.date, out, sizeof out);
+    const knobstream_date *date = a.refusal == KNOBSTREAM_OK ? &a.date : &level_one.date;
+    uint8_t out[KNOBSTREAM_LEVEL_ONE_ROOM];
+    const knobstream_written w = knobstream_date_level_one_text(date, out, sizeof out);
     printf("%s: %.*s\n", text, (int)w.length, (const char *)out);
     return 0;
 }
@@ -44,6 +55,78 @@ static int gave(knobstream_written w, const uint8_t *out, const char *text)
 {
     const size_t n = strlen(text);
     return w.refusal == KNOBSTREAM_OK && w.length == n && memcmp(out, text, n) == 0 && out[n] == 0xAA;
+}
+
+/* Whether a text of level one is read, measured and written as itself. */
+static int stays(const char *text)
+{
+    uint8_t out[KNOBSTREAM_LEVEL_ONE_ROOM + 1];
+    const knobstream_answer a = read_level_one(text);
+    const knobstream_written n = knobstream_date_level_one_length(&a.date);
+    memset(out, 0xAA, sizeof out);
+    return a.refusal == KNOBSTREAM_OK && n.refusal == KNOBSTREAM_OK && n.length == strlen(text)
+        && gave(knobstream_date_level_one_text(&a.date, out, strlen(text)), out, text);
+}
+
+/* Whether one reader refuses a text so, with no place and no date. */
+static int refuses(knobstream_answer a, unsigned refusal)
+{
+    static const knobstream_date none;
+    return a.refusal == refusal && a.start == 0 && a.end == 0 && memcmp(&a.date, &none, sizeof none) == 0;
+}
+
+static void self_check_level_one(void)
+{
+    knobstream_answer a = read_level_one("2000-21");
+    check(a.refusal == 0 && a.date.shape == KNOBSTREAM_AT && a.date.first.year == 2000
+              && a.date.first.season == KNOBSTREAM_SPRING && a.date.first.has_month == 0,
+          "2000-21 is a spring");
+    a = read_level_one("-0044-24");
+    check(a.refusal == 0 && a.date.first.year == -44 && a.date.first.season == 24, "-0044-24 is a winter");
+    a = read_level_one("Y12345");
+    check(a.refusal == 0 && a.date.first.year == 12345 && a.date.first.season == 0, "a long year");
+    a = read_level_one("Y-123456789~");
+    check(a.refusal == 0 && a.date.first.year == -123456789 && a.date.approximate == 1, "a negative one, marked");
+    a = read_level_one("2000-22/2001-23?");
+    check(a.refusal == 0 && a.date.shape == KNOBSTREAM_BETWEEN && a.date.first.season == KNOBSTREAM_SUMMER
+              && a.date.second.year == 2001 && a.date.second.season == KNOBSTREAM_AUTUMN && a.date.uncertain == 1,
+          "a range of seasons");
+    check(stays("2000-21") && stays("-0044-24") && stays("Y12345") && stays("Y-123456789~")
+              && stays("2000-22/2001-23?") && stays("2000-02-29") && stays("../2000-24%"),
+          "texts of level one");
+    check(refuses(read_level_one("2000-25"), KNOBSTREAM_NOT_LEVEL_ONE) && refuses(read_level_one("49"), 23)
+              && refuses(read_level_one("Y1234"), 23),
+          "no texts of level one");
+    check(read_text("2000-21").refusal == KNOBSTREAM_MONTH_OUT_OF_RANGE, "no other reader takes a season");
+
+    /* the calls that know no season */
+    uint8_t out[KNOBSTREAM_FIELDS_ROOM], before[sizeof out];
+    memset(out, 0xAA, sizeof out);
+    memset(before, 0xAA, sizeof before);
+    a = read_level_one("2000/2000-21");
+    a.date.first.has_month = 1;
+    a.date.first.month = 255;
+    const knobstream_written w[] = { knobstream_date_length(&a.date), knobstream_date_text(&a.date, out, sizeof out),
+                                     knobstream_date_text(&a.date, out, 0),
+                                     knobstream_date_fields(&a.date, out, sizeof out) };
+    for (size_t i = 0; i < sizeof w / sizeof *w; i++)
+        check(w[i].refusal == KNOBSTREAM_HAS_SEASON && w[i].length == 0, "an old writer on a season");
+    check(memcmp(out, before, sizeof out) == 0, "nothing of a season is stored");
+    check(knobstream_compare(a.date.first, a.date.second) == KNOBSTREAM_HAS_SEASON
+              && knobstream_compare(a.date.second, a.date.first) == 24
+              && knobstream_compare(a.date.second, a.date.second) == 24,
+          "a season is not compared");
+
+    /* the new writer: beside a season it looks at no month, without one it refuses as the old one does */
+    const knobstream_written panics = knobstream_date_level_one_text(&a.date, out, 0);
+    check(panics.refusal == KNOBSTREAM_RUST_PANICS && knobstream_date_level_one_length(&a.date).refusal == 9,
+          "month 255 without a season");
+    a.date.first.season = 255;
+    memset(out, 0xAA, sizeof out);
+    check(gave(knobstream_date_level_one_text(&a.date, out, 15), out, "2000-24/2000-21"), "any other number is winter");
+    memset(out, 0xAA, sizeof out);
+    check(knobstream_date_level_one_text(&a.date, out, 14).refusal == KNOBSTREAM_NO_ROOM && out[0] == 0xAA,
+          "one byte too few for a season");
 }
 
 static void self_check(void)
@@ -103,6 +186,8 @@ static void self_check(void)
     w = knobstream_date_length(&a.date);
     check(w.refusal == KNOBSTREAM_RUST_PANICS && w.length == 0, "month 255 has no length");
 
+    self_check_level_one();
+
     const knobstream_datetime year = read_text("2000").date.first, month = read_text("2000-02").date.first,
                               later = read_text("2000-03").date.first;
     check(knobstream_compare(month, later) == -1 && knobstream_compare(later, month) == 1, "less and greater");
@@ -116,10 +201,17 @@ static void self_check(void)
           "the answer to a frame");
     memset(line, 0xAA, sizeof line);
     check(gave(knobstream_answer_frame(NULL, 0, line, 35), line, "0e00000000000000000000000000000000\n"), "no frame");
+    static const char spring[] = "050100070000000000000007323030302d3231";
+    memset(line, 0xAA, sizeof line);
+    check(gave(knobstream_answer_frame((const uint8_t *)spring, strlen(spring), line, sizeof line), line,
+               "000000000007d0ffff0000000000000015323030302d3231\n"),
+          "the answer to a frame of level one");
     w = knobstream_answer_frame(NULL, 0, line, 34);
     check(w.refusal == KNOBSTREAM_NO_ROOM && w.length == 0, "no room for the answer");
 
-    check(strcmp(knobstream_refusal_name(KNOBSTREAM_TOO_LONG), "TooLong") == 0 && *knobstream_refusal_name(99) == 0,
+    check(strcmp(knobstream_refusal_name(KNOBSTREAM_TOO_LONG), "TooLong") == 0 && *knobstream_refusal_name(99) == 0
+              && strcmp(knobstream_refusal_name(23), "NotLevelOne") == 0
+              && strcmp(knobstream_refusal_name(24), "HasSeason") == 0,
           "the names of refusals");
 }
 

@@ -31,11 +31,11 @@ extern "C" {
 
 /* The version of the calls and structs below, and of those in the library: a
  * program that finds them different was made for another library. */
-enum { KNOBSTREAM_VERSION = 2 };
+enum { KNOBSTREAM_VERSION = 3 };
 uint32_t knobstream_version(void);
 
-/* Why a call refuses. 0 is no refusal. Those from 17 on are of calls in Rattle
- * that this library does not have yet. */
+/* Why a call refuses. 0 is no refusal. Those from 17 to 22, and 25 and 26, are
+ * of calls in Rattle that this library does not have yet. */
 enum {
     KNOBSTREAM_OK = 0,
     KNOBSTREAM_UNDEFINED_RANGE = 1,       /* a range that is open on both sides */
@@ -60,6 +60,8 @@ enum {
     KNOBSTREAM_CHRONOLOGY_FULL = 20,      /* 512 entries */
     KNOBSTREAM_UNKNOWN_ENTRY = 21,        /* the identifier is not in the chronology */
     KNOBSTREAM_BAD_TIME = 22,             /* no time of a clock, or without a day */
+    KNOBSTREAM_NOT_LEVEL_ONE = 23,        /* no text of the grammar of level one */
+    KNOBSTREAM_HAS_SEASON = 24,           /* a season, in a call that knows none */
     KNOBSTREAM_NO_INSTANT = 25,           /* no day, no time or no offset */
     KNOBSTREAM_BAD_CHRONOLOGY = 26        /* what was lent is no chronology */
 };
@@ -91,8 +93,8 @@ static inline const char *knobstream_refusal_name(unsigned refusal)
         "ChronologyFull",
         "UnknownEntry",
         "BadTime",
-        "",
-        "",
+        "NotLevelOne",
+        "HasSeason",
         "NoInstant",
         "BadChronology",
     };
@@ -100,14 +102,15 @@ static inline const char *knobstream_refusal_name(unsigned refusal)
 }
 
 /* The limits of a chunk list, the room that every written text, all written
- * fields and every answer to a frame have enough of, and the stack that a call
- * uses at most, and the one that answers a frame. */
+ * fields, every text of level one and every answer to a frame have enough of,
+ * and the stack that a call uses at most, and the one that answers a frame. */
 enum {
     KNOBSTREAM_MAX_CHUNKS = 64,
     KNOBSTREAM_MAX_BYTES = 4096,
     KNOBSTREAM_TEXT_ROOM = 40,
     KNOBSTREAM_FIELDS_ROOM = 79,
-    KNOBSTREAM_LINE_ROOM = 139,
+    KNOBSTREAM_LEVEL_ONE_ROOM = 42,
+    KNOBSTREAM_LINE_ROOM = 147,
     KNOBSTREAM_STACK = 8192,
     KNOBSTREAM_FRAME_STACK = 65536
 };
@@ -123,16 +126,27 @@ enum {
     KNOBSTREAM_BEHIND_UTC = 3
 };
 
-/* A year, and a month, a day and a time as far as they are there. A part is
- * absent if its `has_` is 0; what then stands in it is not looked at, and a
- * reader puts 0 there. */
+/* The season of a year. A number that is none of these counts as
+ * KNOBSTREAM_WINTER. */
+enum {
+    KNOBSTREAM_NO_SEASON = 0,
+    KNOBSTREAM_SPRING = 21,
+    KNOBSTREAM_SUMMER = 22,
+    KNOBSTREAM_AUTUMN = 23,
+    KNOBSTREAM_WINTER = 24
+};
+
+/* A year, and a month, a day and a time, or a season, as far as they are there.
+ * A part is absent if its `has_` is 0; what then stands in it is not looked at,
+ * and a reader puts 0 there. Only knobstream_parse_level_one gives a season, and
+ * never beside a month, a day or a time. */
 typedef struct {
     int32_t year; /* 1 BC is 0, 2 BC is -1 */
     uint8_t has_month, month; /* January is 0 */
     uint8_t has_day, day; /* the first is 0 */
     uint8_t has_time, hour, minute, second;
     uint8_t offset, offset_hours, offset_minutes;
-    uint8_t season; /* 0 none; there is no other yet, and it is not looked at */
+    uint8_t season; /* 0 none, 21 to 24 spring to winter; any other number counts as winter */
 } knobstream_datetime;
 
 /* The shape of a date: a point, a range with an open end, one with an open
@@ -212,6 +226,14 @@ void knobstream_parse_strict(
     const uint64_t *table, size_t table_len,
     knobstream_answer *answer);
 
+/* A date field by the grammar of level one: the strict texts, seasons and long
+ * years. "2000-21" is the spring of 2000, "-0044-24" the winter of the year -44,
+ * "Y12345" the year 12345, "Y-123456789" a negative one; "49" is refused. */
+void knobstream_parse_level_one(
+    const uint8_t *bytes, size_t bytes_len,
+    const uint64_t *table, size_t table_len,
+    knobstream_answer *answer);
+
 /* The fields year, month and day: the year field "49" is the year 49. If
  * `has_month` or `has_day` is 0, that field is absent, and what is passed for
  * it is not looked at; nor is a day field without a month field. */
@@ -229,7 +251,8 @@ void knobstream_parse_three_fields(
 /* How long the text of a date is, for whoever must reserve room before it is
  * written: `length` is what the next call stores. It refuses what that call
  * refuses, apart from NoRoom. The date is passed part by part, so that it goes
- * in registers. */
+ * in registers. This call and the next two know no season: a date with one is
+ * refused as HasSeason, before all else. */
 knobstream_written knobstream_measure_date(
     knobstream_datetime first, knobstream_datetime second,
     uint8_t shape, uint8_t uncertain, uint8_t approximate);
@@ -243,6 +266,19 @@ knobstream_written knobstream_write_date(
 /* The fields of a date, likewise: lines "year=2000", "month=02", "day=29", for
  * a range with both ends also "endyear=2003" and so on, each with a line feed. */
 knobstream_written knobstream_write_fields(
+    knobstream_datetime first, knobstream_datetime second,
+    uint8_t *out, size_t out_len,
+    uint8_t shape, uint8_t uncertain, uint8_t approximate);
+
+/* How long the text of a date is by the writer of level one, and that text. It
+ * is the text above, but that a year of more than four digits has a Y before it,
+ * and that a season stands in the place of the month and the day, which are then
+ * not looked at: "2000-21", "Y-123456789~". */
+knobstream_written knobstream_measure_level_one(
+    knobstream_datetime first, knobstream_datetime second,
+    uint8_t shape, uint8_t uncertain, uint8_t approximate);
+
+knobstream_written knobstream_write_level_one(
     knobstream_datetime first, knobstream_datetime second,
     uint8_t *out, size_t out_len,
     uint8_t shape, uint8_t uncertain, uint8_t approximate);
@@ -268,8 +304,22 @@ static inline knobstream_written knobstream_date_fields(
                                    date->shape, date->uncertain, date->approximate);
 }
 
+static inline knobstream_written knobstream_date_level_one_length(const knobstream_date *date)
+{
+    return knobstream_measure_level_one(date->first, date->second,
+                                        date->shape, date->uncertain, date->approximate);
+}
+
+static inline knobstream_written knobstream_date_level_one_text(
+    const knobstream_date *date, uint8_t *out, size_t out_len)
+{
+    return knobstream_write_level_one(date->first, date->second, out, out_len,
+                                      date->shape, date->uncertain, date->approximate);
+}
+
 /* How the first stands to the second: -1 less, 0 equal, 1 greater, 2 none of
- * these, as 2000 and 2000-02, or times of which one has an offset. */
+ * these, as 2000 and 2000-02, or times of which one has an offset. Where one of
+ * them has a season it is KNOBSTREAM_HAS_SEASON, 24. */
 int32_t knobstream_compare(knobstream_datetime first, knobstream_datetime second);
 
 /* The answer to a frame, which is a line of hexadecimal digits without its line

@@ -51,10 +51,13 @@ static size_t digits;
 
 ON_A_THREAD(parse, knobstream_parse(LENT(field), &answer))
 ON_A_THREAD(parse_strict, knobstream_parse_strict(LENT(field), &answer))
+ON_A_THREAD(parse_level_one, knobstream_parse_level_one(LENT(field), &answer))
 ON_A_THREAD(parse_three_fields, knobstream_parse_three_fields(LENT(field), 1, LENT(month), 1, LENT(day), &answer))
 ON_A_THREAD(measure_date, written = knobstream_date_length(&date))
 ON_A_THREAD(write_date, written = knobstream_date_text(&date, out, sizeof out))
 ON_A_THREAD(write_fields, written = knobstream_date_fields(&date, out, sizeof out))
+ON_A_THREAD(measure_level_one, written = knobstream_date_level_one_length(&date))
+ON_A_THREAD(write_level_one, written = knobstream_date_level_one_text(&date, out, sizeof out))
 ON_A_THREAD(answer_frame, written = knobstream_answer_frame(line, digits, out, sizeof out))
 ON_A_THREAD(version, order = (int32_t)knobstream_version())
 ON_A_THREAD(compare, order = knobstream_compare(date.first, date.second))
@@ -67,10 +70,13 @@ static struct {
     { "knobstream_version", version, KNOBSTREAM_STACK, 0 },
     { "knobstream_parse", parse, KNOBSTREAM_STACK, 0 },
     { "knobstream_parse_strict", parse_strict, KNOBSTREAM_STACK, 0 },
+    { "knobstream_parse_level_one", parse_level_one, KNOBSTREAM_STACK, 0 },
     { "knobstream_parse_three_fields", parse_three_fields, KNOBSTREAM_STACK, 0 },
     { "knobstream_measure_date", measure_date, KNOBSTREAM_STACK, 0 },
     { "knobstream_write_date", write_date, KNOBSTREAM_STACK, 0 },
     { "knobstream_write_fields", write_fields, KNOBSTREAM_STACK, 0 },
+    { "knobstream_measure_level_one", measure_level_one, KNOBSTREAM_STACK, 0 },
+    { "knobstream_write_level_one", write_level_one, KNOBSTREAM_STACK, 0 },
     { "knobstream_compare", compare, KNOBSTREAM_STACK, 0 },
     { "knobstream_answer_frame", answer_frame, KNOBSTREAM_FRAME_STACK, 0 },
 };
@@ -166,6 +172,7 @@ static const char *const texts[] = {
     "1900-02-29", "2000/1900-02-29", "2000-13", "2000-02-29T10:20:30+2", "forthcoming", "\xC3\xA9", "2000\xC2\xA0",
     "\xC2\xBD/q", "20\xE2\x80\x93", "20\xE2\x82\xAC", "20\xF0\x9F\x98\x80", "\xFF", "2000\n-02",
     "1000 BC", "5 AD", "5 BCE x", "- 5", "+5 CE", "12345", "0 AD",
+    "2000-21", "-0044-24~", "Y12345", "Y-123456789", "2000-22/2001-23?", "Y-12345/..", "../2000-24%", "2000-25", "Y1234",
 };
 static const char *const months[] = { "July", "jul-4", "sept", "07", "13", "jul-999", "jul-32", "x" };
 static const size_t lengths[] = { 0, 60, 64, LONG };
@@ -182,13 +189,17 @@ int main(void)
                     fill(&month, months[i % COUNT(months)], lengths[n], numbers[m], kind);
                     fill(&day, "31", lengths[n], numbers[m], kind);
                     knobstream_parse(LENT(field), &answer);
+                    if (answer.refusal != KNOBSTREAM_OK)
+                        knobstream_parse_level_one(LENT(field), &answer);
                     date = answer.date;
-                    put_frame(i % 4 + 1);
+                    put_frame(i % 5 + 1);
                     measure();
                 }
-    /* the longest text that a date has */
+    /* the longest text that a date has, with seasons and without */
     memset(&date, 254, sizeof date);
     date.first.year = date.second.year = INT32_MIN;
+    measure();
+    date.first.season = date.second.season = KNOBSTREAM_NO_SEASON;
     measure();
 
     int over = 0;

@@ -93,9 +93,10 @@ fn times<R>(n: u64, call: impl Fn() -> R) {
     }
 }
 
+/// What was read, in words that both crates have: theirs knows no season.
 fn said_ours(r: Result<ours::Date, ours::TypeError>) -> String {
     match r {
-        Ok(d) => format!("{d:?}"),
+        Ok(d) => format!("{d:?}").replace(", season: None", ""),
         Err(e) => format!("{} {:?}", e.kind.number(), e.span),
     }
 }

@@ -2,7 +2,7 @@
 
 use std::fmt::Write;
 
-use crate::THREE_FIELDS;
+use crate::{LEVEL, THREE_FIELDS};
 
 /// The operation and texts of a frame, as far as it can be read.
 pub fn describe_frame(line: &[u8]) -> String {
@@ -66,14 +66,24 @@ fn take<'a>(rest: &mut &'a [u8], n: usize) -> Option<&'a [u8]> {
     Some(head)
 }
 
-/// An answer in words.
+/// An answer in words, to any operation but the level-one reader's.
 pub fn describe_answer(line: &[u8]) -> String {
+    describe(line, false)
+}
+
+/// The answer to this frame in words.
+pub fn describe_answer_to(frame: &[u8], line: &[u8]) -> String {
+    describe(line, bytes(frame).is_some_and(|frame| frame[0] == LEVEL))
+}
+
+fn describe(line: &[u8], seasons: bool) -> String {
     bytes(line)
-        .and_then(|answer| read_answer(&answer))
+        .and_then(|answer| read_answer(&answer, seasons))
         .unwrap_or_else(|| shorten(String::from_utf8_lossy(line).into()))
 }
 
-fn read_answer(answer: &[u8]) -> Option<String> {
+fn read_answer(answer: &[u8], seasons: bool) -> Option<String> {
+    const NOT_LEVEL_ONE: u8 = 23;
     const NAMES: [&str; 16] = [
         "UndefinedRange",
         "DayOutOfRange",
@@ -99,7 +109,10 @@ fn read_answer(answer: &[u8]) -> Option<String> {
             return None;
         }
         let place = |at: usize| rest[at..at + 8].iter().fold(0, |n, &b| n << 8 | u64::from(b));
-        let name = NAMES.get(usize::from(number) - 1).copied().unwrap_or("");
+        let name = match number {
+            NOT_LEVEL_ONE => "NotLevelOne",
+            _ => NAMES.get(usize::from(number) - 1).copied().unwrap_or(""),
+        };
         return Some(format!("{number} {name} at {}..{}", place(0), place(8)));
     }
 
@@ -123,6 +136,14 @@ fn read_answer(answer: &[u8]) -> Option<String> {
                 sign => {
                     let sign = if sign == 2 { '+' } else { '-' };
                     let _ = write!(text, " {sign}{}:{}", d[11], d[12]);
+                }
+            }
+        }
+        if seasons {
+            match take(&mut rest, 1)?[0] {
+                0 => {}
+                season => {
+                    let _ = write!(text, " season {season}");
                 }
             }
         }

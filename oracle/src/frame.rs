@@ -4,9 +4,9 @@
 use std::panic::{catch_unwind, AssertUnwindSafe};
 use std::str;
 
-use crate::chunk::{Chunk, ChunksRef};
+use crate::chunk::{Chunk, ChunksExt, ChunksRef};
 use crate::date::{Date, DateValue, Datetime, TimeOffset};
-use crate::{Spanned, Type, TypeError};
+use crate::{level, Spanned, Type, TypeError};
 
 /// The longest frame, in bytes (half the digits of its line).
 pub const MAX_FRAME: usize = 8192;
@@ -35,6 +35,9 @@ pub const STRICT_TOO: u8 = 2;
 /// The operation that reads three fields.
 pub const THREE_FIELDS: u8 = 3;
 
+/// The operation of the level-one reader, which the Rust lacks: `level` answers it.
+pub const LEVEL: u8 = 5;
+
 /// What the oracle answers in place of its usual answers.
 #[derive(Debug, Default, Clone, Copy)]
 pub struct Options {
@@ -58,6 +61,16 @@ impl From<TypeError> for Refusal {
 const RUST_PANICS: Refusal = Refusal(9, 0, 0);
 const BAD_CHUNKS: Refusal = Refusal(15, 0, 0);
 const TOO_LONG: Refusal = Refusal(16, 0, 0);
+const NOT_LEVEL_ONE: Refusal = Refusal(23, 0, 0);
+
+/// What an accepted frame is answered by.
+enum Accepted {
+    Date(Date, String),
+    /// The answer's bytes.
+    Level(Vec<u8>),
+    /// The oracle has no answer.
+    Skipped,
+}
 
 /// Answers frames. Its buffers are kept from one to the next.
 #[derive(Default)]
@@ -84,9 +97,10 @@ impl Oracle {
         };
 
         match self.read(operation, forms) {
-            Ok(Some(date)) if self.options.fields => write_fields(date, out),
-            Ok(Some((date, text))) => write_date(&date, &text, out),
-            Ok(None) => out.extend_from_slice(SKIP),
+            Ok(Accepted::Date(date, _)) if self.options.fields => write_fields(date, out),
+            Ok(Accepted::Date(date, text)) => write_date(&date, &text, out),
+            Ok(Accepted::Level(bytes)) if !self.options.fields => put(out, &bytes),
+            Ok(_) => out.extend_from_slice(SKIP),
             Err(refusal) => write_refusal(refusal, out),
         }
     }
@@ -96,7 +110,7 @@ impl Oracle {
         &mut self,
         operation: Operation,
         forms: [Option<Form>; 3],
-    ) -> Result<Option<(Date, String)>, Refusal> {
+    ) -> Result<Accepted, Refusal> {
         let frame = self.frame.as_slice();
         let [first, month, day] = &mut self.lists;
         let form = forms[0].unwrap_or_default();
@@ -106,35 +120,39 @@ impl Oracle {
                 if self.options.strict_checks {
                     first.load(frame, form)?;
                 }
-                Ok(None)
+                Ok(Accepted::Skipped)
+            }
+            Operation::Level => {
+                let text = first.load(frame, form)?.format_verbatim();
+                level::answer(&text).map(Accepted::Level).ok_or(NOT_LEVEL_ONE)
             }
             Operation::Ported => {
                 let list = first.load(frame, form)?;
-                call(|| Date::parse(list)).map(Some)
+                call(|| Date::parse(list))
             }
             Operation::ThreeFields => {
                 let year = first.load(frame, form)?;
                 let Some(form) = forms[1] else {
                     // A day without a month is never looked at.
-                    return call(|| Date::parse_three_fields(year, None, None)).map(Some);
+                    return call(|| Date::parse_three_fields(year, None, None));
                 };
                 let month = month.load(frame, form)?;
                 let day = match forms[2] {
                     Some(form) => Some(day.load(frame, form)?),
                     None => None,
                 };
-                call(|| Date::parse_three_fields(year, Some(month), day)).map(Some)
+                call(|| Date::parse_three_fields(year, Some(month), day))
             }
         }
     }
 }
 
 /// Calls the Rust and has the date written; a panic in either is refusal 9.
-fn call(read: impl FnOnce() -> Result<Date, TypeError>) -> Result<(Date, String), Refusal> {
+fn call(read: impl FnOnce() -> Result<Date, TypeError>) -> Result<Accepted, Refusal> {
     let result = catch_unwind(AssertUnwindSafe(|| {
         let date = read()?;
         let text = date.to_chunks().pop().map(|mut c| std::mem::take(c.v.get_mut()));
-        Ok((date, text.unwrap_or_default()))
+        Ok(Accepted::Date(date, text.unwrap_or_default()))
     }));
     match result {
         Ok(answer) => answer.map_err(|e: TypeError| e.into()),
@@ -145,6 +163,7 @@ fn call(read: impl FnOnce() -> Result<Date, TypeError>) -> Result<(Date, String)
 enum Operation {
     Ported,
     Strict,
+    Level,
     ThreeFields,
 }
 
@@ -166,6 +185,7 @@ fn split(frame: &[u8]) -> Option<(Operation, [Option<Form>; 3])> {
     let operation = match code {
         PORTED => Operation::Ported,
         STRICT | STRICT_TOO => Operation::Strict,
+        LEVEL => Operation::Level,
         THREE_FIELDS => {
             for slot in &mut forms[1..] {
                 let flag = *frame.get(at)?;
@@ -401,7 +421,7 @@ fn datetime(d: &Datetime) -> [u8; 13] {
 
 /// The lines `name=value` of a date; they panic where the text does, which
 /// was written before.
-fn write_fields((date, _): (Date, String), out: &mut Vec<u8>) {
+fn write_fields(date: Date, out: &mut Vec<u8>) {
     put(out, &[0]);
     for (name, value) in date.to_fieldset() {
         put(out, name.as_bytes());

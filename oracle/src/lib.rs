@@ -12,10 +12,12 @@ include!(concat!(env!("OUT_DIR"), "/published.rs"));
 
 mod describe;
 mod frame;
+mod level;
 pub mod make;
 
-pub use describe::{describe_answer, describe_frame};
-pub use frame::{Options, Oracle, BAD_FRAME, MAX_FRAME, PORTED, STRICT, STRICT_TOO, THREE_FIELDS};
+pub use describe::{describe_answer, describe_answer_to, describe_frame};
+#[rustfmt::skip]
+pub use frame::{Options, Oracle, BAD_FRAME, LEVEL, MAX_FRAME, PORTED, STRICT, STRICT_TOO, THREE_FIELDS};
 #[doc(hidden)]
 pub use scanner::Scanner;
 

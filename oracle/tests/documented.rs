@@ -1,7 +1,8 @@
-//! The examples of docs/RULES.md that frames reach, asked of the Rust.
+//! The examples of docs/RULES.md that frames reach, asked of the Rust; those of
+//! the level-one reader, of the oracle's own reading.
 
 use oracle::make::{hex, normal, one, piece, three, Piece};
-use oracle::{Options, Oracle, PORTED};
+use oracle::{Options, Oracle, LEVEL, PORTED};
 
 const RULES: &str = include_str!("../../docs/RULES.md");
 
@@ -12,15 +13,22 @@ const NOT_ASKED: [u32; 3] = [12, 13, 14];
 #[test]
 fn examples() {
     let mut section = 0;
+    let mut operation = PORTED;
     let mut asked = 0;
     for line in RULES.lines() {
         if let Some(title) = line.strip_prefix("## ") {
             section = title.split(' ').next().and_then(|n| n.parse().ok()).unwrap_or(0);
+            // The level-one reader's section says so in its title.
+            operation = if title.to_lowercase().contains("level") { LEVEL } else { PORTED };
         }
         let cells: Vec<&str> = line.trim_matches('|').split(" | ").map(str::trim).collect();
         let (example, answer) = match (section, cells.as_slice()) {
             (16, [example, answer]) => (example, answer),
-            (1..=15, [no, _, example, answer, _]) if *no != "no" => (example, answer),
+            (n, [no, _, example, answer, _])
+                if *no != "no" && (matches!(n, 1..=15) || operation == LEVEL) =>
+            {
+                (example, answer)
+            }
             _ => continue,
         };
         if NOT_ASKED.contains(&section) {
@@ -29,7 +37,7 @@ fn examples() {
         let (examples, answers) = (example.split("<br>"), answer.split("<br>"));
         assert_eq!(examples.clone().count(), answers.clone().count(), "{line}");
         for (example, answer) in examples.zip(answers) {
-            let Some(frame) = frame(section, example) else { continue };
+            let Some(frame) = frame(section, operation, example) else { continue };
             if answer.starts_with("text ") {
                 continue;
             }
@@ -38,9 +46,9 @@ fn examples() {
             let got = String::from_utf8(got).unwrap();
             let wanted = answer.replace(' ', "");
             assert!(
-                answer == said(&got) || section == 15 && wanted == got,
+                answer == said(&got, operation) || section == 15 && wanted == got,
                 "{line}\n{}",
-                said(&got)
+                said(&got, operation)
             );
             asked += 1;
         }
@@ -49,16 +57,16 @@ fn examples() {
 }
 
 /// The frame of an example, if it is one that a frame can say.
-fn frame(section: u32, example: &str) -> Option<String> {
+fn frame(section: u32, operation: u8, example: &str) -> Option<String> {
     if section == 15 {
         // The digits stand between backquotes.
         return Some(example.split('`').skip(1).step_by(2).collect());
     }
     if example == "no chunk" {
-        return Some(hex(&one(PORTED, &[])));
+        return Some(hex(&one(operation, &[])));
     }
     if let Some(n) = example.strip_suffix(" chunks `Normal \"\"`") {
-        return Some(hex(&one(PORTED, &vec![normal(100, ""); n.parse().ok()?])));
+        return Some(hex(&one(operation, &vec![normal(100, ""); n.parse().ok()?])));
     }
     let (text, place) = example.strip_prefix('`')?.split_once('`')?;
     let quoted: Vec<&str> = text.split('"').collect();
@@ -94,7 +102,7 @@ fn frame(section: u32, example: &str) -> Option<String> {
         pieces.push(piece(kind as u8 % 3, at, text));
         at = pieces.last()?.end;
     }
-    Some(hex(&one(PORTED, &pieces)))
+    Some(hex(&one(operation, &pieces)))
 }
 
 /// A text with its escapes.
@@ -118,21 +126,22 @@ fn bytes(text: &str) -> Vec<u8> {
     out
 }
 
-/// An answer as the document writes it.
-fn said(answer: &str) -> String {
+/// An answer as the document writes it; a season is s21 to s24.
+fn said(answer: &str, operation: u8) -> String {
     let b: Vec<u8> = (0..answer.len() / 2)
         .map(|i| u8::from_str_radix(&answer[2 * i..2 * i + 2], 16).unwrap())
         .collect();
     if b[0] != 0 {
         let place = |at: usize| b[at..at + 8].iter().fold(0, |n, &b| n << 8 | u64::from(b));
         return match b[0] {
-            9 | 12..=16 => b[0].to_string(),
+            9 | 12..=16 | 23 => b[0].to_string(),
             number => format!("{number} at {}..{}", place(1), place(9)),
         };
     }
     let mut text = ["At", "After", "Before", "Between"][usize::from(b[1])].to_string();
     for end in 0..if b[1] == 3 { 2 } else { 1 } {
-        let d = &b[3 + 13 * end..16 + 13 * end];
+        let size = if operation == LEVEL { 14 } else { 13 };
+        let d = &b[3 + size * end..3 + size * (end + 1)];
         text += if end == 0 { " " } else { " to " };
         text += &i32::from_be_bytes([d[0], d[1], d[2], d[3]]).to_string();
         for (name, part) in [("m", d[4]), ("d", d[5])] {
@@ -150,6 +159,9 @@ fn said(answer: &str) -> String {
                     text += &format!("{:02}:{:02}", d[11], d[12]);
                 }
             }
+        }
+        if operation == LEVEL && d[13] != 0 {
+            text += &format!(" s{}", d[13]);
         }
     }
     for (bit, mark) in [(1, ", uncertain"), (2, ", approximate")] {

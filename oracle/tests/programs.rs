@@ -67,29 +67,38 @@ fn the_list() {
     assert_eq!(list, generated(&["list"]));
     assert_ne!(list.last(), Some(&b'\n'));
     let count = list.split(|&b| b == b'\n').count();
-    assert!((3500..5000).contains(&count), "{count}");
+    assert!((4500..6000).contains(&count), "{count}");
 
     let answers = oracle(&list);
     assert_eq!(answers.lines().count(), count);
     let kinds: BTreeSet<&str> = answers.lines().map(|line| &line[..2]).collect();
-    // All that the Rust and the checks before it give: not NotStrict and NoRoom, nor those from 17 on.
+    // All that the Rust and the checks before it give, and NotLevelOne: not NotStrict and NoRoom, nor the others from 17 on.
     let wanted = [
         "--", "00", "01", "02", "03", "04", "05", "06", "07", "08", "09", "0a", "0b", "0e", "0f",
-        "10",
+        "10", "17",
     ];
     assert_eq!(kinds, BTreeSet::from(wanted));
     let shapes: BTreeSet<&str> =
         answers.lines().filter(|line| line.starts_with("00")).map(|line| &line[2..6]).collect();
     assert_eq!(shapes.len(), 16, "every shape with every mark");
+    // The last byte of the first Datetime: no season and each of the four.
+    let level = list.split(|&b| b == b'\n').zip(answers.lines());
+    let seasons: BTreeSet<&str> = level
+        .filter(|(frame, answer)| frame.starts_with(b"05") && answer.starts_with("00"))
+        .map(|(_, answer)| &answer[32..34])
+        .collect();
+    assert_eq!(seasons, BTreeSet::from(["00", "15", "16", "17", "18"]));
 }
 
 #[test]
 fn many() {
-    let frames = generated(&["many", "5000", "7"]);
-    assert_eq!(frames, generated(&["many", "5000", "7"]));
-    assert_ne!(frames, generated(&["many", "5000", "8"]));
-    assert_eq!(frames.iter().filter(|&&b| b == b'\n').count(), 5000);
-    assert_eq!(oracle(&frames).lines().count(), 5000);
+    for sort in ["many", "level"] {
+        let frames = generated(&[sort, "5000", "7"]);
+        assert_eq!(frames, generated(&[sort, "5000", "7"]));
+        assert_ne!(frames, generated(&[sort, "5000", "8"]));
+        assert_eq!(frames.iter().filter(|&&b| b == b'\n').count(), 5000);
+        assert_eq!(oracle(&frames).lines().count(), 5000);
+    }
 }
 
 #[test]

@@ -3,7 +3,7 @@
 //! Unless said otherwise a list is one Normal chunk with span start 100.
 
 use oracle::make::{hex, normal, one, piece, sized, spread, three, Piece, MONTH_NAMES};
-use oracle::{describe_answer, Options, Oracle};
+use oracle::{describe_answer, describe_answer_to, Options, Oracle, LEVEL};
 
 fn raw_with(options: Options, line: &str) -> String {
     let mut out = Vec::new();
@@ -22,6 +22,12 @@ fn words(frame: &[u8]) -> String {
 /// The ported reader's answer to a date field.
 fn date(text: &str) -> String {
     words(&one(4, &[normal(100, text)]))
+}
+
+/// The level-one reader's answer to a date field.
+fn level(text: &str) -> String {
+    let frame = hex(&one(LEVEL, &[normal(100, text)]));
+    describe_answer_to(frame.as_bytes(), raw(&frame).as_bytes())
 }
 
 /// The answer to fields as lists of one chunk each.
@@ -335,6 +341,72 @@ fn formatting() {
     ]);
 }
 
+/// What the oracle's own reading of operation 05 is held to.
+#[test]
+fn level_one() {
+    assert_eq!(
+        raw(&hex(&one(LEVEL, &[normal(0, "2000-21/Y-12345~")]))),
+        "000302000007d0ffff0000000000000015ffffcfc7ffff0000000000000000323030302d32312f592d31323334357e"
+    );
+    let table = [
+        ("2000", "At marks 0, year 2000, \"2000\""),
+        ("-0000", "At marks 0, year 0, \"0000\""),
+        ("2000-21", "At marks 0, year 2000 season 21, \"2000-21\""),
+        ("-0044-24?", "At marks 1, year -44 season 24, \"-0044-24?\""),
+        ("-0000-22", "At marks 0, year 0 season 22, \"0000-22\""),
+        ("Y12345", "At marks 0, year 12345, \"Y12345\""),
+        ("Y-999999999%", "At marks 3, year -999999999, \"Y-999999999%\""),
+        (
+            "Y12345/2000-24%",
+            "Between marks 3, year 12345, year 2000 season 24, \"Y12345/2000-24%\"",
+        ),
+        ("2000-23/..", "After marks 0, year 2000 season 23, \"2000-23/..\""),
+        ("../Y-12345~", "Before marks 2, year -12345, \"../Y-12345~\""),
+        ("2001/2000-12", "Between marks 0, year 2001, year 2000 month 11, \"2001/2000-12\""),
+        ("19XX", "Between marks 0, year 1900, year 1999, \"1900/1999\""),
+        ("199X", "Between marks 0, year 1990, year 1999, \"1990/1999\""),
+        (
+            "2000-XX-XX",
+            "Between marks 0, year 2000 month 0, year 2000 month 11, \"2000-01/2000-12\"",
+        ),
+        (
+            "1900-02-XX",
+            "Between marks 0, year 1900 month 1 day 0, year 1900 month 1 day 27, \
+             \"1900-02-01/1900-02-28\"",
+        ),
+        (
+            "2000-02-29T23:59:59-23:59",
+            "At marks 0, year 2000 month 1 day 28 time 23:59:59 -23:59, \"2000-02-29\"",
+        ),
+        (
+            "2000-01-01T10:20:30Z",
+            "At marks 0, year 2000 month 0 day 0 time 10:20:30 UTC, \"2000-01-01\"",
+        ),
+    ];
+    for (text, wanted) in table {
+        assert_eq!(level(text), wanted, "{text}");
+    }
+    #[rustfmt::skip]
+    let none = [
+        "", "49", "12345", "-12345", "Y1234", "Y01234", "Y-01234", "Y1234567890", "Y+12345",
+        "y12345", "-Y12345", "Y12345-01", "Y12345-21", "Y12345T10:20:30", "2000-20", "2000-25",
+        "2000-21-01", "2000-21-XX", "2000-21T10:20:30", "+2000-21", "2000-21 ", "2000-13",
+        "2000-00", "1900-02-29", "../..", "2000/", "19XX/2005", "-19XX", "2000?/2001", "2000??",
+        "2000-01-01T24:00:00", "2000-01-01T10:20:30+24:00",
+    ];
+    for text in none {
+        assert_eq!(level(text), refused(23, 0, 0), "{text}");
+    }
+    // The list is checked before.
+    assert_eq!(level("2000-21€"), refused(11, 7, 10));
+    assert_eq!(words(&one(LEVEL, &[piece(3, 0, "2000")])), refused(15, 0, 0));
+    // Verbatim is copied; a break is a space; Math has its signs.
+    assert_eq!(level("2000-21\n"), refused(23, 0, 0));
+    let cut = one(LEVEL, &[normal(0, "20"), piece(1, 9, "00-21")]);
+    assert_eq!(raw(&hex(&cut)), raw(&hex(&one(LEVEL, &[normal(0, "2000-21")]))));
+    assert_eq!(words(&one(LEVEL, &[piece(2, 0, "2000")])), refused(23, 0, 0));
+}
+
 #[test]
 fn bad_frames() {
     let bad = "0e00000000000000000000000000000000";
@@ -348,7 +420,7 @@ fn bad_frames() {
         "0401".into(),
         "00".into(),
         "0000".into(),
-        "0500".into(),
+        "0600".into(),
         "ff00".into(),
         format!("{good}\r"),
         format!("{good}0"),

@@ -54,12 +54,16 @@ pub struct Written {
 const _: () = assert!(size_of::<Datetime>() == 16 && size_of::<Date>() == 36);
 const _: () = assert!(size_of::<Answer>() == 56 && size_of::<Written>() == 16);
 const _: () = assert!(offset_of!(Datetime, has_month) == 4 && offset_of!(Datetime, has_time) == 8);
+const _: () = assert!(offset_of!(Datetime, season) == 15);
 const _: () = assert!(offset_of!(Date, second) == 16 && offset_of!(Date, shape) == 32);
 const _: () = assert!(offset_of!(Answer, date) == 16 && offset_of!(Answer, refusal) == 52);
 const _: () = assert!(cfg!(target_endian = "little"));
 
 /// A reader of one chunk list: its bytes and its table.
 type Reader = unsafe extern "C" fn(*const u8, usize, *const u64, usize, *mut Answer);
+
+/// A measure of a text: the two Datetimes, then shape and marks.
+type Measure = unsafe extern "C" fn(Datetime, Datetime, u8, u8, u8) -> Written;
 
 /// A writer: the two Datetimes, the buffer, then shape and marks.
 type Writer = unsafe extern "C" fn(Datetime, Datetime, *mut u8, usize, u8, u8, u8) -> Written;
@@ -75,6 +79,13 @@ extern "C" {
         answer: *mut Answer,
     );
     fn knobstream_parse_strict(
+        bytes: *const u8,
+        bytes_len: usize,
+        table: *const u64,
+        table_len: usize,
+        answer: *mut Answer,
+    );
+    fn knobstream_parse_level_one(
         bytes: *const u8,
         bytes_len: usize,
         table: *const u64,
@@ -123,6 +134,22 @@ extern "C" {
         uncertain: u8,
         approximate: u8,
     ) -> Written;
+    fn knobstream_measure_level_one(
+        first: Datetime,
+        second: Datetime,
+        shape: u8,
+        uncertain: u8,
+        approximate: u8,
+    ) -> Written;
+    fn knobstream_write_level_one(
+        first: Datetime,
+        second: Datetime,
+        out: *mut u8,
+        out_len: usize,
+        shape: u8,
+        uncertain: u8,
+        approximate: u8,
+    ) -> Written;
     fn knobstream_compare(first: Datetime, second: Datetime) -> i32;
     fn knobstream_answer_frame(
         line: *const u8,
@@ -150,9 +177,13 @@ pub fn parse_strict(list: List) -> Answer {
     read(knobstream_parse_strict, list)
 }
 
+pub fn parse_level_one(list: List) -> Answer {
+    read(knobstream_parse_level_one, list)
+}
+
 fn read(reader: Reader, List { bytes, table }: List) -> Answer {
     let mut answer = MaybeUninit::uninit();
-    // SAFETY: `reader` is one of the two above. The slices are readable for
+    // SAFETY: `reader` is one of the three above. The slices are readable for
     // the call, which keeps nothing of them and stores nothing there. It takes
     // any bytes and any numbers, and stores every byte of the answer.
     unsafe {
@@ -189,9 +220,16 @@ pub fn parse_three_fields(year: List, month: Option<List>, day: Option<List>) ->
 }
 
 pub fn measure_date(d: Date) -> Result<usize, u8> {
-    // SAFETY: the call takes any numbers.
-    let w =
-        unsafe { knobstream_measure_date(d.first, d.second, d.shape, d.uncertain, d.approximate) };
+    measure(knobstream_measure_date, d)
+}
+
+pub fn measure_level_one(d: Date) -> Result<usize, u8> {
+    measure(knobstream_measure_level_one, d)
+}
+
+fn measure(measure: Measure, d: Date) -> Result<usize, u8> {
+    // SAFETY: `measure` is one of the two above, which take any numbers.
+    let w = unsafe { measure(d.first, d.second, d.shape, d.uncertain, d.approximate) };
     if w.refusal == 0 {
         Ok(w.length)
     } else {
@@ -207,9 +245,13 @@ pub fn write_fields(d: Date, out: &mut [u8]) -> Result<&str, u8> {
     write(knobstream_write_fields, d, out)
 }
 
+pub fn write_level_one(d: Date, out: &mut [u8]) -> Result<&str, u8> {
+    write(knobstream_write_level_one, d, out)
+}
+
 fn write(writer: Writer, d: Date, out: &mut [u8]) -> Result<&str, u8> {
     let (bytes, room) = (out.as_mut_ptr(), out.len());
-    // SAFETY: `writer` is one of the two above. `out` is readable and writable
+    // SAFETY: `writer` is one of the three above. `out` is readable and writable
     // for the call, which keeps nothing of it and stores within it alone.
     let w = unsafe { writer(d.first, d.second, bytes, room, d.shape, d.uncertain, d.approximate) };
     text(w, out)
@@ -244,5 +286,5 @@ pub fn answer_frame<'a>(line: &[u8], out: &'a mut [u8]) -> Result<&'a str, u8> {
 #[test]
 fn the_library_is_of_this_version() {
     // SAFETY: the call takes nothing.
-    assert_eq!(unsafe { knobstream_version() }, 2);
+    assert_eq!(unsafe { knobstream_version() }, 3);
 }

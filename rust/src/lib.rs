@@ -29,7 +29,7 @@ use std::ops::Range;
 use ffi::List;
 
 /// The room that every answer to a frame has enough of, its line feed included.
-pub const LINE_ROOM: usize = 139;
+pub const LINE_ROOM: usize = 147;
 
 /// The answer to a frame, a line of hexadecimal digits without its line feed,
 /// as the program dateframes gives it: a line with its line feed. A line that
@@ -127,7 +127,7 @@ pub enum DateValue {
     Between(Datetime, Datetime),
 }
 
-/// A year, and perhaps a month, a day and a time.
+/// A year, and perhaps a month, a day and a time, or a season.
 #[derive(Debug, Copy, Clone, Eq, PartialEq)]
 pub struct Datetime {
     /// The year: 1 BC is 0, 2 BC is -1.
@@ -138,6 +138,45 @@ pub struct Datetime {
     pub day: Option<u8>,
     /// The time.
     pub time: Option<Time>,
+    /// The season. Only [`Date::parse_level_one`] gives one, and never beside a
+    /// month, a day or a time.
+    pub season: Option<Season>,
+}
+
+/// A season of a year.
+#[derive(Debug, Copy, Clone, Eq, PartialEq)]
+pub enum Season {
+    /// Written as 21.
+    Spring,
+    /// Written as 22.
+    Summer,
+    /// Written as 23.
+    Autumn,
+    /// Written as 24.
+    Winter,
+}
+
+impl Season {
+    /// The number of the season in ISO 8601-2: 21 to 24.
+    pub fn number(self) -> u8 {
+        match self {
+            Self::Spring => 21,
+            Self::Summer => 22,
+            Self::Autumn => 23,
+            Self::Winter => 24,
+        }
+    }
+
+    /// The season of a number in a struct of the library, if it has one.
+    fn of(number: u8) -> Option<Self> {
+        match number {
+            0 => None,
+            21 => Some(Self::Spring),
+            22 => Some(Self::Summer),
+            23 => Some(Self::Autumn),
+            _ => Some(Self::Winter),
+        }
+    }
 }
 
 /// A time, with an offset from UTC or without.
@@ -273,6 +312,10 @@ kinds! {
     /// A time without a day beside a month, or with a part or an offset out of range. No place.
     /// No call of this crate refuses so.
     BadTime = 22, "not a time of a day";
+    /// The text is not one of the grammar of level one. No place.
+    NotLevelOne = 23, "not a date of the grammar of level one";
+    /// A season, in a call that knows none. No place.
+    HasSeason = 24, "a season, which this call does not know";
     /// The day, the time or its offset is absent, so there is no instant. No place.
     /// No call of this crate refuses so.
     NoInstant = 25, "no day, no time or no offset";
@@ -306,6 +349,10 @@ impl Date {
     /// The room that the fields of every date have enough of.
     pub const FIELDS_ROOM: usize = 79;
 
+    /// The room that the text of every date by the writer of level one has
+    /// enough of.
+    pub const LEVEL_ONE_ROOM: usize = 42;
+
     /// Reads a text as biblatex reads a date field: "49" is 2049, "0049" the
     /// year 49. The places of a refusal are counted from the start of the text.
     ///
@@ -332,6 +379,21 @@ impl Date {
         Self::parse_strict(&[whole(text)])
     }
 
+    /// Reads a text by the grammar of level one: the strict texts, seasons and
+    /// long years. "49" is refused.
+    ///
+    /// ```
+    /// # use knobstream::*;
+    /// let DateValue::At(spring) = Date::parse_level_one_str("2000-21")?.value else { panic!() };
+    /// assert_eq!((spring.year, spring.season), (2000, Some(Season::Spring)));
+    /// assert_eq!(Date::parse_level_one_str("Y-123456789~")?.to_string(), "-123456789~");
+    /// assert_eq!(Date::parse_level_one_str("2000-25").unwrap_err().kind, TypeErrorKind::NotLevelOne);
+    /// # Ok::<(), TypeError>(())
+    /// ```
+    pub fn parse_level_one_str(text: &str) -> Result<Self, TypeError> {
+        Self::parse_level_one(&[whole(text)])
+    }
+
     /// Reads a date field as biblatex does, a list of chunks with their places
     /// in the file.
     ///
@@ -356,6 +418,19 @@ impl Date {
     /// ```
     pub fn parse_strict(chunks: ChunksRef) -> Result<Self, TypeError> {
         with_list(chunks, |list| answered(ffi::parse_strict(list)))
+    }
+
+    /// Reads a date field by the grammar of level one: the strict texts,
+    /// seasons and long years.
+    ///
+    /// ```
+    /// # use knobstream::*;
+    /// let chunks = [Spanned::new(Chunk::Normal("2000-"), 7..12), Spanned::new(Chunk::Verbatim("21"), 13..15)];
+    /// assert_eq!(Date::parse_level_one(&chunks)?, Date::parse_level_one_str("2000-21")?);
+    /// # Ok::<(), TypeError>(())
+    /// ```
+    pub fn parse_level_one(chunks: ChunksRef) -> Result<Self, TypeError> {
+        with_list(chunks, |list| answered(ffi::parse_level_one(list)))
     }
 
     /// Reads the fields `year`, `month` and `day`: the year "49" is the year 49.
@@ -393,7 +468,8 @@ impl Date {
     /// # use knobstream::*;
     /// let mut date = Date::parse_str("2000-2-9T10?")?;
     /// assert_eq!(date.text_length()?, "2000-02-09?".len());
-    /// date.value = DateValue::At(Datetime { year: 2000, month: Some(255), day: None, time: None });
+    /// date.value =
+    ///     DateValue::At(Datetime { year: 2000, month: Some(255), day: None, time: None, season: None });
     /// assert_eq!(date.text_length().unwrap_err().kind, TypeErrorKind::RustPanics);
     /// # Ok::<(), TypeError>(())
     /// ```
@@ -404,9 +480,9 @@ impl Date {
     /// Writes the text of the date at the front of the buffer, and gives it. The
     /// time is not written, nor a day without a month.
     ///
-    /// It refuses a month of 255 and a day of 255 beside a month, on which
-    /// biblatex panics, and then a buffer that is too short; the buffer is then
-    /// as it was.
+    /// It refuses a season, then a month of 255 and a day of 255 beside a month,
+    /// on which biblatex panics, and then a buffer that is too short; the buffer
+    /// is then as it was.
     ///
     /// ```
     /// # use knobstream::*;
@@ -431,15 +507,52 @@ impl Date {
     pub fn write_fields<'o>(&self, out: &'o mut [u8]) -> Result<&'o str, TypeError> {
         ffi::write_fields(plain_date(self), out).map_err(no_place)
     }
+
+    /// How many bytes the text of the date has by the writer of level one. It
+    /// refuses what [`Date::write_level_one`] refuses, apart from a buffer that
+    /// is too short.
+    ///
+    /// ```
+    /// # use knobstream::*;
+    /// assert_eq!(Date::parse_level_one_str("Y12345/2000-24?")?.level_one_length()?, 15);
+    /// # Ok::<(), TypeError>(())
+    /// ```
+    pub fn level_one_length(&self) -> Result<usize, TypeError> {
+        ffi::measure_level_one(plain_date(self)).map_err(no_place)
+    }
+
+    /// Writes the text of the date by the writer of level one at the front of
+    /// the buffer, and gives it: as [`Date::write`] does, but with a Y before a
+    /// year of more than four digits, and with the season, beside which no month
+    /// and no day is looked at.
+    ///
+    /// It refuses a month of 255 and a day of 255 beside a month, each without a
+    /// season, and then a buffer that is too short; the buffer is then as it was.
+    ///
+    /// ```
+    /// # use knobstream::*;
+    /// let date = Date::parse_level_one_str("2000-21/Y12345")?;
+    /// assert_eq!(date.write_level_one(&mut [0; Date::LEVEL_ONE_ROOM])?, "2000-21/Y12345");
+    /// assert_eq!(date.text_length().unwrap_err().kind, TypeErrorKind::HasSeason);
+    /// # Ok::<(), TypeError>(())
+    /// ```
+    pub fn write_level_one<'o>(&self, out: &'o mut [u8]) -> Result<&'o str, TypeError> {
+        ffi::write_level_one(plain_date(self), out).map_err(no_place)
+    }
 }
 
-/// The text of the date, as [`Date::write`] gives it. A date that has none, for
-/// its month is 255, or its day beside a month, is shown as words that no reader
-/// takes for a date; [`Date::text_length`] says why.
+/// The text of the date, as [`Date::write`] gives it, or with a season as
+/// [`Date::write_level_one`] does. A date that has none, for its month is 255, or
+/// its day beside a month, is shown as words that no reader takes for a date;
+/// [`Date::text_length`] says why, or with a season [`Date::level_one_length`].
 impl Display for Date {
     fn fmt(&self, f: &mut Formatter) -> fmt::Result {
-        let mut out = [0; Self::TEXT_ROOM];
-        f.write_str(self.write(&mut out).unwrap_or("(no text: month or day 255)"))
+        let mut out = [0; Self::LEVEL_ONE_ROOM];
+        let text = match self.write(&mut out) {
+            Err(e) if e.kind == TypeErrorKind::HasSeason => self.write_level_one(&mut out),
+            written => written,
+        };
+        f.write_str(text.unwrap_or("(no text: month or day 255)"))
     }
 }
 
@@ -452,6 +565,7 @@ impl Display for Datetime {
 
 /// Year, month, day and time in turn. A part that only one of two has, or times
 /// of which only one has an offset, give none; a part that neither has ends it.
+/// A Datetime with a season stands in no order, not even to itself.
 impl PartialOrd for Datetime {
     fn partial_cmp(&self, other: &Self) -> Option<Ordering> {
         match ffi::compare(plain_datetime(self), plain_datetime(other)) {
@@ -550,6 +664,7 @@ fn datetime(p: &ffi::Datetime) -> Datetime {
                 }),
             },
         }),
+        season: Season::of(p.season),
     }
 }
 
@@ -561,6 +676,7 @@ fn plain_day(d: &Datetime) -> ffi::Datetime {
         month: d.month.unwrap_or(0),
         has_day: d.day.is_some().into(),
         day: d.day.unwrap_or(0),
+        season: d.season.map_or(0, Season::number),
         ..ffi::Datetime::default()
     }
 }
@@ -614,11 +730,20 @@ mod tests {
             assert_eq!(kind.number(), number);
             let named = KINDS.contains(&(kind, number));
             assert_eq!(named, !matches!(kind, TypeErrorKind::Other(_)));
-            assert_eq!(named, matches!(number, 1..=22 | 25 | 26));
+            assert_eq!(named, matches!(number, 1..=26));
             assert_eq!(kind.has_place(), matches!(number, 1..=8 | 10 | 11));
             assert!(!no_place(number).to_string().is_empty());
         }
         assert_eq!(TypeErrorKind::of(200).to_string(), "refused with the number 200");
+    }
+
+    #[test]
+    fn every_number_has_a_season() {
+        assert_eq!(Season::of(0), None);
+        for number in 1..=255 {
+            let season = Season::of(number).unwrap();
+            assert_eq!(season.number(), if matches!(number, 21..=23) { number } else { 24 });
+        }
     }
 }
 

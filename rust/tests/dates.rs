@@ -2,7 +2,8 @@
 //! Rust differs from one in C: lists of several chunks, limits, refusals.
 
 use knobstream::{
-    Chunk, Date, DateValue, Datetime, Span, Spanned, Time, TimeOffset, TypeError, TypeErrorKind,
+    Chunk, Date, DateValue, Datetime, Season, Span, Spanned, Time, TimeOffset, TypeError,
+    TypeErrorKind,
 };
 use std::cmp::Ordering;
 use TypeErrorKind::*;
@@ -16,7 +17,11 @@ fn parse(text: &str) -> Result<Date, TypeError> {
 }
 
 fn ymd(year: i32, month: Option<u8>, day: Option<u8>) -> Datetime {
-    Datetime { year, month, day, time: None }
+    Datetime { year, month, day, time: None, season: None }
+}
+
+fn season(year: i32, season: Season) -> Datetime {
+    Datetime { season: Some(season), ..ymd(year, None, None) }
 }
 
 fn plain(value: DateValue) -> Date {
@@ -153,7 +158,7 @@ fn writing() {
     for text in ["2000", "-0049-02", "0000-12-31?", "1999/2003-07~", "../2000", "2000/..%"] {
         assert_eq!(parse(text).unwrap().to_string(), text);
     }
-    let least = Datetime { year: i32::MIN, month: Some(254), day: Some(254), time: None };
+    let least = ymd(i32::MIN, Some(254), Some(254));
     let mut date = plain(DateValue::Between(least, least));
     date.uncertain = true;
     let text = date.to_string();
@@ -174,6 +179,121 @@ fn writing() {
     let none = ymd(1, Some(0), Some(255));
     assert_eq!(none.to_string(), "(no text: month or day 255)");
     assert_eq!(ymd(1, None, Some(255)).to_string(), "0001");
+}
+
+#[test]
+fn level_one() {
+    let at = |d| Ok(plain(DateValue::At(d)));
+    let read = Date::parse_level_one_str;
+    assert_eq!(read("2000-21"), at(season(2000, Season::Spring)));
+    assert_eq!(read("2000-22"), at(season(2000, Season::Summer)));
+    assert_eq!(read("2000-23"), at(season(2000, Season::Autumn)));
+    assert_eq!(read("-0044-24"), at(season(-44, Season::Winter)));
+    assert_eq!(read("Y12345"), at(ymd(12345, None, None)));
+    assert_eq!(
+        read("Y-123456789~"),
+        Ok(Date { approximate: true, ..plain(DateValue::At(ymd(-123456789, None, None))) })
+    );
+    let range = DateValue::Between(season(2000, Season::Summer), season(2001, Season::Autumn));
+    assert_eq!(read("2000-22/2001-23?"), Ok(Date { uncertain: true, ..plain(range) }));
+    assert_eq!(read("2000-21/.."), Ok(plain(DateValue::After(season(2000, Season::Spring)))));
+    assert_eq!(read("2000-02-29T10:20:30Z"), Date::parse_strict_str("2000-02-29T10:20:30Z"));
+    for text in ["2000-20", "2000-25", "49", "Y1234", "Y01234", "Y1234567890", "Y12345-21"] {
+        assert_eq!(read(text), refused(NotLevelOne, 0..0), "{text}");
+    }
+    let long = " ".repeat(4097);
+    assert_eq!(read(&long), refused(TooLong, 0..0));
+    // The other readers know no season and no long year.
+    assert_eq!(Date::parse_str("2000-21"), refused(MonthOutOfRange, 5..7));
+    assert_eq!(Date::parse_strict_str("2000-21"), refused(NotStrict, 0..0));
+    assert_eq!(Date::parse_strict_str("Y12345"), refused(NotStrict, 0..0));
+    let year = [Spanned::new(Chunk::Normal("2000"), 0..4)];
+    let month = [Spanned::new(Chunk::Normal("21"), 9..11)];
+    let read = Date::parse_three_fields(&year, Some(&month), None);
+    assert_eq!(read, at(ymd(2000, Some(20), None)));
+}
+
+#[test]
+fn seasons_are_written_by_one_writer_alone() {
+    for text in ["2000-21", "-0044-24", "Y12345", "Y-123456789~", "2000-22/2001-23?", "0000-12-31%"]
+    {
+        let date = Date::parse_level_one_str(text).unwrap();
+        let mut out = [7; Date::LEVEL_ONE_ROOM];
+        assert_eq!(date.write_level_one(&mut out), Ok(text));
+        assert_eq!(date.level_one_length(), Ok(text.len()));
+        assert_eq!(out[text.len()..], [7; Date::LEVEL_ONE_ROOM][text.len()..]);
+        let kind = date.write_level_one(&mut vec![7; text.len() - 1]).unwrap_err().kind;
+        assert_eq!(kind, NoRoom);
+    }
+    let spring = season(2000, Season::Spring);
+    let value = [
+        DateValue::At(spring),
+        DateValue::After(spring),
+        DateValue::Before(spring),
+        DateValue::Between(spring, ymd(1, Some(255), None)),
+        DateValue::Between(ymd(1, Some(255), None), spring),
+    ];
+    for date in value.map(plain) {
+        let mut out = [7; Date::FIELDS_ROOM];
+        assert_eq!(date.text_length().unwrap_err(), TypeError { span: 0..0, kind: HasSeason });
+        assert_eq!(date.write(&mut out).unwrap_err().kind, HasSeason);
+        assert_eq!(date.write(&mut []).unwrap_err().kind, HasSeason);
+        assert_eq!(date.write_fields(&mut out).unwrap_err().kind, HasSeason);
+        assert_eq!(out, [7; Date::FIELDS_ROOM]);
+    }
+    // Beside a season no month, no day and no time is looked at.
+    let time = Some(Time { hour: 99, minute: 0, second: 0, offset: None });
+    let full = Datetime { time, season: Some(Season::Winter), ..ymd(-5, Some(255), Some(255)) };
+    let range = plain(DateValue::Between(full, ymd(12345, None, Some(255))));
+    assert_eq!(range.write_level_one(&mut [0; 42]), Ok("-0005-24/Y12345"));
+    let none = plain(DateValue::Between(full, ymd(12345, Some(255), None)));
+    assert_eq!(none.write_level_one(&mut [0; 42]).unwrap_err().kind, RustPanics);
+    assert_eq!(none.level_one_length().unwrap_err().kind, RustPanics);
+    let least = ymd(i32::MIN, Some(254), Some(254));
+    let longest = Date { approximate: true, ..plain(DateValue::Between(least, least)) };
+    assert_eq!(longest.level_one_length(), Ok(Date::LEVEL_ONE_ROOM));
+}
+
+#[test]
+fn every_date_is_shown() {
+    let shown = |text| Date::parse_level_one_str(text).unwrap().to_string();
+    assert_eq!(shown("2000-21"), "2000-21");
+    assert_eq!(shown("2000-22/2001-23?"), "2000-22/2001-23?");
+    assert_eq!(shown("2000-22/Y12345"), "2000-22/Y12345");
+    // Without a season it is the text as ever, which has no Y.
+    assert_eq!(shown("Y12345"), "12345");
+    assert_eq!(season(-44, Season::Winter).to_string(), "-0044-24");
+    assert_eq!(Datetime { month: Some(255), ..season(1, Season::Autumn) }.to_string(), "0001-23");
+    let none = plain(DateValue::Between(season(1, Season::Autumn), ymd(1, Some(255), None)));
+    assert_eq!(none.to_string(), "(no text: month or day 255)");
+}
+
+#[test]
+fn seasons_are_not_compared() {
+    let (spring, year) = (season(2000, Season::Spring), ymd(1999, None, None));
+    assert_eq!(spring.partial_cmp(&year), None);
+    assert_eq!(year.partial_cmp(&spring), None);
+    assert_eq!(spring.partial_cmp(&spring), None);
+    assert_eq!(spring.partial_cmp(&season(2001, Season::Winter)), None);
+    assert_eq!(spring, season(2000, Season::Spring));
+    assert_ne!(spring, season(2000, Season::Summer));
+}
+
+#[test]
+fn frames_of_level_one() {
+    let mut room = [0; knobstream::LINE_ROOM];
+    let spring = b"050100070000000000000007323030302d3231";
+    let line = "000000000007d0ffff0000000000000015323030302d3231\n";
+    assert_eq!(knobstream::answer_frame(spring, &mut room), line);
+    let two_digits = b"0501000200000000000000023439";
+    let line = "1700000000000000000000000000000000\n";
+    assert_eq!(knobstream::answer_frame(two_digits, &mut room), line);
+}
+
+#[test]
+fn every_season_has_its_number() {
+    let all = [Season::Spring, Season::Summer, Season::Autumn, Season::Winter];
+    assert_eq!(all.map(Season::number), [21, 22, 23, 24]);
 }
 
 #[test]
@@ -204,7 +324,7 @@ fn every_part_survives_the_way_out_and_back() {
     for time in times {
         for month in [None, Some(0), Some(254)] {
             for day in [None, Some(0), Some(30)] {
-                let d = Datetime { year: -5, month, day, time };
+                let d = Datetime { time, ..ymd(-5, month, day) };
                 // What is equal up to an absent part is equal; so is what is equal in all.
                 assert_eq!(d.partial_cmp(&d), Some(Ordering::Equal));
                 let later = Datetime { year: -4, ..d };
@@ -240,5 +360,15 @@ fn every_kind_has_its_number_and_a_message() {
     assert_eq!(
         (e.kind.number(), e.to_string().as_str()),
         (16, "more than 64 chunks or 4,096 bytes")
+    );
+    let e = TypeError { span: 0..0, kind: NotLevelOne };
+    assert_eq!(
+        (e.kind.number(), e.to_string().as_str()),
+        (23, "not a date of the grammar of level one")
+    );
+    let e = TypeError { span: 0..0, kind: HasSeason };
+    assert_eq!(
+        (e.kind.number(), e.to_string().as_str()),
+        (24, "a season, which this call does not know")
     );
 }

@@ -22,11 +22,13 @@ use Rattle.dates.specs.declared.Datetime.{Datetime}
 use Rattle.dates.specs.declared.DateValue.{DateValue}
 use Rattle.dates.specs.declared.DateValue.the-variants.{At, After, Before, Between}
 use Rattle.dates.specs.declared.Date.{Date}
+use Rattle.dates.specs.declared.OptionSeason.{OptionSeason}
+use Rattle.dates.specs.Value.{seasonNumber}
 use Rattle.refusals.specs.declared.Refusal.{Refusal}
 use Rattle.refusals.specs.Refusal.{number}
 use Rattle.writer.specs.Answers.{Put}
 use Rattle.writer.proofs.Puts.{as-text, both, kept}
-use Rattle.answers.specs.Answer.{glyph, hexText, wordBytes, twos, monthByte, dayByte, bit, marks, shiftBytes, offsetBytes, timeBytes, datetimeBytes, shape, endsBytes, longBytes, bytesWith, acceptedBytes, refusedBytes, lineOf, oneLine, twoLine, acceptedLine}
+use Rattle.answers.specs.Answer.{glyph, hexText, wordBytes, twos, monthByte, dayByte, bit, marks, shiftBytes, offsetBytes, timeBytes, datetimeBytes, endBytes, endLength, shape, endsBytes, longBytes, bytesWith, acceptedBytes, refusedBytes, lineOf, oneLine, twoLine, acceptedLine}
 
 -- two digits a byte
 pub length-hex : (t : List ℕ) → length (hexText t) ≡ 2 * length t
@@ -126,20 +128,25 @@ datetime-is d {m = m} {k = k} {w = w} {t = t} en ew em ek et =
 pub length-line : (b : List ℕ) → length (lineOf b) ≡ 2 * length b + 1
 length-line b = length-append (hexText b) (0x0A ∷ []) ∙ let e = length-hex b in omega arith
 
-pub length-one : (n m : ℕ) (d : Datetime) (text : List ℕ) → length (oneLine n m d text) ≡ 2 * (16 + length text) + 1
-length-one n m d text =
-    length-line (bytesWith n m (datetimeBytes d) text)
-    ∙ let e = length-append (datetimeBytes d) text in
-    let f = length-datetime d in
+pub length-end : (level : Bool) (d : Datetime) → length (endBytes level d) ≡ endLength level
+unfolding endBytes endLength
+length-end true d = length-append (datetimeBytes d) (seasonNumber (d .season) ∷ []) ∙ let e = length-datetime d in omega arith
+length-end false d = length-datetime d
+
+pub length-one : (level : Bool) (n m : ℕ) (d : Datetime) (text : List ℕ) → length (oneLine level n m d text) ≡ 2 * (3 + endLength level + length text) + 1
+length-one level n m d text =
+    length-line (bytesWith n m (endBytes level d) text)
+    ∙ let e = length-append (endBytes level d) text in
+    let f = length-end level d in
     omega arith
 
-pub length-two : (m : ℕ) (a b : Datetime) (text : List ℕ) → length (twoLine m a b text) ≡ 2 * (29 + length text) + 1
-length-two m a b text =
-    length-line (bytesWith 3 m (datetimeBytes a ++ datetimeBytes b) text)
-    ∙ let e = length-append (datetimeBytes a ++ datetimeBytes b) text in
-    let f = length-append (datetimeBytes a) (datetimeBytes b) in
-    let g = length-datetime a in
-    let h = length-datetime b in
+pub length-two : (level : Bool) (m : ℕ) (a b : Datetime) (text : List ℕ) → length (twoLine level m a b text) ≡ 2 * (3 + 2 * endLength level + length text) + 1
+length-two level m a b text =
+    length-line (bytesWith 3 m (endBytes level a ++ endBytes level b) text)
+    ∙ let e = length-append (endBytes level a ++ endBytes level b) text in
+    let f = length-append (endBytes level a) (endBytes level b) in
+    let g = length-end level a in
+    let h = length-end level b in
     omega arith
 
 pub length-refused : (e : Refusal) → length (refusedBytes e) ≡ 17
@@ -147,37 +154,58 @@ unfolding refusedBytes
 length-refused e = refl
 
 -- one Datetime or two
-ends-most : (v : DateValue) → length (endsBytes v) ≤ 26
+ends-most : (level : Bool) (v : DateValue) → length (endsBytes level v) ≤ 2 * endLength level
 unfolding endsBytes
-ends-most (At a) = omega (arith, length-datetime a)
-ends-most (After a) = omega (arith, length-datetime a)
-ends-most (Before a) = omega (arith, length-datetime a)
-ends-most (Between a b) = omega (arith, length-append (datetimeBytes a) (datetimeBytes b), length-datetime a, length-datetime b)
+ends-most level (At a) = omega (arith, length-end level a)
+ends-most level (After a) = omega (arith, length-end level a)
+ends-most level (Before a) = omega (arith, length-end level a)
+ends-most level (Between a b) = omega (arith, length-append (endBytes level a) (endBytes level b), length-end level a, length-end level b)
 
 -- the line of a Date, by the length of its text
-pub accepted-most : (d : Date) (text : List ℕ) → length (acceptedLine d text) ≤ 2 * (29 + length text) + 1
+pub accepted-most : (level : Bool) (d : Date) (text : List ℕ) → length (acceptedLine level d text) ≤ 2 * (3 + 2 * endLength level + length text) + 1
 unfolding acceptedBytes
-accepted-most d text = omega (arith, length-line (acceptedBytes d text), length-append (endsBytes (d .value)) text, ends-most (d .value))
+accepted-most level d text =
+    omega (arith, length-line (acceptedBytes level d text), length-append (endsBytes level (d .value)) text, ends-most level (d .value))
+
+-- the end that was put: the Datetime, and by level one the season behind it
+pub plain-end : {level : Bool} (d : Datetime) {w : List ℕ} → level ≡ false → w ≡ datetimeBytes d → endBytes level d ≡ w
+unfolding endBytes
+plain-end d e f = rw (e, f) refl
+
+pub season-end : {level : Bool} (d : Datetime) {w : List ℕ} {n : ℕ} → level ≡ true → w ≡ datetimeBytes d → n ≡ seasonNumber (d .season) → endBytes level d ≡ w ++ (n ∷ [])
+unfolding endBytes
+season-end d e f g = rw (e, f, g) refl
+
+-- the Datetime fits where the end does, and the season behind it
+pub end-least : (level : Bool) → 13 ≤ endLength level
+unfolding endLength
+end-least true = omega arith
+end-least false = omega arith
+
+pub end-most : (level : Bool) → endLength level ≤ 14
+unfolding endLength
+end-most true = omega arith
+end-most false = omega arith
 
 -- a line that was put
 pub line-put : (b : List ℕ) {l m p : List ℕ} {j k : ℕ} → Put (hexText b) l 0 m j → Put (0x0A ∷ []) m j p k → Put (lineOf b) l 0 p k
 line-put b p q = both p q
 
 -- the line of a Date, by what it has
-module _ (d : Date) (text : List ℕ) {m : ℕ} (em : m ≡ marks (d .uncertain) (d .approximate)) where
-  pub at-line : {a : Datetime} → d .value ≡ At a → oneLine 0 m a text ≡ acceptedLine d text
+module _ (level : Bool) (d : Date) (text : List ℕ) {m : ℕ} (em : m ≡ marks (d .uncertain) (d .approximate)) where
+  pub at-line : {a : Datetime} → d .value ≡ At a → oneLine level 0 m a text ≡ acceptedLine level d text
   unfolding acceptedBytes shape endsBytes
   at-line e = rw (e, em) refl
 
-  pub after-line : {a : Datetime} → d .value ≡ After a → oneLine 1 m a text ≡ acceptedLine d text
+  pub after-line : {a : Datetime} → d .value ≡ After a → oneLine level 1 m a text ≡ acceptedLine level d text
   unfolding acceptedBytes shape endsBytes
   after-line e = rw (e, em) refl
 
-  pub before-line : {a : Datetime} → d .value ≡ Before a → oneLine 2 m a text ≡ acceptedLine d text
+  pub before-line : {a : Datetime} → d .value ≡ Before a → oneLine level 2 m a text ≡ acceptedLine level d text
   unfolding acceptedBytes shape endsBytes
   before-line e = rw (e, em) refl
 
-  pub between-line : {a b : Datetime} → d .value ≡ Between a b → twoLine m a b text ≡ acceptedLine d text
+  pub between-line : {a b : Datetime} → d .value ≡ Between a b → twoLine level m a b text ≡ acceptedLine level d text
   unfolding acceptedBytes shape endsBytes
   between-line e = rw (e, em) refl
 

@@ -5,9 +5,8 @@ use mathlib.Core.List.{List, [], _∷_, _++_}
 use lib.Dec.{ltb}
 use lib.IntN.{ℤ, pos, negsuc}
 use Rattle.chars.specs.Pick.{pick}
-use Rattle.refusals.specs.declared.Kind.the-variants.{RustPanics}
 use Rattle.refusals.specs.declared.Refusal.{Refusal}
-use Rattle.refusals.specs.Refusal.{number, fileSpan, refusal}
+use Rattle.refusals.specs.Refusal.{number}
 use Rattle.dates.specs.declared.OptionMonth.{OptionMonth}
 use Rattle.dates.specs.declared.OptionMonth.the-variants.{NoMonth, SomeMonth}
 use Rattle.dates.specs.declared.OptionDay.{OptionDay}
@@ -22,9 +21,14 @@ use Rattle.dates.specs.declared.Datetime.{Datetime}
 use Rattle.dates.specs.declared.DateValue.{DateValue}
 use Rattle.dates.specs.declared.DateValue.the-variants.{At, After, Before, Between}
 use Rattle.dates.specs.declared.Date.{Date}
+use Rattle.dates.specs.Value.{seasonNumber}
 use Rattle.datefield.specs.declared.ReadDate.{ReadDate}
 use Rattle.datefield.specs.declared.ReadDate.the-variants.{Accepted, Refused}
-use Rattle.writer.specs.Texts.{dateText, panics}
+use Rattle.writer.specs.declared.Measured.{Measured}
+use Rattle.writer.specs.declared.Measured.the-variants.{Length, NoLength}
+use Rattle.writer.specs.Texts.{dateText}
+use Rattle.writer.specs.Answers.{measured, dateMeasured}
+use Rattle.writer.specs.Level.{levelText, levelPanics}
 
 -- a hexadecimal digit, in lower case
 unfoldable pub glyph : ℕ → ℕ
@@ -78,6 +82,16 @@ timeBytes (SomeTime t) = 1 ∷ t .hour ∷ t .minute ∷ t .second ∷ offsetByt
 unfoldable pub datetimeBytes : Datetime → List ℕ
 datetimeBytes d = wordBytes (twos (d .year)) ++ ((monthByte (d .month) ∷ dayByte (d .day) ∷ []) ++ timeBytes (d .time))
 
+-- one end; by level one its season comes last, which is 0 if it is absent
+unfoldable pub endBytes : Bool → Datetime → List ℕ
+endBytes true d = datetimeBytes d ++ (seasonNumber (d .season) ∷ [])
+endBytes false d = datetimeBytes d
+
+-- how many bytes that are
+unfoldable pub endLength : Bool → ℕ
+endLength true = 14
+endLength false = 13
+
 -- the shapes by their numbers
 unfoldable pub shape : DateValue → ℕ
 shape (At a) = 0
@@ -86,11 +100,11 @@ shape (Before a) = 2
 shape (Between a b) = 3
 
 -- each Datetime of a point or a range
-unfoldable pub endsBytes : DateValue → List ℕ
-endsBytes (At a) = datetimeBytes a
-endsBytes (After a) = datetimeBytes a
-endsBytes (Before a) = datetimeBytes a
-endsBytes (Between a b) = datetimeBytes a ++ datetimeBytes b
+unfoldable pub endsBytes : Bool → DateValue → List ℕ
+endsBytes level (At a) = endBytes level a
+endsBytes level (After a) = endBytes level a
+endsBytes level (Before a) = endBytes level a
+endsBytes level (Between a b) = endBytes level a ++ endBytes level b
 
 -- a mark is 1 where it stands
 unfoldable pub bit : Bool → ℕ
@@ -106,8 +120,8 @@ abbrev pub bytesWith : ℕ → ℕ → List ℕ → List ℕ → List ℕ
 bytesWith n m ends text = (0 ∷ n ∷ m ∷ []) ++ (ends ++ text)
 
 -- a Date with its written text
-unfoldable pub acceptedBytes : Date → List ℕ → List ℕ
-acceptedBytes d text = bytesWith (shape (d .value)) (marks (d .uncertain) (d .approximate)) (endsBytes (d .value)) text
+unfoldable pub acceptedBytes : Bool → Date → List ℕ → List ℕ
+acceptedBytes level d text = bytesWith (shape (d .value)) (marks (d .uncertain) (d .approximate)) (endsBytes level (d .value)) text
 
 -- a refusal: its number, and its place from start to end
 unfoldable pub refusedBytes : Refusal → List ℕ
@@ -118,22 +132,32 @@ abbrev pub lineOf : List ℕ → List ℕ
 lineOf bytes = hexText bytes ++ (0x0A ∷ [])
 
 -- the line of a shape and marks by their numbers, with one Datetime
-abbrev pub oneLine : ℕ → ℕ → Datetime → List ℕ → List ℕ
-oneLine n m d text = lineOf (bytesWith n m (datetimeBytes d) text)
+abbrev pub oneLine : Bool → ℕ → ℕ → Datetime → List ℕ → List ℕ
+oneLine level n m d text = lineOf (bytesWith n m (endBytes level d) text)
 
 -- the same with both ends of a range
-abbrev pub twoLine : ℕ → Datetime → Datetime → List ℕ → List ℕ
-twoLine m a b text = lineOf (bytesWith 3 m (datetimeBytes a ++ datetimeBytes b) text)
+abbrev pub twoLine : Bool → ℕ → Datetime → Datetime → List ℕ → List ℕ
+twoLine level m a b text = lineOf (bytesWith 3 m (endBytes level a ++ endBytes level b) text)
 
 -- the line of a Date, whose written text is given: a Date that cannot be written has none
-abbrev pub acceptedLine : Date → List ℕ → List ℕ
-acceptedLine d text = lineOf (acceptedBytes d text)
+abbrev pub acceptedLine : Bool → Date → List ℕ → List ℕ
+acceptedLine level d text = lineOf (acceptedBytes level d text)
 
 -- the line of a refusal: always 17 bytes, so 35 characters
 abbrev pub refusedLine : Refusal → List ℕ
 refusedLine e = lineOf (refusedBytes e)
 
--- the line of what a reader answered; where the Rust panics in writing the Date, that is the refusal
+-- the line of a text that was measured: of the Date with it, or of the refusal
+unfoldable pub measuredLine : Bool → Date → List ℕ → Measured → List ℕ
+measuredLine level d text (Length n) = acceptedLine level d text
+measuredLine level d text (NoLength e) = refusedLine e
+
+-- the line of what a reader answered; where the Date cannot be written, that is the refusal
 unfoldable pub answerLine : ReadDate → List ℕ
-answerLine (Accepted d) = pick (panics d) (refusedLine (refusal RustPanics (fileSpan 0 0))) (acceptedLine d (dateText d))
+answerLine (Accepted d) = measuredLine false d (dateText d) (dateMeasured d (dateText d))
 answerLine (Refused e) = refusedLine e
+
+-- the line of what the reader of level one answered: with the seasons, and its own writer's text
+unfoldable pub levelLine : ReadDate → List ℕ
+levelLine (Accepted d) = measuredLine true d (levelText d) (measured (levelPanics d) (levelText d))
+levelLine (Refused e) = refusedLine e

@@ -20,6 +20,7 @@ use dates::OptionMonth;
 use dates::OptionOffset;
 use dates::OptionTime;
 use dates::TimeOffset;
+use dates::season_number;
 use refusals::FileSpan;
 use refusals::Kind;
 use refusals::Refusal;
@@ -207,25 +208,38 @@ fn end_line(out: &mut [u8], at: usize) -> usize
     at + 1
 }
 
+// One end of a Date; by level one its season comes last.
+fn put_end(level: bool, d: Datetime, out: &mut [u8], at: usize) -> usize
+    requires { ⌜ at + 2 * length (spec.endBytes level d) ≤ length (now out) ⌝ }
+    ensures { λ r. ⌜ Put (spec.hexText (spec.endBytes level d)) (now (out .entry)) at (now (out .exit)) r ⌝ }
+{
+    let k = put_hex(&datetime_bytes(d), out, at);
+    if level {
+        let season = d.season;
+        return put_hex(&[season_number(season)], out, k);
+    }
+    k
+}
+
 // The line of a Date with one Datetime, whose written text is given.
-fn put_one(shape: u8, marks: u8, d: Datetime, text: &[u8], out: &mut [u8]) -> usize
-    requires { ⌜ length (spec.oneLine shape marks d (now text)) ≤ length (now out) ⌝ }
-    ensures { λ r. ⌜ Put (spec.oneLine shape marks d (now (text .entry))) (now (out .entry)) 0 (now (out .exit)) r ⌝ }
+fn put_one(level: bool, shape: u8, marks: u8, d: Datetime, text: &[u8], out: &mut [u8]) -> usize
+    requires { ⌜ length (spec.oneLine level shape marks d (now text)) ≤ length (now out) ⌝ }
+    ensures { λ r. ⌜ Put (spec.oneLine level shape marks d (now (text .entry))) (now (out .entry)) 0 (now (out .exit)) r ⌝ }
 {
     let i = put_hex(&[0, shape, marks], out, 0);
-    let j = put_hex(&datetime_bytes(d), out, i);
+    let j = put_end(level, d, out, i);
     let k = put_hex(text, out, j);
     end_line(out, k)
 }
 
 // The same with two.
-fn put_two(marks: u8, a: Datetime, b: Datetime, text: &[u8], out: &mut [u8]) -> usize
-    requires { ⌜ length (spec.twoLine marks a b (now text)) ≤ length (now out) ⌝ }
-    ensures { λ r. ⌜ Put (spec.twoLine marks a b (now (text .entry))) (now (out .entry)) 0 (now (out .exit)) r ⌝ }
+fn put_two(level: bool, marks: u8, a: Datetime, b: Datetime, text: &[u8], out: &mut [u8]) -> usize
+    requires { ⌜ length (spec.twoLine level marks a b (now text)) ≤ length (now out) ⌝ }
+    ensures { λ r. ⌜ Put (spec.twoLine level marks a b (now (text .entry))) (now (out .entry)) 0 (now (out .exit)) r ⌝ }
 {
     let h = put_hex(&[0, 3, marks], out, 0);
-    let i = put_hex(&datetime_bytes(a), out, h);
-    let j = put_hex(&datetime_bytes(b), out, i);
+    let i = put_end(level, a, out, h);
+    let j = put_end(level, b, out, i);
     let k = put_hex(text, out, j);
     end_line(out, k)
 }
@@ -274,7 +288,7 @@ fn write_refused(e: Refusal, out: &mut [u8]) -> Written
 
 // Whether a buffer is shorter than the line of so many bytes and a text.
 fn is_short(room: usize, bytes: usize, text: usize) -> bool
-    requires { ⌜ bytes ≤ 29 ⌝ }
+    requires { ⌜ bytes ≤ 31 ⌝ }
     ensures { λ r. ⌜ r ≡ ltb room (2 * (bytes + text) + 1) ⌝ }
 {
     let least = 2 * bytes + 1;
@@ -284,40 +298,61 @@ fn is_short(room: usize, bytes: usize, text: usize) -> bool
     (room - least) / 2 < text
 }
 
-// The line of a Date with one Datetime, by the numbers of its shape and its marks, whose written text is given, if there is room for it.
-pub fn write_one(shape: u8, marks: u8, d: Datetime, text: &[u8], out: &mut [u8]) -> Written
-    ensures { λ r. ⌜ r ≡ writing.answer false (spec.oneLine shape marks d (now (text .entry))) (length (now (out .entry))) ⌝ }
-    ensures { λ r. ⌜ now (out .exit) ≡ writing.afterwards false (spec.oneLine shape marks d (now (text .entry))) (now (out .entry)) ⌝ }
+// How many bytes one end of a Date has.
+fn end_length(level: bool) -> usize
+    ensures { λ r. ⌜ r ≡ spec.endLength level ⌝ }
 {
-    if is_short(out.len(), 16, text.len()) {
+    if level { 14 } else { 13 }
+}
+
+// The line of a Date with one Datetime, by the numbers of its shape and its marks, whose written text is given, if there is room for it.
+pub fn write_one(
+    level: bool,
+    shape: u8,
+    marks: u8,
+    d: Datetime,
+    text: &[u8],
+    out: &mut [u8],
+) -> Written
+    ensures { λ r. ⌜ r ≡ writing.answer false (spec.oneLine level shape marks d (now (text .entry))) (length (now (out .entry))) ⌝ }
+    ensures { λ r. ⌜ now (out .exit) ≡ writing.afterwards false (spec.oneLine level shape marks d (now (text .entry))) (now (out .entry)) ⌝ }
+{
+    if is_short(out.len(), 3 + end_length(level), text.len()) {
         return no_room();
     }
-    Written::Done(put_one(shape, marks, d, text, out))
+    Written::Done(put_one(level, shape, marks, d, text, out))
 }
 
 // The same of a range with two.
-pub fn write_two(marks: u8, a: Datetime, b: Datetime, text: &[u8], out: &mut [u8]) -> Written
-    ensures { λ r. ⌜ r ≡ writing.answer false (spec.twoLine marks a b (now (text .entry))) (length (now (out .entry))) ⌝ }
-    ensures { λ r. ⌜ now (out .exit) ≡ writing.afterwards false (spec.twoLine marks a b (now (text .entry))) (now (out .entry)) ⌝ }
+pub fn write_two(
+    level: bool,
+    marks: u8,
+    a: Datetime,
+    b: Datetime,
+    text: &[u8],
+    out: &mut [u8],
+) -> Written
+    ensures { λ r. ⌜ r ≡ writing.answer false (spec.twoLine level marks a b (now (text .entry))) (length (now (out .entry))) ⌝ }
+    ensures { λ r. ⌜ now (out .exit) ≡ writing.afterwards false (spec.twoLine level marks a b (now (text .entry))) (now (out .entry)) ⌝ }
 {
-    if is_short(out.len(), 29, text.len()) {
+    if is_short(out.len(), 3 + 2 * end_length(level), text.len()) {
         return no_room();
     }
-    Written::Done(put_two(marks, a, b, text, out))
+    Written::Done(put_two(level, marks, a, b, text, out))
 }
 
 // The line of a Date, whose written text is given, if there is room for it.
-fn write_accepted(d: Date, text: &[u8], out: &mut [u8]) -> Written
-    ensures { λ r. ⌜ r ≡ writing.answer false (spec.acceptedLine d (now (text .entry))) (length (now (out .entry))) ⌝ }
-    ensures { λ r. ⌜ now (out .exit) ≡ writing.afterwards false (spec.acceptedLine d (now (text .entry))) (now (out .entry)) ⌝ }
+fn write_accepted(level: bool, d: Date, text: &[u8], out: &mut [u8]) -> Written
+    ensures { λ r. ⌜ r ≡ writing.answer false (spec.acceptedLine level d (now (text .entry))) (length (now (out .entry))) ⌝ }
+    ensures { λ r. ⌜ now (out .exit) ≡ writing.afterwards false (spec.acceptedLine level d (now (text .entry))) (now (out .entry)) ⌝ }
 {
     let v = d.value;
     let m = marks(d.uncertain, d.approximate);
     match v {
-        DateValue::At(a) => write_one(0, m, a, text, out),
-        DateValue::After(a) => write_one(1, m, a, text, out),
-        DateValue::Before(a) => write_one(2, m, a, text, out),
-        DateValue::Between(a, b) => write_two(m, a, b, text, out),
+        DateValue::At(a) => write_one(level, 0, m, a, text, out),
+        DateValue::After(a) => write_one(level, 1, m, a, text, out),
+        DateValue::Before(a) => write_one(level, 2, m, a, text, out),
+        DateValue::Between(a, b) => write_two(level, m, a, b, text, out),
     }
 }
 
@@ -328,7 +363,7 @@ fn write_with_text(d: Date, out: &mut [u8]) -> Written
 {
     let mut text = [0u8; 40];
     match writer::write_text(d, &mut text) {
-        Written::Done(n) => write_accepted(d, &text[..n], out),
+        Written::Done(n) => write_accepted(false, d, &text[..n], out),
         Written::Refused(e) => write_refused(e, out),
     }
 }
@@ -351,6 +386,29 @@ pub fn write_answer(r: ReadDate, out: &mut [u8]) -> Written
 {
     match r {
         ReadDate::Accepted(d) => write_date(d, out),
+        ReadDate::Refused(e) => write_refused(e, out),
+    }
+}
+
+// The line of a Date by level one, with its text written.
+fn write_level_date(d: Date, out: &mut [u8]) -> Written
+    ensures { λ r. ⌜ r ≡ writing.answer false (spec.levelLine (Accepted d)) (length (now (out .entry))) ⌝ }
+    ensures { λ r. ⌜ now (out .exit) ≡ writing.afterwards false (spec.levelLine (Accepted d)) (now (out .entry)) ⌝ }
+{
+    let mut text = [0u8; 42];
+    match writer::write_level(d, &mut text) {
+        Written::Done(n) => write_accepted(true, d, &text[..n], out),
+        Written::Refused(e) => write_refused(e, out),
+    }
+}
+
+// The line of what the reader of level one answered, likewise.
+pub fn write_level_answer(r: ReadDate, out: &mut [u8]) -> Written
+    ensures { λ w. ⌜ w ≡ writing.answer false (spec.levelLine r) (length (now (out .entry))) ⌝ }
+    ensures { λ w. ⌜ now (out .exit) ≡ writing.afterwards false (spec.levelLine r) (now (out .entry)) ⌝ }
+{
+    match r {
+        ReadDate::Accepted(d) => write_level_date(d, out),
         ReadDate::Refused(e) => write_refused(e, out),
     }
 }

@@ -8,7 +8,7 @@ ghost use Prim.Native.Nat.{_+_, _-_, _≤_, _<_};
 ghost use lib.ListN.{length, take, drop};
 ghost use Rattle.lines.specs.Lines.{NoFeed};
 ghost use Rattle.lines.specs.Runs.{Onward};
-ghost use Rattle.lines.specs.Frames.{lineAnswer};
+ghost use Rattle.frames.specs.Frame.{lineAnswer};
 use libc::STDIN_FILENO;
 use libc::STDOUT_FILENO;
 
@@ -41,7 +41,7 @@ fn flush(out: &[u8], put: usize) -> bool {
 // Steps over a block until no line feed is left in it, and writes what each put. There is room for the longest answer, so that each step that
 // stops for room took a line, and only a write that fails ends this early.
 fn steps(block: &[u8], long: bool, out: &mut [u8]) -> Done
-    requires { ⌜ 139 ≤ length (now out) ⌝ }
+    requires { ⌜ 147 ≤ length (now out) ⌝ }
     ensures { λ r. ⌜ r .from ≤ length (now (block .entry)) ⌝ }
     ensures { λ r. ⌜ Onward lineAnswer 16384 [] (now (block .entry)) long (drop (r .from) (now (block .entry))) (r .long) ⌝ }
     ensures { λ r. ⌜ (r .good ≡ true → NoFeed (drop (r .from) (now (block .entry))) × (length (drop (r .from) (now (block .entry))) ≤ 16384)) ⌝ }
@@ -79,7 +79,7 @@ fn move_down(buf: &mut [u8], from: usize, to: usize)
 // Answers the lines of a block, of which the first bytes were kept and as many as are counted were read behind them, and moves what is left
 // to its front: a run goes on with just those bytes read.
 fn answer_read(buf: &mut [u8], have: usize, count: usize, long: bool, out: &mut [u8]) -> State
-    requires { ⌜ (have + count ≤ length (now buf)) × (139 ≤ length (now out)) ⌝ }
+    requires { ⌜ (have + count ≤ length (now buf)) × (147 ≤ length (now out)) ⌝ }
     ensures { λ r. ⌜ Onward lineAnswer 16384 (take count (drop have (now (buf .entry)))) (take have (now (buf .entry))) long (take (r .have) (now (buf .exit))) (r .long) ⌝ }
     ensures { λ r. ⌜ (r .more ≡ true → NoFeed (take (r .have) (now (buf .exit))) × (r .have ≤ 16384)) ⌝ }
 {
@@ -107,7 +107,7 @@ fn read_on(buf: &mut [u8]) -> isize {
 
 // One read, and the lines that it completes: their answers are out before the next.
 fn turn(buf: &mut [u8], out: &mut [u8], st: State) -> State
-    requires { ⌜ (st .have ≤ length (now buf)) × (139 ≤ length (now out)) ⌝ }
+    requires { ⌜ (st .have ≤ length (now buf)) × (147 ≤ length (now out)) ⌝ }
     ensures { λ r. ⌜ (r .more ≡ true → NoFeed (take (r .have) (now (buf .exit))) × (r .have ≤ 16384)) ⌝ }
 {
     let have = st.have;
@@ -132,7 +132,7 @@ fn turn(buf: &mut [u8], out: &mut [u8], st: State) -> State
 
 // The loop: a count of turns that no run uses up falls.
 fn run(buf: &mut [u8], out: &mut [u8])
-    requires { ⌜ (16384 < length (now buf)) × (139 ≤ length (now out)) ⌝ }
+    requires { ⌜ (16384 < length (now buf)) × (147 ≤ length (now out)) ⌝ }
 {
     let mut turns = u64::MAX;
     let mut st = State {

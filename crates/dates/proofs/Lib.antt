@@ -2,3 +2,4 @@ pub mod Signs
 pub mod Months
 pub mod Clock
 pub mod Lengths
+pub mod Whole

@@ -1,4 +1,4 @@
--- The Datetimes whose text without times can be read back: a year of four digits, a month and a day of the calendar, no time.
+-- The Datetimes whose text without times can be read back: a year of four digits, a month and a day of the calendar, no time and no season.
 use Prim.Native.Nat.{_<_}
 use mathlib.Core.Path.{_≡_}
 use lib.IntN.{ℤ, natAbs}
@@ -7,6 +7,7 @@ use Rattle.dates.specs.declared.OptionMonth.the-variants.{NoMonth, SomeM
 use Rattle.dates.specs.declared.OptionDay.{OptionDay}
 use Rattle.dates.specs.declared.OptionDay.the-variants.{NoDay, SomeDay}
 use Rattle.dates.specs.declared.OptionTime.the-variants.{NoTime}
+use Rattle.dates.specs.declared.OptionSeason.the-variants.{NoSeason}
 use Rattle.dates.specs.declared.Datetime.{Datetime}
 use Rattle.dates.specs.Calendar.{monthLength}
 
@@ -25,3 +26,5 @@ pub record EndIn (d : Datetime) : Type 0 where
   pub parts-in : PartsIn (d .year) (d .month) (d .day)
   -- the text has no time
   pub untimed : d .time ≡ NoTime
+  -- nor a season
+  pub unseasoned : d .season ≡ NoSeason

@@ -57,13 +57,23 @@ pub enum OptionTime {
     SomeTime(Time),
 }
 
-// A date and time: a year, and perhaps a month, a day and a time.
+// A season of a year, by the numbers of ISO 8601-2, or none.
+pub enum OptionSeason {
+    NoSeason,
+    Spring,
+    Summer,
+    Autumn,
+    Winter,
+}
+
+// A date and time: a year, and perhaps a month, a day and a time, or a season.
 // The year before year 1 is 0, and the one before that -1.
 pub struct Datetime {
     pub year: i32,
     pub month: OptionMonth,
     pub day: OptionDay,
     pub time: OptionTime,
+    pub season: OptionSeason,
 }
 
 // A single date or a range of dates.
@@ -174,7 +184,7 @@ fn ahead_of(offset: OptionOffset) -> i64
 }
 
 impl Datetime {
-    // The Datetime of four parts: the one place that makes one.
+    // The Datetime of four parts, without a season.
     pub fn new(year: i32, month: OptionMonth, day: OptionDay, time: OptionTime) -> Self
         ensures { λ r. ⌜ r ≡ spec.datetime year month day time ⌝ }
     {
@@ -183,6 +193,53 @@ impl Datetime {
             month,
             day,
             time,
+            season: OptionSeason::NoSeason,
+        }
+    }
+
+    // A season of a year: no month, no day and no time.
+    pub fn of_season(year: i32, season: OptionSeason) -> Self
+        ensures { λ r. ⌜ r ≡ spec.seasonOf year season ⌝ }
+    {
+        Self {
+            year,
+            month: OptionMonth::NoMonth,
+            day: OptionDay::NoDay,
+            time: OptionTime::NoTime,
+            season,
+        }
+    }
+
+    // Whether it has a season.
+    pub fn has_season(self) -> bool
+        ensures { λ r. ⌜ r ≡ spec.hasSeason self ⌝ }
+    {
+        let season = self.season;
+        match season {
+            OptionSeason::NoSeason => false,
+            OptionSeason::Spring => true,
+            OptionSeason::Summer => true,
+            OptionSeason::Autumn => true,
+            OptionSeason::Winter => true,
+        }
+    }
+}
+
+impl DateValue {
+    // Whether an end has a season.
+    pub fn has_season(self) -> bool
+        ensures { λ r. ⌜ r ≡ spec.anySeason self ⌝ }
+    {
+        match self {
+            DateValue::At(d) => d.has_season(),
+            DateValue::After(d) => d.has_season(),
+            DateValue::Before(d) => d.has_season(),
+            DateValue::Between(a, b) => {
+                if a.has_season() {
+                    return true;
+                }
+                b.has_season()
+            }
         }
     }
 }
@@ -197,6 +254,19 @@ impl Date {
             uncertain: false,
             approximate: false,
         }
+    }
+}
+
+// The number of a season in ISO 8601-2: 21 to 24; 0 for none.
+pub fn season_number(season: OptionSeason) -> u8
+    ensures { λ r. ⌜ r ≡ spec.seasonNumber season ⌝ }
+{
+    match season {
+        OptionSeason::NoSeason => 0,
+        OptionSeason::Spring => 21,
+        OptionSeason::Summer => 22,
+        OptionSeason::Autumn => 23,
+        OptionSeason::Winter => 24,
     }
 }
 

@@ -1,4 +1,4 @@
--- Counted from -10000-01-01, a Datetime's days are those that it covers. Assumes nothing.
+-- Counted from -10000-01-01, a Datetime's days are those that the calendar gives it. Assumes nothing.
 use mathlib.Core.Path.{_≡_, refl, sym, ap, _∙_, subst}
 use mathlib.Core.Bool.{Bool, true, false, _&&_}
 use Prim.Native.Nat.{ℕ, suc, _+_, _-_, _*_, _≤_, _<_}
@@ -20,7 +20,7 @@ use Rattle.days.specs.declared.Covered.the-variants.{Days}
 use Rattle.days.specs.declared.Stretch.{Stretch}
 use Rattle.days.specs.declared.Stretch.the-variants.{NoDate, Part}
 use Rattle.days.specs.Days.{yearLength, daysBefore, daysFrom, daysBack, newYear, monthStart}
-use Rattle.days.specs.Covered.{yearIn, partsIn, firstOf, lengthOf, lastOf, isDate, firstDay, lastDay, period, notADate, covered}
+use Rattle.days.specs.Covered.{yearIn, partsIn, firstOf, lengthOf, lastOf, isDate, firstDay, lastDay, period, notADate, calendarDays}
 use Rattle.days.specs.Counts.{counted, askedMonth, askedYear, asked, daysTo, numbered, periodFrom}
 use Rattle.days.proofs.Years.{year-most, year-least, from-most, leap-on, leap-back, from-on, from-back}
 use Rattle.days.proofs.Months.{before-first, before-most, before-same}
@@ -121,9 +121,9 @@ parts y t (SomeMonth m) (SomeDay d) = go (ltb (m .0) 12) (ltb (d .0) (monthLengt
     go true false e = rw e
     go false v e = refl
 
--- what a Datetime covers is the answer to what it asks
-pub answered : (d : Datetime) → covered d ≡ answer daysTo (asked d)
-unfolding covered isDate firstDay lastDay lastOf asked pick
+-- what a Datetime covers in the calendar is the answer to what it asks
+pub answered : (d : Datetime) → calendarDays d ≡ answer daysTo (asked d)
+unfolding calendarDays isDate firstDay lastDay lastOf asked pick
 answered d = go (yearIn (d .year)) refl
   where
     go : (u : Bool) → yearIn (d .year) ≡ u → coveredBy (u && partsIn (d .year) (d .month) (d .day)) (d .year) (d .month) (d .day) ≡ answer daysTo (pick u (askedYear (d .year) (d .month) (d .day)) NoDate)
@@ -131,12 +131,12 @@ answered d = go (yearIn (d .year)) refl
     go false e = refl
 
 -- as a caller meets it: what was asked is told by the case
-pub not-covered : (d : Datetime) {s : Stretch} → s ≡ asked d → s ≡ NoDate → notADate ≡ covered d
+pub not-covered : (d : Datetime) {s : Stretch} → s ≡ asked d → s ≡ NoDate → notADate ≡ calendarDays d
 not-covered d e f = sym (answered d ∙ ap (answer daysTo) (sym e ∙ f))
 
 module _ (d : Datetime) {s : Stretch} {n m p k : ℕ} (e : s ≡ asked d) (f : s ≡ Part n m p k) where
   pub bounds : (0 < n) × (n < 20000) × (m < 12) × (p < 31) × (0 < k) × (k < 367)
   bounds = subst In (sym e ∙ f) (asked-in d)
 
-  pub covers : {b : ℕ} → b ≡ daysTo n m → Days (periodFrom (b + p) k) ≡ covered d
+  pub covers : {b : ℕ} → b ≡ daysTo n m → Days (periodFrom (b + p) k) ≡ calendarDays d
   covers g = rw g (sym (answered d ∙ ap (answer daysTo) (sym e ∙ f)))

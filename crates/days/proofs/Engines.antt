@@ -10,7 +10,7 @@ use Rattle.dates.specs.declared.Datetime.{Datetime}
 use Rattle.days.specs.declared.Covered.the-variants.{Days}
 use Rattle.days.specs.declared.Stretch.{Stretch}
 use Rattle.days.specs.declared.Stretch.the-variants.{NoDate, Part}
-use Rattle.days.specs.Covered.{covered}
+use Rattle.days.specs.Covered.{calendarDays}
 use Rattle.days.specs.Counts.{asked, daysTo, lengthAt, monthsTo, periodFrom}
 use Rattle.days.proofs.Years.{yearDays, from-is, cycles, leap-cycle}
 use Rattle.days.proofs.Months.{byRule, months-rule, before-next, before-first, before-last, before-same}
@@ -82,9 +82,9 @@ same f g e (Part n m p k) h = ap (λ (b : ℕ). Days (periodFrom (b + p) k)) (e 
 pub engines-equal : (d : Datetime) → answer byFormula (asked d) ≡ answer byTable (asked d)
 engines-equal d = same byFormula byTable (λ n m h. formula-is n m h ∙ sym (table-is n m h)) (asked d) (asked-in d)
 
--- and each by what it covers
-pub formula-covers : (d : Datetime) → covered d ≡ answer byFormula (asked d)
+-- and each by what it covers in the calendar
+pub formula-covers : (d : Datetime) → calendarDays d ≡ answer byFormula (asked d)
 formula-covers d = answered d ∙ same daysTo byFormula (λ n m h. sym (formula-is n m h)) (asked d) (asked-in d)
 
-pub table-covers : (d : Datetime) → covered d ≡ answer byTable (asked d)
+pub table-covers : (d : Datetime) → calendarDays d ≡ answer byTable (asked d)
 table-covers d = formula-covers d ∙ engines-equal d

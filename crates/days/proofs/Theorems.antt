@@ -1,5 +1,5 @@
 -- Which Datetimes are of the calendar, and where their days lie. Assumes nothing.
-use mathlib.Core.Path.{_≡_, refl, sym}
+use mathlib.Core.Path.{_≡_, refl, sym, ap, _∙_}
 use mathlib.Core.Bool.{Bool, true, false, _&&_, false≢true}
 use mathlib.Core.Logic.{_↔_}
 use Prim.Native.Nat.{ℕ, suc, _+_, _-_, _≤_, _<_}
@@ -10,6 +10,8 @@ use lib.Signed.{_≤ℤ_}
 use borrow.Author.Tests.{lt-ltb, le-ltb, ltb-true, ltb-false}
 use Rattle.chars.specs.Pick.{pick}
 use Rattle.refusals.specs.declared.Refusal.{Refusal}
+use Rattle.refusals.specs.declared.Kind.the-variants.{NotACalendarDate, HasSeason}
+use Rattle.refusals.specs.Refusal.{fileSpan, refusal, number}
 use Rattle.dates.specs.declared.Month.{Month}
 use Rattle.dates.specs.declared.Day.{Day}
 use Rattle.dates.specs.declared.OptionMonth.{OptionMonth}
@@ -19,12 +21,12 @@ use Rattle.dates.specs.declared.OptionDay.the-variants.{NoDay, SomeDay}
 use Rattle.dates.specs.declared.Datetime.{Datetime}
 use Rattle.dates.specs.Calendar.{monthLength}
 use Rattle.dates.specs.Domain.{PartsIn}
-use Rattle.dates.specs.Value.{month, day}
+use Rattle.dates.specs.Value.{month, day, hasSeason}
 use Rattle.dates.proofs.Months.{some-day}
 use Rattle.days.specs.declared.Period.{Period}
 use Rattle.days.specs.declared.Covered.the-variants.{Days, Refused}
 use Rattle.days.specs.Days.{yearLength, daysFrom}
-use Rattle.days.specs.Covered.{yearIn, partsIn, firstOf, lengthOf, lastOf, isDate, firstDay, lastDay, period, notADate, covered}
+use Rattle.days.specs.Covered.{yearIn, partsIn, firstOf, lengthOf, lastOf, isDate, firstDay, lastDay, period, notADate, calendarDays, seasoned, covered}
 use Rattle.days.specs.Counts.{counted, daysTo, numbered}
 use Rattle.days.proofs.Years.{year-least, length-same, from-is, from-next}
 use Rattle.days.proofs.Months.{month-same}
@@ -106,19 +108,73 @@ fault-of y mo da e = go (ltb (natAbs y) 10000) refl e
 no-days : (p : Period) (r : Refusal) → Days p ≡ Refused r → ⊥
 no-days p r e = let z : _≡_ {A = ℕ} 0 1 = cc in omega arith
 
--- It is refused exactly if it has such a cause,
-pub refused-exactly : (d : Datetime) → (covered d ≡ notADate) ↔ Fault (d .year) (d .month) (d .day)
-unfolding covered isDate notADate pick
-refused-exactly d = (λ e. go (yearIn (d .year) && partsIn (d .year) (d .month) (d .day)) refl e, λ (f : Fault (d .year) (d .month) (d .day)). rw (faulty (d .month) (d .day) f))
+-- The calendar has no days for it exactly if it has such a cause,
+pub no-date-exactly : (d : Datetime) → (calendarDays d ≡ notADate) ↔ Fault (d .year) (d .month) (d .day)
+unfolding calendarDays isDate notADate pick
+no-date-exactly d = (λ e. go (yearIn (d .year) && partsIn (d .year) (d .month) (d .day)) refl e, λ (f : Fault (d .year) (d .month) (d .day)). rw (faulty (d .month) (d .day) f))
   where
     go : (t : Bool) → yearIn (d .year) && partsIn (d .year) (d .month) (d .day) ≡ t → pick t (Days (period (firstDay d) (lastDay d))) notADate ≡ notADate → Fault (d .year) (d .month) (d .day)
     go true p q = absurd (no-days _ _ q)
     go false p q = fault-of (d .year) (d .month) (d .day) p
 
--- and else its first and last day are those
-pub days-are : (d : Datetime) → isDate d ≡ true → covered d ≡ Days (period (firstDay d) (lastDay d))
+-- which is no refusal of a season,
+apart : notADate ≡ seasoned → ⊥
+unfolding notADate seasoned refusal
+apart e =
+    let f : refusal NotACalendarDate (fileSpan 0 0) ≡ refusal HasSeason (fileSpan 0 0) = cc in
+    let z : _≡_ {A = ℕ} 17 24 = ap (λ (r : Refusal). number (r .kind)) f in
+    omega arith
+
+-- and it never answers with one
+not-seasoned : (d : Datetime) → calendarDays d ≡ seasoned → ⊥
+unfolding calendarDays seasoned pick
+not-seasoned d e = go (isDate d) e
+  where
+    go : (t : Bool) → pick t (Days (period (firstDay d) (lastDay d))) notADate ≡ seasoned → ⊥
+    go true q = no-days _ _ q
+    go false q = apart q
+
+-- Without a season a Datetime covers what the calendar says,
+pub else-as-before : (d : Datetime) → hasSeason d ≡ false → covered d ≡ calendarDays d
 unfolding covered pick
-days-are d e = rw e
+else-as-before d e = rw e
+
+with-season : (d : Datetime) → hasSeason d ≡ true → covered d ≡ seasoned
+unfolding covered pick
+with-season d e = rw e
+
+-- what is said of it is said of one with a season or of one without
+cases : (d : Datetime) (A : Type 0) → (hasSeason d ≡ true → covered d ≡ seasoned → A) → (hasSeason d ≡ false → covered d ≡ calendarDays d → A) → A
+cases d A seasonal plain = go (hasSeason d) refl
+  where
+    go : (t : Bool) → hasSeason d ≡ t → A
+    go true e = seasonal e (with-season d e)
+    go false e = plain e (else-as-before d e)
+
+-- it is refused for its season exactly if it has one,
+pub season-exactly : (d : Datetime) → (covered d ≡ seasoned) ↔ (hasSeason d ≡ true)
+season-exactly d = (λ e. cases d (hasSeason d ≡ true) (λ s c. s) (λ s c. absurd (not-seasoned d (sym c ∙ e))), with-season d)
+
+-- it is no date exactly if it has none and one of the four causes,
+pub refused-exactly : (d : Datetime) → (covered d ≡ notADate) ↔ ((hasSeason d ≡ false) × Fault (d .year) (d .month) (d .day))
+refused-exactly d = (
+  λ e. cases d ((hasSeason d ≡ false) × Fault (d .year) (d .month) (d .day)) (λ s c. absurd (apart (sym e ∙ c))) (λ s c. (s, no-date-exactly d .0 (sym c ∙ e))),
+  λ (h : (hasSeason d ≡ false) × Fault (d .year) (d .month) (d .day)). else-as-before d (h .0) ∙ no-date-exactly d .1 (h .1),
+)
+
+-- and else its first and last day are those
+pub days-are : (d : Datetime) → hasSeason d ≡ false → isDate d ≡ true → covered d ≡ Days (period (firstDay d) (lastDay d))
+unfolding calendarDays pick
+days-are d s e = else-as-before d s ∙ rw e
+
+-- What has days has no season and is a date.
+pub has-days : (d : Datetime) {p : Period} → covered d ≡ Days p → (hasSeason d ≡ false) × (isDate d ≡ true)
+unfolding calendarDays seasoned notADate pick
+has-days d {p} e = cases d ((hasSeason d ≡ false) × (isDate d ≡ true)) (λ s c. absurd (no-days _ _ (sym e ∙ c))) (λ s c. (s, go (isDate d) (sym c ∙ e)))
+  where
+    go : (t : Bool) → pick t (Days (period (firstDay d) (lastDay d))) notADate ≡ Days p → t ≡ true
+    go true q = refl
+    go false q = absurd (no-days _ _ (sym q))
 
 -- the first day and the last of the years that are counted
 least : numbered 366 ≡ negsuc 3652058

@@ -4,13 +4,14 @@ use mathlib.Core.Bool.{Bool, true, false, _&&_}
 use lib.Dec.{ltb}
 use lib.IntN.{ℤ, pos, natAbs, _+ℤ_}
 use Rattle.chars.specs.Pick.{pick}
-use Rattle.refusals.specs.declared.Kind.the-variants.{NotACalendarDate}
+use Rattle.refusals.specs.declared.Kind.the-variants.{NotACalendarDate, HasSeason}
 use Rattle.refusals.specs.Refusal.{fileSpan, refusal}
 use Rattle.dates.specs.declared.OptionMonth.{OptionMonth}
 use Rattle.dates.specs.declared.OptionMonth.the-variants.{NoMonth, SomeMonth}
 use Rattle.dates.specs.declared.OptionDay.{OptionDay}
 use Rattle.dates.specs.declared.OptionDay.the-variants.{NoDay, SomeDay}
 use Rattle.dates.specs.declared.Datetime.{Datetime}
+use Rattle.dates.specs.Value.{hasSeason}
 use Rattle.dates.specs.Calendar.{monthLength}
 use Rattle.days.specs.declared.Period.{Period}
 use Rattle.days.specs.declared.Covered.{Covered}
@@ -64,6 +65,14 @@ period first last = record { first = first; last = last }
 unfoldable pub notADate : Covered
 notADate = Refused (refusal NotACalendarDate (fileSpan 0 0))
 
--- the first and the last day of a Datetime, or its refusal
+-- the first and the last day of a Datetime without a season, or its refusal
+unfoldable pub calendarDays : Datetime → Covered
+calendarDays d = pick (isDate d) (Days (period (firstDay d) (lastDay d))) notADate
+
+-- no day is counted in a season; this has no place either
+unfoldable pub seasoned : Covered
+seasoned = Refused (refusal HasSeason (fileSpan 0 0))
+
+-- the first and the last day of a Datetime: HasSeason if it has a season, before all else
 unfoldable pub covered : Datetime → Covered
-covered d = pick (isDate d) (Days (period (firstDay d) (lastDay d))) notADate
+covered d = pick (hasSeason d) seasoned (calendarDays d)

@@ -4846,9 +4846,9 @@ const BEFORE: [u32; 4800] = [
     146066,
 ];
 
-// The first and the last day of a Datetime, by a formula.
-pub fn days_by_formula(d: Datetime) -> Covered
-    ensures { λ r. ⌜ r ≡ spec.covered d ⌝ }
+// The days of a Datetime without a season, by a formula.
+fn formula_days(d: Datetime) -> Covered
+    ensures { λ r. ⌜ r ≡ spec.calendarDays d ⌝ }
 {
     match asked(d) {
         Stretch::NoDate => refused(),
@@ -4865,8 +4865,8 @@ pub fn days_by_formula(d: Datetime) -> Covered
 }
 
 // The same from the table.
-pub fn days_by_table(d: Datetime) -> Covered
-    ensures { λ r. ⌜ r ≡ spec.covered d ⌝ }
+fn table_days(d: Datetime) -> Covered
+    ensures { λ r. ⌜ r ≡ spec.calendarDays d ⌝ }
 {
     match asked(d) {
         Stretch::NoDate => refused(),
@@ -4880,6 +4880,33 @@ pub fn days_by_table(d: Datetime) -> Covered
             Covered::Days(period_from(before + past as u32, count))
         }
     }
+}
+
+// The first and the last day of a Datetime, by a formula; one with a season is refused.
+pub fn days_by_formula(d: Datetime) -> Covered
+    ensures { λ r. ⌜ r ≡ spec.covered d ⌝ }
+{
+    if d.has_season() {
+        return seasoned();
+    }
+    formula_days(d)
+}
+
+// The same from the table.
+pub fn days_by_table(d: Datetime) -> Covered
+    ensures { λ r. ⌜ r ≡ spec.covered d ⌝ }
+{
+    if d.has_season() {
+        return seasoned();
+    }
+    table_days(d)
+}
+
+// The refusal of a season.
+fn seasoned() -> Covered
+    ensures { λ r. ⌜ r ≡ spec.seasoned ⌝ }
+{
+    Covered::Refused(refuse(Kind::HasSeason, FileSpan(0, 0)))
 }
 
 // The refusal of what is no date of the calendar.

@@ -2,4 +2,5 @@ pub mod Places
 pub mod Parts
 pub mod Usual
 pub mod Inverse
+pub mod Operations
 pub mod Most

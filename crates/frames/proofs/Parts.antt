@@ -17,11 +17,13 @@ use Rattle.hexes.proofs.Laws.{length-bytes}
 use Rattle.writer.specs.Answers.{Put}
 use Rattle.writer.proofs.Puts.{kept, both, at-front}
 use Rattle.reader.specs.Fields.{threeFields}
+use Rattle.datefield.specs.declared.ReadDate.{ReadDate}
+use Rattle.answers.specs.Answer.{answerLine}
 use Rattle.frames.specs.declared.Operation.{Operation}
-use Rattle.frames.specs.declared.Operation.the-variants.{Ported, Strict, ThreeFields, Unknown}
+use Rattle.frames.specs.declared.Operation.the-variants.{Ported, Strict, LevelOne, ThreeFields, Unknown}
 use Rattle.frames.specs.Lists.{byteAt, endOf, rowAt, tableOf, textOf, listEnd, listTable, listText, isFlag, hasList, optionalEnd, optionalTable, optionalText}
-use Rattle.frames.specs.Room.{Room, operationOf, listOperation, readBy, listBy, readLists, isSingle, textStart, rowLength, Threefold}
-use Rattle.frames.specs.Frame.{oneFills, threeFill, monthAt, dayAt, asked, formed, readOf, badFrame, frameRead, lineRead}
+use Rattle.frames.specs.Room.{Room, operationOf, readsList, readBy, listBy, readLists, isSingle, textStart, rowLength, Threefold}
+use Rattle.frames.specs.Frame.{oneFills, threeFill, monthAt, dayAt, asked, formed, readOf, badFrame, frameRead, lineBy, frameAnswer, lineAnswer}
 use Rattle.frames.proofs.Places.{end-above, length-row, text-behind, table-behind}
 
 -- a text at a place of a buffer with room for it
@@ -264,17 +266,14 @@ module _ (f : List ℕ) {n : ℕ} {op : Operation} {b : Bool} (en : n ≡ byteAt
   unfolding frameRead pick
   unformed-read t = rw (← is-op, ← eb, t)
 
-pub one-of-ported : (f : List ℕ) → formed Ported f ≡ true → oneFills f ≡ true
-unfolding formed
-one-of-ported f e = e
-
-pub one-of-strict : (f : List ℕ) → formed Strict f ≡ true → oneFills f ≡ true
-unfolding formed
-one-of-strict f e = e
-
 -- the operation that was found
 pub op-is : (f : List ℕ) {n : ℕ} {op o : Operation} → n ≡ byteAt f 0 → op ≡ asked n → op ≡ o → operationOf f ≡ o
 op-is f en eo e = sym (ap asked en) ∙ sym eo ∙ e
+
+-- and the line of what was read by it
+pub answer-is : (f : List ℕ) {n : ℕ} {op : Operation} {r : ReadDate} → n ≡ byteAt f 0 → op ≡ asked n → r ≡ frameRead f → lineBy op r ≡ frameAnswer f
+unfolding frameAnswer
+answer-is f en eo er = rw (eo, en, er) refl
 
 -- so many numbers of a row
 pub row-short : (has : Bool) {n : ℕ} → n ≡ rowLength has → n ≤ 4
@@ -285,36 +284,26 @@ row-short false e = omega (arith, e)
 pub row-taken : (f : List ℕ) (at : ℕ) (has : Bool) {n : ℕ} {r : List ℕ} → n ≡ rowLength has → r ≡ rowAt f at → n ≤ length r
 row-taken f at has e er = let l = length-row f at in let h = row-short has e in rw er (omega arith)
 
--- a frame that asks for an operation is one of it
-pub list-formed : (f : List ℕ) (strict : Bool) → oneFills f ≡ true → operationOf f ≡ listOperation strict → formed (operationOf f) f ≡ true
-unfolding formed listOperation
-list-formed f true e a = rw a e
-list-formed f false e a = rw a e
+-- an operation that reads one list: its frames are those that a list fills, and the list is read
+pub list-formed : (f : List ℕ) (op : Operation) → readsList op ≡ true → formed op f ≡ oneFills f
+unfolding readsList formed
+list-formed f Ported r = refl
+list-formed f Strict r = refl
+list-formed f LevelOne r = refl
+list-formed f ThreeFields r = absurd (false≢true r)
+list-formed f Unknown r = absurd (false≢true r)
 
-pub list-by : (f : List ℕ) (strict : Bool) → operationOf f ≡ listOperation strict → readOf (operationOf f) f ≡ listBy strict f
-unfolding readBy readOf listOperation
-list-by f true a = rw a
-list-by f false a = rw a
+pub list-by : (f : List ℕ) (op : Operation) → readsList op ≡ true → listBy op f ≡ readOf op f
+unfolding readsList readBy readOf
+list-by f Ported r = refl
+list-by f Strict r = refl
+list-by f LevelOne r = refl
+list-by f ThreeFields r = absurd (false≢true r)
+list-by f Unknown r = absurd (false≢true r)
 
 pub three-formed : (f : List ℕ) → threeFill f ≡ true → operationOf f ≡ ThreeFields → formed (operationOf f) f ≡ true
 unfolding formed
 three-formed f e a = rw a e
-
-pub strict-asked : (f : List ℕ) → operationOf f ≡ Strict → operationOf f ≡ listOperation true
-unfolding listOperation
-strict-asked f a = a
-
-pub ported-asked : (f : List ℕ) → operationOf f ≡ Ported → operationOf f ≡ listOperation false
-unfolding listOperation
-ported-asked f a = a
-
-pub by-ported : (f : List ℕ) → listBy false f ≡ readOf Ported f
-unfolding readBy readOf
-by-ported f = refl
-
-pub by-strict : (f : List ℕ) → listBy true f ≡ readOf Strict f
-unfolding readBy readOf
-by-strict f = refl
 
 pub three-of : (f : List ℕ) → formed ThreeFields f ≡ true → threeFill f ≡ true
 unfolding formed
@@ -365,12 +354,12 @@ module _ (line frame : List ℕ) {frame' : List ℕ} {r : Hex} (same : isHex lin
         let l = length-bytes line in
         omega (arith, small, fits)
 
-    pub line-is : frameRead (take n frame') ≡ lineRead line
-    unfolding lineRead pick
+    pub line-is : frameAnswer (take n frame') ≡ lineAnswer line
+    unfolding lineAnswer pick
     line-is = rw (bytes-are, ← same, hex)
 
-  pub line-bad : r ≡ Bad → badFrame ≡ lineRead line
-  unfolding lineRead pick
+  pub line-bad : r ≡ Bad → answerLine badFrame ≡ lineAnswer line
+  unfolding lineAnswer pick
   line-bad e = rw (← same, bytes-if, e)
 
 -- the two sizes of arrays
@@ -379,8 +368,8 @@ unfolding isHex
 short-same line h = rw (le-leb (half line) 256 (omega arith), le-leb (half line) 8192 (omega arith))
 
 -- a line of more than 16,384 bytes is no frame
-pub long-bad : (line : List ℕ) → 16384 < length line → lineRead line ≡ badFrame
-unfolding lineRead isHex pick
+pub long-bad : (line : List ℕ) → 16384 < length line → lineAnswer line ≡ answerLine badFrame
+unfolding lineAnswer isHex pick
 long-bad line h =
     of-test (eqb (length line % 2) 0)
     (λ q. rw (q, lt-leb (half line) 8192 (let e = eqb-true (length line % 2) 0 q in omega arith)))

@@ -17,17 +17,18 @@ use Rattle.dates.specs.Value.{date, fromDatetime}
 use Rattle.datefield.specs.declared.ReadDate.{ReadDate}
 use Rattle.datefield.specs.declared.ReadDate.the-variants.{Accepted}
 use Rattle.reader.specs.Field.{parsed, parsedStrict}
-use Rattle.writer.specs.Texts.{dateText}
 use Rattle.quick.specs.declared.UsualText.the-variants.{One, Two}
 use Rattle.quick.specs.Quick.{usualText}
+use Rattle.roundtrip.proofs.Seasons.{ported-none}
 use Rattle.usual.specs.Once.{oneNormal}
 use Rattle.usual.proofs.Quick.{Usually, one-usual, two-usual, both-ported, both-strict, calm}
 use Rattle.answers.specs.Answer.{marks, bit, shape, endsBytes, acceptedBytes, acceptedLine, oneLine, twoLine, answerLine}
+use Rattle.answers.proofs.Lines.{former-line}
 use Rattle.frames.specs.declared.Operation.{Operation}
-use Rattle.frames.specs.declared.Operation.the-variants.{Ported, Strict, ThreeFields, Unknown}
+use Rattle.frames.specs.declared.Operation.the-variants.{Ported, Strict, LevelOne, ThreeFields, Unknown}
 use Rattle.frames.specs.Lists.{byteAt, endOf, rowAt, listEnd, listText, listTable}
-use Rattle.frames.specs.Frame.{oneFills, formed, readOf, frameRead}
-use Rattle.frames.specs.Room.{operationOf, readsList, isUsual}
+use Rattle.frames.specs.Frame.{oneFills, formed, readOf, frameRead, lineBy, frameAnswer}
+use Rattle.frames.specs.Room.{operationOf, readsUsual, isUsual}
 use Rattle.frames.proofs.Parts.{OneChunk, single}
 
 -- the text of the only chunk
@@ -40,7 +41,7 @@ record Form (f : List ℕ) : Type 0 where
   one : byteAt f 1 ≡ 1
   normal : byteAt f 2 ≡ 0
   whole : byteAt f 3 ≡ length f - 12
-  reads : readsList (operationOf f) ≡ true
+  reads : readsUsual (operationOf f) ≡ true
 
 form : (f : List ℕ) → isUsual f ≡ true → Form f
 unfolding isUsual
@@ -82,22 +83,24 @@ module _ (f : List ℕ) (u : isUsual f ≡ true) where
     by-strict : parsedStrict (listText f 1) (listTable f 1) ≡ Accepted d
     by-strict = rw (← there .text-there, ← there .row-there) (both-strict (onlyText f) (rowAt f 2) one-normal y)
 
-    by-operation : (op : Operation) → operationOf f ≡ op → readsList op ≡ true → frameRead f ≡ Accepted d
-    unfolding frameRead formed readOf readsList pick
-    by-operation Ported e r = rw (e, fills) by-ported
-    by-operation Strict e r = rw (e, fills) by-strict
+    by-operation : (op : Operation) → operationOf f ≡ op → readsUsual op ≡ true → frameAnswer f ≡ answerLine (Accepted d)
+    unfolding frameAnswer lineBy frameRead formed readOf readsUsual pick
+    by-operation Ported e r = rw (e, fills, by-ported)
+    by-operation Strict e r = rw (e, fills, by-strict)
+    by-operation LevelOne e r = absurd (false≢true r)
     by-operation ThreeFields e r = absurd (false≢true r)
     by-operation Unknown e r = absurd (false≢true r)
 
-    usual-line : acceptedLine d (onlyText f) ≡ answerLine (frameRead f)
-    unfolding answerLine pick
-    usual-line = rw (by-operation (operationOf f) refl (form f u .reads), calm d (y .in-domain), y .text-is) refl
+    usual-line : acceptedLine false d (onlyText f) ≡ frameAnswer f
+    unfolding pick
+    usual-line =
+        sym (by-operation (operationOf f) refl (form f u .reads) ∙ former-line d (ported-none _ _ by-ported) ∙ rw (calm d (y .in-domain), y .text-is))
 
   -- the line of one point, and of two
-  pub one-line : {d : Datetime} → usualText (onlyText f) ≡ One d → oneLine 0 0 d (onlyText f) ≡ answerLine (frameRead f)
+  pub one-line : {d : Datetime} → usualText (onlyText f) ≡ One d → oneLine false 0 0 d (onlyText f) ≡ frameAnswer f
   unfolding acceptedBytes shape marks bit endsBytes
   one-line e = usual-line (one-usual (onlyText f) e)
 
-  pub two-line : {a b : Datetime} → usualText (onlyText f) ≡ Two a b → twoLine 0 a b (onlyText f) ≡ answerLine (frameRead f)
+  pub two-line : {a b : Datetime} → usualText (onlyText f) ≡ Two a b → twoLine false 0 a b (onlyText f) ≡ frameAnswer f
   unfolding acceptedBytes shape marks bit endsBytes
   two-line e = usual-line (two-usual (onlyText f) e)

@@ -10,15 +10,17 @@ use Rattle.refusals.specs.Refusal.{fileSpan, refusal}
 use Rattle.datefield.specs.declared.ReadDate.{ReadDate}
 use Rattle.datefield.specs.declared.ReadDate.the-variants.{Refused}
 use Rattle.hexes.specs.Hex.{isHex, bytesOf}
-use Rattle.reader.specs.Field.{parsed, parsedStrict}
+use Rattle.reader.specs.Field.{parsed, parsedStrict, parsedLevelOne}
 use Rattle.reader.specs.Fields.{threeFields}
+use Rattle.answers.specs.Answer.{answerLine, levelLine}
 use Rattle.frames.specs.declared.Operation.{Operation}
-use Rattle.frames.specs.declared.Operation.the-variants.{Ported, Strict, ThreeFields, Unknown}
+use Rattle.frames.specs.declared.Operation.the-variants.{Ported, Strict, LevelOne, ThreeFields, Unknown}
 use Rattle.frames.specs.Lists.{byteAt, listEnd, listTable, listText, isFlag, hasList, optionalEnd, optionalTable, optionalText}
 
--- the operations by their numbers: 01 and 02 the strict reader, 03 three fields, 04 the ported reader
+-- the operations by their numbers: 01 and 02 the strict reader, 03 three fields, 04 the ported reader, 05 the reader of level one
 unfoldable pub asked : ℕ → Operation
-asked n = pick (eqb n 1) Strict (pick (eqb n 2) Strict (pick (eqb n 3) ThreeFields (pick (eqb n 4) Ported Unknown)))
+asked n =
+    pick (eqb n 1) Strict (pick (eqb n 2) Strict (pick (eqb n 3) ThreeFields (pick (eqb n 4) Ported (pick (eqb n 5) LevelOne Unknown))))
 
 -- the place of the month list: a flag, and perhaps a list
 abbrev pub monthAt : List ℕ → ℕ
@@ -40,6 +42,7 @@ threeFill f = isFlag f (monthAt f) && (isFlag f (dayAt f) && eqb (optionalEnd f 
 unfoldable pub formed : Operation → List ℕ → Bool
 formed Ported f = oneFills f
 formed Strict f = oneFills f
+formed LevelOne f = oneFills f
 formed ThreeFields f = threeFill f
 formed Unknown f = false
 
@@ -51,6 +54,7 @@ badFrame = Refused (refusal BadFrame (fileSpan 0 0))
 unfoldable pub readOf : Operation → List ℕ → ReadDate
 readOf Ported f = parsed (listText f 1) (listTable f 1)
 readOf Strict f = parsedStrict (listText f 1) (listTable f 1)
+readOf LevelOne f = parsedLevelOne (listText f 1) (listTable f 1)
 readOf ThreeFields f =
     threeFields (listText f 1) (listTable f 1)
     (hasList f (monthAt f)) (optionalText f (monthAt f)) (optionalTable f (monthAt f))
@@ -64,3 +68,19 @@ frameRead f = pick (formed (asked (byteAt f 0)) f) (readOf (asked (byteAt f 0)) 
 -- a line: two digits a byte, at most 8,192 bytes. An empty line has no operation
 unfoldable pub lineRead : List ℕ → ReadDate
 lineRead line = pick (isHex line 8192) (frameRead (bytesOf line)) badFrame
+
+-- the line of what was read, by the operation: 05 has a line of its own
+unfoldable pub lineBy : Operation → ReadDate → List ℕ
+lineBy Ported r = answerLine r
+lineBy Strict r = answerLine r
+lineBy LevelOne r = levelLine r
+lineBy ThreeFields r = answerLine r
+lineBy Unknown r = answerLine r
+
+-- the answer to a frame
+unfoldable pub frameAnswer : List ℕ → List ℕ
+frameAnswer f = lineBy (asked (byteAt f 0)) (frameRead f)
+
+-- the answer to a line
+unfoldable pub lineAnswer : List ℕ → List ℕ
+lineAnswer line = pick (isHex line 8192) (frameAnswer (bytesOf line)) (answerLine badFrame)

@@ -7,13 +7,13 @@ use lib.Dec.{eqb, leb}
 use lib.ListN.{length, take, drop}
 use Rattle.chars.specs.Pick.{pick}
 use Rattle.datefield.specs.declared.ReadDate.{ReadDate}
-use Rattle.reader.specs.Field.{parsed, parsedStrict}
+use Rattle.reader.specs.Field.{parsed, parsedStrict, parsedLevelOne}
 use Rattle.reader.specs.Fields.{threeFields}
 use Rattle.frames.specs.declared.Unpacked.{Unpacked}
 use Rattle.frames.specs.declared.Operation.{Operation}
-use Rattle.frames.specs.declared.Operation.the-variants.{Ported, Strict, ThreeFields, Unknown}
+use Rattle.frames.specs.declared.Operation.the-variants.{Ported, Strict, LevelOne, ThreeFields, Unknown}
 use Rattle.frames.specs.Lists.{byteAt, listTable, listText, hasList, optionalEnd}
-use Rattle.frames.specs.Frame.{asked, threeFill, monthAt}
+use Rattle.frames.specs.Frame.{asked, threeFill, monthAt, badFrame}
 
 -- a frame of the size that is admitted, and buffers with room for its lists
 pub record Room (f text table : List ℕ) : Type 0 where
@@ -28,19 +28,25 @@ pub record Room (f text table : List ℕ) : Type 0 where
 abbrev pub operationOf : List ℕ → Operation
 operationOf f = asked (byteAt f 0)
 
--- the operation that reads a list by the strict reader or the ported one
-unfoldable pub listOperation : Bool → Operation
-listOperation true = Strict
-listOperation false = Ported
+-- whether an operation reads one list
+unfoldable pub readsList : Operation → Bool
+readsList Ported = true
+readsList Strict = true
+readsList LevelOne = true
+readsList ThreeFields = false
+readsList Unknown = false
 
--- a list by the strict reader or the ported one
-unfoldable pub readBy : Bool → List ℕ → List ℕ → ReadDate
-readBy true b table = parsedStrict b table
-readBy false b table = parsed b table
+-- a list by the reader that an operation asks for; no other operation reads a list alone
+unfoldable pub readBy : Operation → List ℕ → List ℕ → ReadDate
+readBy Ported b table = parsed b table
+readBy Strict b table = parsedStrict b table
+readBy LevelOne b table = parsedLevelOne b table
+readBy ThreeFields b table = badFrame
+readBy Unknown b table = badFrame
 
 -- the same of the only list of a frame
-abbrev pub listBy : Bool → List ℕ → ReadDate
-listBy strict f = readBy strict (listText f 1) (listTable f 1)
+abbrev pub listBy : Operation → List ℕ → ReadDate
+listBy op f = readBy op (listText f 1) (listTable f 1)
 
 -- three lists that stand one behind the other in two buffers, by the places behind each
 unfoldable pub readLists : List ℕ → List ℕ → Bool → Bool → Unpacked → Unpacked → Unpacked → ReadDate
@@ -78,15 +84,16 @@ pub record Threefold (f : List ℕ) (ma da : ℕ) : Type 0 where
   -- and for the day
   pub one-day : isSingle f da ≡ true
 
--- whether an operation reads one list as a date field
-unfoldable pub readsList : Operation → Bool
-readsList Ported = true
-readsList Strict = true
-readsList ThreeFields = false
-readsList Unknown = false
+-- whether an operation reads one list as a date field, and answers a usual text by that text
+unfoldable pub readsUsual : Operation → Bool
+readsUsual Ported = true
+readsUsual Strict = true
+readsUsual LevelOne = false
+readsUsual ThreeFields = false
+readsUsual Unknown = false
 
--- a frame that asks for the reading of one Normal chunk, and is filled by it
+-- a frame that asks for such a reading of one Normal chunk, and is filled by it
 unfoldable pub isUsual : List ℕ → Bool
 isUsual f =
     leb 12 (length f)
-    && (eqb (byteAt f 1) 1 && (eqb (byteAt f 2) 0 && (eqb (byteAt f 3) (length f - 12) && readsList (operationOf f))))
+    && (eqb (byteAt f 1) 1 && (eqb (byteAt f 2) 0 && (eqb (byteAt f 3) (length f - 12) && readsUsual (operationOf f))))

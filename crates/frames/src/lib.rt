@@ -8,8 +8,8 @@ ghost use Rattle.writer.specs.Answers as writing;
 ghost use Rattle.writer.specs.Answers.{Put};
 ghost use Rattle.answers.specs.Answer.{answerLine};
 ghost use Rattle.frames.specs.Lists as list;
-ghost use Rattle.frames.specs.Room.{Room, operationOf, listOperation, readBy, listBy, readLists, isSingle, textStart, rowLength, Threefold, readsList, isUsual};
-ghost use Rattle.frames.specs.declared.Operation.the-variants.{Ported, Strict, ThreeFields};
+ghost use Rattle.frames.specs.Room.{Room, operationOf, readsList, readBy, listBy, readLists, isSingle, textStart, rowLength, Threefold, readsUsual, isUsual};
+ghost use Rattle.frames.specs.declared.Operation.the-variants.{ThreeFields};
 ghost use Rattle.frames.specs.Frame as spec;
 use datefield::ReadDate;
 use hexes::Hex;
@@ -22,6 +22,7 @@ use writer::Written;
 pub enum Operation {
     Ported,
     Strict,
+    LevelOne,
     ThreeFields,
     Unknown,
 }
@@ -89,6 +90,7 @@ fn asked(n: u8) -> Operation
         2 => Operation::Strict,
         3 => Operation::ThreeFields,
         4 => Operation::Ported,
+        5 => Operation::LevelOne,
         _ => Operation::Unknown,
     }
 }
@@ -121,6 +123,7 @@ fn is_formed(op: Operation, f: &[u8]) -> bool
     match op {
         Operation::Ported => one_fills(f),
         Operation::Strict => one_fills(f),
+        Operation::LevelOne => one_fills(f),
         Operation::ThreeFields => three_fill(f),
         Operation::Unknown => false,
     }
@@ -265,23 +268,26 @@ fn bad_frame() -> ReadDate
     ReadDate::Refused(refusals::refuse(Kind::BadFrame, FileSpan(0, 0)))
 }
 
-// A list, by the strict reader or the ported one.
-fn read_by(strict: bool, bytes: &[u8], table: &[u64]) -> ReadDate
-    ensures { λ r. ⌜ r ≡ readBy strict (now (bytes .entry)) (now (table .entry)) ⌝ }
+// A list, by the reader that an operation asks for.
+fn read_by(op: Operation, bytes: &[u8], table: &[u64]) -> ReadDate
+    ensures { λ r. ⌜ r ≡ readBy op (now (bytes .entry)) (now (table .entry)) ⌝ }
 {
-    if strict {
-        return usual::parse_strict(bytes, table);
+    match op {
+        Operation::Ported => usual::parse(bytes, table),
+        Operation::Strict => usual::parse_strict(bytes, table),
+        Operation::LevelOne => reader::parse_level_one(bytes, table),
+        Operation::ThreeFields => bad_frame(),
+        Operation::Unknown => bad_frame(),
     }
-    usual::parse(bytes, table)
 }
 
 // One list, copied into buffers.
-fn list_in(strict: bool, f: &[u8], text: &mut [u8], table: &mut [u64]) -> ReadDate
+fn list_in(op: Operation, f: &[u8], text: &mut [u8], table: &mut [u64]) -> ReadDate
     requires { ⌜ Room (now f) (now text) (now table) × (spec.oneFills (now f) ≡ true) ⌝ }
-    ensures { λ r. ⌜ r ≡ listBy strict (now (f .entry)) ⌝ }
+    ensures { λ r. ⌜ r ≡ listBy op (now (f .entry)) ⌝ }
 {
     let u = unpack_list(f, 1, text, 0, table, 0);
-    read_by(strict, &text[..u.text], &table[..u.table])
+    read_by(op, &text[..u.text], &table[..u.table])
 }
 
 // Three lists that stand one behind the other in the two buffers: the places behind each are given.
@@ -341,8 +347,9 @@ fn read_large(f: &[u8]) -> ReadDate
     let mut text = [0u8; 8192];
     let mut table = [0u64; 4096];
     match op {
-        Operation::Ported => list_in(false, f, &mut text, &mut table),
-        Operation::Strict => list_in(true, f, &mut text, &mut table),
+        Operation::Ported => list_in(op, f, &mut text, &mut table),
+        Operation::Strict => list_in(op, f, &mut text, &mut table),
+        Operation::LevelOne => list_in(op, f, &mut text, &mut table),
         Operation::ThreeFields => three_in(f, &mut text, &mut table),
         Operation::Unknown => bad_frame(),
     }
@@ -350,18 +357,18 @@ fn read_large(f: &[u8]) -> ReadDate
 
 // One list that fills a frame. A single chunk is read where it stands; the chunks of any other are put together first, those of a short frame
 // in small arrays, which cost less to clear.
-fn read_list(strict: bool, f: &[u8]) -> ReadDate
-    requires { ⌜ (length (now f) ≤ 8192) × (spec.oneFills (now f) ≡ true) × (operationOf (now f) ≡ listOperation strict) ⌝ }
-    ensures { λ r. ⌜ r ≡ listBy strict (now (f .entry)) ⌝ }
+fn read_list(op: Operation, f: &[u8]) -> ReadDate
+    requires { ⌜ (length (now f) ≤ 8192) × (spec.oneFills (now f) ≡ true) × (readsList op ≡ true) × (operationOf (now f) ≡ op) ⌝ }
+    ensures { λ r. ⌜ r ≡ listBy op (now (f .entry)) ⌝ }
 {
     if byte_at(f, 1) == 1 {
         let row = row_at(f, 2);
-        return read_by(strict, &f[12..], &row);
+        return read_by(op, &f[12..], &row);
     }
     if f.len() <= 256 {
         let mut text = [0u8; 256];
         let mut table = [0u64; 128];
-        return list_in(strict, f, &mut text, &mut table);
+        return list_in(op, f, &mut text, &mut table);
     }
     read_large(f)
 }
@@ -454,8 +461,9 @@ fn read_frame(f: &[u8]) -> ReadDate
     let op = asked(byte_at(f, 0));
     if is_formed(op, f) {
         return match op {
-            Operation::Ported => read_list(false, f),
-            Operation::Strict => read_list(true, f),
+            Operation::Ported => read_list(op, f),
+            Operation::Strict => read_list(op, f),
+            Operation::LevelOne => read_list(op, f),
             Operation::ThreeFields => read_three(f),
             Operation::Unknown => bad_frame(),
         };
@@ -465,13 +473,14 @@ fn read_frame(f: &[u8]) -> ReadDate
 
 // ---- the answer to a line
 
-// Whether an operation reads one list as a date field.
-fn reads_list(op: Operation) -> bool
-    ensures { λ r. ⌜ r ≡ readsList op ⌝ }
+// Whether an operation reads one list as a date field, and answers a usual text by that text.
+fn reads_usual(op: Operation) -> bool
+    ensures { λ r. ⌜ r ≡ readsUsual op ⌝ }
 {
     match op {
         Operation::Ported => true,
         Operation::Strict => true,
+        Operation::LevelOne => false,
         Operation::ThreeFields => false,
         Operation::Unknown => false,
     }
@@ -493,29 +502,44 @@ fn is_usual(f: &[u8]) -> bool
     if byte_at(f, 3) as usize != f.len() - 12 {
         return false;
     }
-    reads_list(asked(f[0]))
+    reads_usual(asked(f[0]))
+}
+
+// The line of what was read, by the operation.
+fn write_read(op: Operation, r: ReadDate, out: &mut [u8]) -> Written
+    ensures { λ w. ⌜ w ≡ writing.answer false (spec.lineBy op r) (length (now (out .entry))) ⌝ }
+    ensures { λ w. ⌜ now (out .exit) ≡ writing.afterwards false (spec.lineBy op r) (now (out .entry)) ⌝ }
+{
+    match op {
+        Operation::Ported => answers::write_answer(r, out),
+        Operation::Strict => answers::write_answer(r, out),
+        Operation::LevelOne => answers::write_level_answer(r, out),
+        Operation::ThreeFields => answers::write_answer(r, out),
+        Operation::Unknown => answers::write_answer(r, out),
+    }
 }
 
 // The answer to any frame.
 fn answer_any(f: &[u8], out: &mut [u8]) -> Written
     requires { ⌜ length (now f) ≤ 8192 ⌝ }
-    ensures { λ r. ⌜ r ≡ writing.answer false (answerLine (spec.frameRead (now (f .entry)))) (length (now (out .entry))) ⌝ }
-    ensures { λ r. ⌜ now (out .exit) ≡ writing.afterwards false (answerLine (spec.frameRead (now (f .entry)))) (now (out .entry)) ⌝ }
+    ensures { λ r. ⌜ r ≡ writing.answer false (spec.frameAnswer (now (f .entry))) (length (now (out .entry))) ⌝ }
+    ensures { λ r. ⌜ now (out .exit) ≡ writing.afterwards false (spec.frameAnswer (now (f .entry))) (now (out .entry)) ⌝ }
 {
-    answers::write_answer(read_frame(f), out)
+    let op = asked(byte_at(f, 0));
+    write_read(op, read_frame(f), out)
 }
 
 // The answer to a frame. A usual text is that of its Date, so that its line can be written at once.
 fn answer_frame(f: &[u8], out: &mut [u8]) -> Written
     requires { ⌜ length (now f) ≤ 8192 ⌝ }
-    ensures { λ r. ⌜ r ≡ writing.answer false (answerLine (spec.frameRead (now (f .entry)))) (length (now (out .entry))) ⌝ }
-    ensures { λ r. ⌜ now (out .exit) ≡ writing.afterwards false (answerLine (spec.frameRead (now (f .entry)))) (now (out .entry)) ⌝ }
+    ensures { λ r. ⌜ r ≡ writing.answer false (spec.frameAnswer (now (f .entry))) (length (now (out .entry))) ⌝ }
+    ensures { λ r. ⌜ now (out .exit) ≡ writing.afterwards false (spec.frameAnswer (now (f .entry))) (now (out .entry)) ⌝ }
 {
     if is_usual(f) {
         let text = &f[12..];
         return match quick::text(text) {
-            UsualText::One(d) => answers::write_one(0, 0, d, text, out),
-            UsualText::Two(a, b) => answers::write_two(0, a, b, text, out),
+            UsualText::One(d) => answers::write_one(false, 0, 0, d, text, out),
+            UsualText::Two(a, b) => answers::write_two(false, 0, a, b, text, out),
             UsualText::Other => answer_any(f, out),
         };
     }
@@ -525,8 +549,8 @@ fn answer_frame(f: &[u8], out: &mut [u8]) -> Written
 // The answer to a line, with a buffer for its bytes.
 fn answer_line(line: &[u8], frame: &mut [u8], out: &mut [u8]) -> Written
     requires { ⌜ (isHex (now line) (length (now frame)) ≡ isHex (now line) 8192) × (length (now frame) ≤ 8192) ⌝ }
-    ensures { λ r. ⌜ r ≡ writing.answer false (answerLine (spec.lineRead (now (line .entry)))) (length (now (out .entry))) ⌝ }
-    ensures { λ r. ⌜ now (out .exit) ≡ writing.afterwards false (answerLine (spec.lineRead (now (line .entry)))) (now (out .entry)) ⌝ }
+    ensures { λ r. ⌜ r ≡ writing.answer false (spec.lineAnswer (now (line .entry))) (length (now (out .entry))) ⌝ }
+    ensures { λ r. ⌜ now (out .exit) ≡ writing.afterwards false (spec.lineAnswer (now (line .entry))) (now (out .entry)) ⌝ }
 {
     match hexes::decode(line, frame) {
         Hex::Bytes(n) => answer_frame(&frame[..n], out),
@@ -534,10 +558,10 @@ fn answer_line(line: &[u8], frame: &mut [u8], out: &mut [u8]) -> Written
     }
 }
 
-// The answer to a line, as a line at the front of the lent buffer; without room for it nothing is stored. It has at most 139 bytes.
+// The answer to a line, as a line at the front of the lent buffer; without room for it nothing is stored. It has at most 147 bytes.
 pub fn answer(line: &[u8], out: &mut [u8]) -> Written
-    ensures { λ r. ⌜ r ≡ writing.answer false (answerLine (spec.lineRead (now (line .entry)))) (length (now (out .entry))) ⌝ }
-    ensures { λ r. ⌜ now (out .exit) ≡ writing.afterwards false (answerLine (spec.lineRead (now (line .entry)))) (now (out .entry)) ⌝ }
+    ensures { λ r. ⌜ r ≡ writing.answer false (spec.lineAnswer (now (line .entry))) (length (now (out .entry))) ⌝ }
+    ensures { λ r. ⌜ now (out .exit) ≡ writing.afterwards false (spec.lineAnswer (now (line .entry))) (now (out .entry)) ⌝ }
 {
     if line.len() <= 512 {
         let mut frame = [0u8; 256];

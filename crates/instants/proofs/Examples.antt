@@ -1,12 +1,12 @@
--- Two broadcasts across midnight, and Datetimes that are no instants. Assumes nothing.
-use mathlib.Core.Path.{_≡_, refl, ap, _∙_}
+-- Two broadcasts across midnight, Datetimes that are no instants, and comparisons that are refused. Assumes nothing.
+use mathlib.Core.Path.{_≡_, refl, _∙_}
 use mathlib.Core.Bool.{true, false}
 use mathlib.Core.List.{List, [], _∷_, map}
 use Prim.Native.Nat.{ℕ}
 use lib.IntN.{pos}
 use Rattle.chars.specs.Pick.{pick}
 use Rattle.refusals.specs.declared.Kind.{Kind}
-use Rattle.refusals.specs.declared.Kind.the-variants.{NotACalendarDate, BadTime, NoInstant}
+use Rattle.refusals.specs.declared.Kind.the-variants.{NotACalendarDate, BadTime, HasSeason, NoInstant}
 use Rattle.refusals.specs.Refusal.{fileSpan, refusal}
 use Rattle.dates.specs.declared.OptionMonth.the-variants.{NoMonth}
 use Rattle.dates.specs.declared.OptionDay.the-variants.{NoDay}
@@ -15,12 +15,13 @@ use Rattle.dates.specs.declared.OptionOffset.{OptionOffset}
 use Rattle.dates.specs.declared.OptionOffset.the-variants.{NoOffset, SomeOffset}
 use Rattle.dates.specs.declared.OptionTime.{OptionTime}
 use Rattle.dates.specs.declared.OptionTime.the-variants.{NoTime, SomeTime}
+use Rattle.dates.specs.declared.OptionSeason.the-variants.{Spring, Winter}
 use Rattle.dates.specs.declared.Datetime.{Datetime}
 use Rattle.dates.specs.Calendar.{multiple, leapYear, february, monthLengths, monthLength}
-use Rattle.dates.specs.Value.{month, day, datetime}
+use Rattle.dates.specs.Value.{month, day, datetime, seasonOf, hasSeason}
 use Rattle.dates.specs.Time.{time, inRange, seconds, signed, offsetSeconds, aheadOf, utcSeconds}
 use Rattle.days.specs.Days.{total, yearLength}
-use Rattle.days.specs.Covered.{yearIn, notADate}
+use Rattle.days.specs.Covered.{yearIn, notADate, seasoned, covered}
 use Rattle.days.specs.Counts.{counted, askedMonth, askedYear, asked, numbered, periodFrom}
 use Rattle.days.proofs.Counts.{answer}
 use Rattle.days.proofs.Engines.{byFormula, formula-covers}
@@ -30,7 +31,7 @@ use Rattle.clocks.specs.Clocks.{offsetIn, zoneIn, clockIn, hasBadTime}
 use Rattle.clocks.specs.Clocks as clocks
 use Rattle.instants.specs.declared.Instant.{Instant}
 use Rattle.instants.specs.declared.Instant.the-variants.{Seconds}
-use Rattle.instants.specs.declared.Compared.the-variants.{Stands, Refused}
+use Rattle.order.specs.declared.Compared.the-variants.{Stands, Refused}
 use Rattle.instants.specs.Instants.{refused, secondsAt, onTime, onDay, onCovered, instantOf, both, compared}
 
 abbrev at : ℕ → ℕ → ℕ → OptionOffset → OptionTime
@@ -44,22 +45,36 @@ abbrev pub ahead : Datetime
 ahead = datetime (pos 2000) (month 0) (day 1) (at 0 30 0 (SomeOffset (Offset true 2 0)))
 
 -- by the formula, which is quicker to compute than the sum of the months
-counting : (d : Datetime) → instantOf d ≡ onCovered d (answer byFormula (asked d))
-unfolding instantOf
+abbrev counted-on : Datetime → Instant
+counted-on d = onCovered d (pick (hasSeason d) seasoned (answer byFormula (asked d)))
+
+counting : (d : Datetime) → instantOf d ≡ counted-on d
+unfolding instantOf covered
 counting d = rw (formula-covers d)
 
 late-is : instantOf late ≡ Seconds (pos 63113986800)
-unfolding asked askedYear askedMonth yearIn counted yearLength total numbered periodFrom notADate multiple leapYear february monthLengths monthLength pick refused secondsAt onTime onDay onCovered inRange seconds signed offsetSeconds aheadOf utcSeconds offsetIn zoneIn clockIn clocks.onDay clocks.badTime hasBadTime
+unfolding seasoned asked askedYear askedMonth yearIn counted yearLength total numbered periodFrom notADate multiple leapYear february monthLengths monthLength pick refused secondsAt onTime onDay onCovered inRange seconds signed offsetSeconds aheadOf utcSeconds offsetIn zoneIn clockIn clocks.onDay clocks.badTime hasBadTime
 late-is = counting late ∙ refl
 
 ahead-is : instantOf ahead ≡ Seconds (pos 63113985000)
-unfolding asked askedYear askedMonth yearIn counted yearLength total numbered periodFrom notADate multiple leapYear february monthLengths monthLength pick refused secondsAt onTime onDay onCovered inRange seconds signed offsetSeconds aheadOf utcSeconds offsetIn zoneIn clockIn clocks.onDay clocks.badTime hasBadTime
+unfolding seasoned asked askedYear askedMonth yearIn counted yearLength total numbered periodFrom notADate multiple leapYear february monthLengths monthLength pick refused secondsAt onTime onDay onCovered inRange seconds signed offsetSeconds aheadOf utcSeconds offsetIn zoneIn clockIn clocks.onDay clocks.badTime hasBadTime
 ahead-is = counting ahead ∙ refl
 
 -- the second is before the first, by half an hour; the ported order, which looks at the stored days first, has it behind
 pub across-midnight : (compared late ahead ≡ Stands Greater) × (ported.order late ahead ≡ Less)
 unfolding compared both ported.order ported.number ported.inTurn ported.fromMonth ported.both ported.monthOf ported.fromDay ported.dayOf pick
 across-midnight = (rw (late-is, ahead-is), refl)
+
+-- a year, which is no instant
+abbrev pub year-2000 : Datetime
+year-2000 = datetime (pos 2000) NoMonth NoDay NoTime
+
+-- a season, and one beside a month that is none and a time that no clock shows
+abbrev pub spring : Datetime
+spring = seasonOf (pos 2000) Spring
+
+abbrev pub bad-winter : Datetime
+bad-winter = record { year = pos 2000; month = month 12; day = day 0; time = at 24 0 0 NoOffset; season = Winter }
 
 -- what is no instant, and why
 pub record Example : Type 0 where
@@ -68,7 +83,7 @@ pub record Example : Type 0 where
 
 abbrev pub examples : List Example
 examples =
-    record { of = datetime (pos 2000) NoMonth NoDay NoTime; why = NoInstant }
+    record { of = year-2000; why = NoInstant }
     ∷ record { of = datetime (pos 2000) (month 0) (day 0) NoTime; why = NoInstant }
     ∷ record { of = datetime (pos 2000) (month 0) (day 0) (at 10 20 30 NoOffset); why = NoInstant }
     ∷ record { of = datetime (pos 2000) (month 0) NoDay (at 10 20 30 (SomeOffset Utc)); why = BadTime }
@@ -76,17 +91,41 @@ examples =
     ∷ record { of = datetime (pos 2000) (month 0) (day 0) (at 10 20 30 (SomeOffset (Offset false 24 0))); why = BadTime }
     ∷ record { of = datetime (pos 2000) (month 12) (day 0) (at 24 0 0 NoOffset); why = NotACalendarDate }
     ∷ record { of = datetime (pos 10000) (month 0) (day 0) (at 10 20 30 (SomeOffset Utc)); why = NotACalendarDate }
+    ∷ record { of = spring; why = HasSeason }
+    ∷ record { of = bad-winter; why = HasSeason }
     ∷ []
 
-all-counted : (l : List Example) → map (λ (e : Example). instantOf (e .of)) l ≡ map (λ (e : Example). onCovered (e .of) (answer byFormula (asked (e .of)))) l
+all-counted : (l : List Example) → map (λ (e : Example). instantOf (e .of)) l ≡ map (λ (e : Example). counted-on (e .of)) l
 all-counted [] = refl
 all-counted (e ∷ l) = rw (counting (e .of), all-counted l)
 
 pub all-refused : map (λ (e : Example). instantOf (e .of)) examples ≡ map (λ (e : Example). refused (e .why)) examples
-unfolding asked askedYear askedMonth yearIn counted yearLength total numbered periodFrom notADate multiple leapYear february monthLengths monthLength pick refused secondsAt onTime onDay onCovered inRange seconds signed offsetSeconds aheadOf utcSeconds offsetIn zoneIn clockIn clocks.onDay clocks.badTime hasBadTime
+unfolding seasoned asked askedYear askedMonth yearIn counted yearLength total numbered periodFrom notADate multiple leapYear february monthLengths monthLength pick refused secondsAt onTime onDay onCovered inRange seconds signed offsetSeconds aheadOf utcSeconds offsetIn zoneIn clockIn clocks.onDay clocks.badTime hasBadTime
 all-refused = all-counted examples ∙ refl
 
+-- two that are not compared, and why
+pub record Refusals : Type 0 where
+  pub first : Datetime
+  pub second : Datetime
+  pub why : Kind
+
 -- all about the first operand comes before the second
-pub first-first : compared (datetime (pos 2000) NoMonth NoDay NoTime) (datetime (pos 10000) NoMonth NoDay NoTime) ≡ Refused (refusal NoInstant (fileSpan 0 0))
-unfolding asked askedYear askedMonth yearIn counted yearLength total numbered periodFrom notADate multiple leapYear february monthLengths monthLength pick refused secondsAt onTime onDay onCovered inRange seconds signed offsetSeconds aheadOf utcSeconds offsetIn zoneIn clockIn clocks.onDay clocks.badTime hasBadTime compared both
-first-first = ap (λ (i : Instant). both i (instantOf (datetime (pos 10000) NoMonth NoDay NoTime))) (counting (datetime (pos 2000) NoMonth NoDay NoTime)) ∙ refl
+abbrev pub refusals : List Refusals
+refusals =
+    record { first = year-2000; second = datetime (pos 10000) NoMonth NoDay NoTime; why = NoInstant }
+    ∷ record { first = spring; second = late; why = HasSeason }
+    ∷ record { first = late; second = spring; why = HasSeason }
+    ∷ record { first = spring; second = bad-winter; why = HasSeason }
+    ∷ record { first = bad-winter; second = ahead; why = HasSeason }
+    ∷ record { first = ahead; second = bad-winter; why = HasSeason }
+    ∷ record { first = year-2000; second = spring; why = NoInstant }
+    ∷ []
+
+each-counted : (l : List Refusals) → map (λ (e : Refusals). compared (e .first) (e .second)) l ≡ map (λ (e : Refusals). both (counted-on (e .first)) (counted-on (e .second))) l
+unfolding compared
+each-counted [] = refl
+each-counted (e ∷ l) = rw (counting (e .first), counting (e .second), each-counted l)
+
+pub none-compared : map (λ (e : Refusals). compared (e .first) (e .second)) refusals ≡ map (λ (e : Refusals). Refused (refusal (e .why) (fileSpan 0 0))) refusals
+unfolding seasoned asked askedYear askedMonth yearIn counted yearLength total numbered periodFrom notADate multiple leapYear february monthLengths monthLength pick refused secondsAt onTime onDay onCovered inRange seconds signed offsetSeconds aheadOf utcSeconds offsetIn zoneIn clockIn clocks.onDay clocks.badTime hasBadTime both
+none-compared = each-counted refusals ∙ refl

@@ -1,4 +1,4 @@
--- The order of instants is total, up to equal instants; and of one stored day it says what the ported order says. Assumes nothing.
+-- The order of instants is total, up to equal instants; of one stored day it says what the ported order says; and no season has an instant. Assumes nothing.
 use mathlib.Core.Path.{_≡_, refl, sym, ap, _∙_}
 use mathlib.Core.Bool.{Bool, true, false, false≢true}
 use mathlib.Core.Logic.{_⊎_, _↔_, inl, inr}
@@ -7,7 +7,8 @@ use native.Mathlib.Omega.{arith}
 use lib.IntN.{ℤ, pos, _+ℤ_, _*ℤ_}
 use Rattle.chars.specs.Pick.{pick}
 use Rattle.chars.proofs.Cases.{and-true}
-use Rattle.refusals.specs.declared.Kind.the-variants.{BadTime}
+use Rattle.refusals.specs.declared.Kind.the-variants.{BadTime, HasSeason}
+use Rattle.refusals.specs.Refusal.{fileSpan, refusal}
 use Rattle.dates.specs.declared.Month.{Month}
 use Rattle.dates.specs.declared.Day.{Day}
 use Rattle.dates.specs.declared.OptionMonth.{OptionMonth}
@@ -22,17 +23,19 @@ use Rattle.dates.specs.declared.OptionTime.{OptionTime}
 use Rattle.dates.specs.declared.OptionTime.the-variants.{NoTime, SomeTime}
 use Rattle.dates.specs.declared.Datetime.{Datetime}
 use Rattle.dates.specs.Time.{utcSeconds}
-use Rattle.dates.specs.Value.{datetime}
+use Rattle.dates.specs.Value.{datetime, hasSeason}
 use Rattle.days.specs.declared.Covered.the-variants.{Days}
-use Rattle.days.specs.Covered.{yearIn, partsIn, isDate, firstDay, lastDay, period, notADate, covered}
+use Rattle.days.specs.Covered.{yearIn, partsIn, isDate, firstDay, lastDay, period, notADate, calendarDays, seasoned, covered}
+use Rattle.days.proofs.Theorems.{season-exactly}
 use Rattle.order.specs.declared.Order.{Order}
 use Rattle.order.specs.declared.Order.the-variants.{Less, Equal, Greater}
-use Rattle.order.specs.Order.{number, inTurn, both, monthOf, dayOf, timeOf, alike, timeOrder, fromTime, fromDay, fromMonth, order}
+use Rattle.order.specs.Order.{number, inTurn, both, monthOf, dayOf, timeOf, alike, timeOrder, fromTime, fromDay, fromMonth, order, partialCmp}
 use Rattle.order.proofs.Numbers.{Cases, less, equal, greater, cases, number-same}
 use Rattle.order.proofs.Laws.{mirror, same, numbers}
+use Rattle.order.proofs.Seasons.{compared-else}
 use Rattle.clocks.specs.Clocks.{hasBadTime}
 use Rattle.instants.specs.declared.Instant.the-variants.{Seconds}
-use Rattle.instants.specs.declared.Compared.the-variants.{Stands}
+use Rattle.order.specs.declared.Compared.the-variants.{Stands, Refused}
 use Rattle.instants.specs.Instants.{refused, secondsAt, onTime, onDay, onCovered, instantOf, both as joined, compared}
 use Rattle.instants.proofs.Shift.{number-shift}
 
@@ -81,10 +84,20 @@ module _ (a : Datetime) {x : ℤ} where
   dated true h = (refl, good (hasBadTime a) h)
   dated false h = let z : _≡_ {A = ℕ} 0 1 = cc in absurd (omega arith)
 
+  plain : (t : Bool) → onCovered a (pick t seasoned (calendarDays a)) ≡ Seconds x → (t ≡ false) × (onCovered a (calendarDays a) ≡ Seconds x)
+  unfolding onCovered pick seasoned
+  plain true h = let z : _≡_ {A = ℕ} 0 1 = cc in absurd (omega arith)
+  plain false h = (refl, h)
+
+  -- it has no season
+  pub no-season : instantOf a ≡ Seconds x → hasSeason a ≡ false
+  unfolding instantOf covered
+  no-season h = plain (hasSeason a) h .0
+
   pub told : instantOf a ≡ Seconds x → Told a x
-  unfolding instantOf covered isDate
+  unfolding instantOf covered calendarDays isDate
   told h =
-      let p = dated (isDate a) h in
+      let p = dated (isDate a) (plain (hasSeason a) h .1) in
       let q = parts (firstDay a) (a .day) (a .time) (p .1) in
       let e = and-true (yearIn (a .year)) (partsIn (a .year) (a .month) (a .day)) (p .0) .1 in
       let r = beside (a .year) (a .month) (q .0) (ap (λ (da : OptionDay). partsIn (a .year) (a .month) da) (sym (q .3)) ∙ e) in
@@ -130,8 +143,13 @@ timed : (y : ℤ) (m : Month) (d : Day) (s t : Time) {o r : TimeOffset} → s .o
 unfolding order inTurn fromMonth both monthOf fromDay dayOf fromTime timeOf timeOrder alike pick
 timed y m d s t e f = rw (number-same y, number-same (pos (m .0)), number-same (pos (d .0)), e, f)
 
-rebuilt : (a : Datetime) {y : ℤ} {m : OptionMonth} {d : OptionDay} {t : OptionTime} → a .year ≡ y → a .month ≡ m → a .day ≡ d → a .time ≡ t → a ≡ datetime y m d t
+rebuilt : (a : Datetime) {y : ℤ} {m : OptionMonth} {d : OptionDay} {t : OptionTime} → a .year ≡ y → a .month ≡ m → a .day ≡ d → a .time ≡ t → datetime (a .year) (a .month) (a .day) (a .time) ≡ datetime y m d t
 rebuilt a e f g h = rw (sym e, sym f, sym g, sym h)
+
+-- the order looks at no season
+unseasoned : (a b : Datetime) → order a b ≡ order (datetime (a .year) (a .month) (a .day) (a .time)) (datetime (b .year) (b .month) (b .day) (b .time))
+unfolding order fromMonth fromDay fromTime
+unseasoned a b = refl
 
 -- the two orders say the same: they differ only between different stored days
 pub same-day : (a b : Datetime) {x y : ℤ} → instantOf a ≡ Seconds x → instantOf b ≡ Seconds y → a .year ≡ b .year → a .month ≡ b .month → a .day ≡ b .day
@@ -149,4 +167,26 @@ same-day a b {x} {y} ea eb ye me de =
     ∙ ap Stands
     (ap (λ (z : ℤ). number z y) (p .seconds-are) ∙ ap (λ (z : ℤ). number (k +ℤ utcSeconds (p .t)) z) later
     ∙ number-shift k (utcSeconds (p .t)) (utcSeconds (q .t))
-    ∙ sym (ap (λ (d : Datetime). order d b) left ∙ ap (λ (d : Datetime). order (datetime (a .year) (SomeMonth (p .m)) (SomeDay (p .d)) (SomeTime (p .t))) d) right ∙ timed (a .year) (p .m) (p .d) (p .t) (q .t) (p .offset-is) (q .offset-is)))
+    ∙ sym (unseasoned a b ∙ ap (λ (d : Datetime). order d (datetime (b .year) (b .month) (b .day) (b .time))) left ∙ ap (λ (d : Datetime). order (datetime (a .year) (SomeMonth (p .m)) (SomeDay (p .d)) (SomeTime (p .t))) d) right ∙ timed (a .year) (p .m) (p .d) (p .t) (q .t) (p .offset-is) (q .offset-is)))
+
+-- and the ported comparison answers so, since what has an instant has no season
+pub same-answer : (a b : Datetime) {x y : ℤ} → instantOf a ≡ Seconds x → instantOf b ≡ Seconds y → a .year ≡ b .year → a .month ≡ b .month → a .day ≡ b .day
+    → compared a b ≡ partialCmp a b
+same-answer a b ea eb ye me de = same-day a b ea eb ye me de ∙ sym (compared-else a b (no-season a ea) (no-season b eb))
+
+-- ---- seasons
+
+-- a Datetime with a season has no instant,
+pub season-has-none : (d : Datetime) → hasSeason d ≡ true → instantOf d ≡ refused HasSeason
+unfolding instantOf onCovered seasoned refused
+season-has-none d e = rw (season-exactly d .1 e)
+
+-- so that it is refused as the first of two, whatever the second is,
+pub season-first : (a b : Datetime) → hasSeason a ≡ true → compared a b ≡ Refused (refusal HasSeason (fileSpan 0 0))
+unfolding compared joined refused
+season-first a b e = rw (season-has-none a e)
+
+-- and as the second where the first has an instant
+pub season-second : (a b : Datetime) {x : ℤ} → instantOf a ≡ Seconds x → hasSeason b ≡ true → compared a b ≡ Refused (refusal HasSeason (fileSpan 0 0))
+unfolding compared joined refused
+season-second a b ea e = rw (ea, season-has-none b e)

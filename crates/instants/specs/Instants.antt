@@ -20,8 +20,8 @@ use Rattle.order.specs.Order.{number}
 use Rattle.clocks.specs.Clocks.{hasBadTime}
 use Rattle.instants.specs.declared.Instant.{Instant}
 use Rattle.instants.specs.declared.Instant.the-variants.{Seconds, NoSeconds}
-use Rattle.instants.specs.declared.Compared.{Compared}
-use Rattle.instants.specs.declared.Compared.the-variants.{Stands, Refused}
+use Rattle.order.specs.declared.Compared.{Compared}
+use Rattle.order.specs.declared.Compared.the-variants.{Stands, Refused}
 
 -- a refusal names no place
 unfoldable pub refused : Kind → Instant

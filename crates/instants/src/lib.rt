@@ -10,7 +10,7 @@ use dates::OptionTime;
 use dates::Time;
 use days::Covered;
 use days::days_by_formula;
-use order::Order;
+use order::Compared;
 use refusals::FileSpan;
 use refusals::Kind;
 use refusals::Refusal;
@@ -19,12 +19,6 @@ use refusals::Refusal;
 pub enum Instant {
     Seconds(i64),
     NoSeconds(Refusal),
-}
-
-// How the first instant stands to the second, or why one of them is none.
-pub enum Compared {
-    Stands(Order),
-    Refused(Refusal),
 }
 
 // A refusal has no place here.

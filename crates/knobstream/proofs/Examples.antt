@@ -12,10 +12,11 @@ use Rattle.dates.specs.declared.OptionDay.the-variants.{NoDay}
 use Rattle.dates.specs.declared.TimeOffset.the-variants.{Utc, Offset}
 use Rattle.dates.specs.declared.OptionOffset.the-variants.{SomeOffset}
 use Rattle.dates.specs.declared.OptionTime.the-variants.{NoTime, SomeTime}
+use Rattle.dates.specs.declared.OptionSeason.the-variants.{Spring}
 use Rattle.dates.specs.declared.Datetime.{Datetime}
 use Rattle.dates.specs.declared.DateValue.the-variants.{At, Between}
 use Rattle.dates.specs.Time.{time}
-use Rattle.dates.specs.Value.{month, day, datetime, date}
+use Rattle.dates.specs.Value.{month, day, datetime, seasonOf, date}
 use Rattle.datefield.specs.declared.ReadDate.the-variants.{Accepted, Refused}
 use Rattle.answers.specs.Answer.{twos}
 use Rattle.knobstream.specs.Plain.{words, read}
@@ -52,6 +53,18 @@ pub full-range : inMemory (words (read (Accepted (date (Between last-of-year lea
     ∷ 3 ∷ 0 ∷ 1 ∷ 0 ∷ 0 ∷ 0 ∷ 0 ∷ 0 ∷ []
 unfolding flatMap inBytes twos
 full-range = refl
+
+-- the spring of 2000: the last byte of its Datetime is 21, 0x15
+pub spring : inMemory (words (read (Accepted (date (At (seasonOf (pos 2000) Spring)) false false))))
+    ≡ 0 ∷ 0 ∷ 0 ∷ 0 ∷ 0 ∷ 0 ∷ 0 ∷ 0
+    ∷ 0 ∷ 0 ∷ 0 ∷ 0 ∷ 0 ∷ 0 ∷ 0 ∷ 0
+    ∷ 0xD0 ∷ 0x07 ∷ 0 ∷ 0 ∷ 0 ∷ 0 ∷ 0 ∷ 0
+    ∷ 0 ∷ 0 ∷ 0 ∷ 0 ∷ 0 ∷ 0 ∷ 0 ∷ 0x15
+    ∷ 0 ∷ 0 ∷ 0 ∷ 0 ∷ 0 ∷ 0 ∷ 0 ∷ 0
+    ∷ 0 ∷ 0 ∷ 0 ∷ 0 ∷ 0 ∷ 0 ∷ 0 ∷ 0
+    ∷ 0 ∷ 0 ∷ 0 ∷ 0 ∷ 0 ∷ 0 ∷ 0 ∷ 0 ∷ []
+unfolding flatMap inBytes twos
+spring = refl
 
 -- no such day, from byte 105 to byte 115 of the file
 pub refused-day : inMemory (words (read (Refused (refusal DayOutOfRange (fileSpan 105 115)))))

@@ -1,7 +1,10 @@
 -- What a reader gives as a struct means the Date that was read: nothing is lost on the way out and back in. Assumes nothing.
 use mathlib.Core.Path.{_≡_, refl}
 use mathlib.Core.Bool.{Bool, true, false}
+use Prim.Native.Nat.{ℕ}
+use lib.Dec.{eqb}
 use Rattle.chars.specs.Pick.{pick}
+use Rattle.chars.proofs.Cases.{of-test}
 use Rattle.dates.specs.declared.OptionMonth.{OptionMonth}
 use Rattle.dates.specs.declared.OptionMonth.the-variants.{NoMonth, SomeMonth}
 use Rattle.dates.specs.declared.OptionDay.{OptionDay}
@@ -11,12 +14,15 @@ use Rattle.dates.specs.declared.OptionOffset.{OptionOffset}
 use Rattle.dates.specs.declared.OptionOffset.the-variants.{NoOffset, SomeOffset}
 use Rattle.dates.specs.declared.OptionTime.{OptionTime}
 use Rattle.dates.specs.declared.OptionTime.the-variants.{NoTime, SomeTime}
+use Rattle.dates.specs.declared.OptionSeason.{OptionSeason}
+use Rattle.dates.specs.declared.OptionSeason.the-variants.{NoSeason, Spring, Summer, Autumn, Winter}
 use Rattle.dates.specs.declared.Datetime.{Datetime}
 use Rattle.dates.specs.declared.DateValue.{DateValue}
 use Rattle.dates.specs.declared.DateValue.the-variants.{At, After, Before, Between}
 use Rattle.dates.specs.declared.Date.{Date}
+use Rattle.dates.specs.Value.{seasonNumber, isSeason}
 use Rattle.knobstream.specs.Plain.{hasMonth, monthNumber, hasDay, dayNumber, offsetSort, shiftOf, hoursOf, minutesOf, flag, datetime, date}
-use Rattle.knobstream.specs.Back.{isSet, monthOf, dayOf, offsetOf, timeOf, datetimeOf, valueOf, dateBy, dateOf}
+use Rattle.knobstream.specs.Back.{isSet, monthOf, dayOf, offsetOf, timeOf, seasonOf, datetimeOf, valueOf, dateBy, dateOf}
 
 flag-back : (b : Bool) → isSet (flag b) ≡ b
 unfolding isSet
@@ -45,9 +51,24 @@ unfolding timeOf isSet pick
 time-back d NoTime e = rw e
 time-back d (SomeTime t) e = rw (e, offset-back (t .offset))
 
+season-back : (s : OptionSeason) → seasonOf (seasonNumber s) ≡ s
+unfolding seasonOf pick
+season-back NoSeason = refl
+season-back Spring = refl
+season-back Summer = refl
+season-back Autumn = refl
+season-back Winter = refl
+
+-- a season is there exactly if its number is not 0
+pub season-set : (n : ℕ) → isSeason (seasonOf n) ≡ isSet n
+unfolding seasonOf isSet pick
+season-set n =
+    of-test (eqb n 0) (λ x. rw x)
+    (λ x. rw x (of-test (eqb n 21) (λ y. rw y) (λ y. rw y (of-test (eqb n 22) (λ z. rw z) (λ z. rw z (of-test (eqb n 23) (λ u. rw u) (λ u. rw u)))))))
+
 pub datetime-back : (d : Datetime) → datetimeOf (datetime d) ≡ d
 unfolding datetimeOf
-datetime-back d = rw (month-back (d .month), day-back (d .day), time-back d (d .time) refl)
+datetime-back d = rw (month-back (d .month), day-back (d .day), time-back d (d .time) refl, season-back (d .season))
 
 value-back : (d : Date) (v : DateValue) → d .value ≡ v → valueOf datetimeOf (date d) ≡ v
 unfolding valueOf pick

@@ -1,14 +1,19 @@
 -- What was made part by part is what its definition says. Over plain variables. Assumes nothing.
-use mathlib.Core.Path.{_≡_, refl, ap}
+use mathlib.Core.Path.{_≡_, refl, ap, _∙_}
+use mathlib.Core.Bool.{_||_}
 use mathlib.Core.List.{List, _++_}
-use Prim.Native.Nat.{ℕ}
+use Prim.Native.Nat.{ℕ, _<_}
+use native.Mathlib.Omega.{arith}
 use lib.Dec.{eqb}
 use lib.ListN.{length}
-use lib.IntN.{ℤ}
+use lib.IntN.{ℤ, pos}
 use mir.Syntax.{w32}
 use mir.Val.{toZ, ofZ}
+use mir.ValLaws.{toZ-pos}
 use Rattle.chars.specs.Pick.{pick}
 use Rattle.chars.proofs.Cases.{of-test}
+use Rattle.refusals.specs.declared.Refusal.{Refusal}
+use Rattle.refusals.specs.Refusal.{number, refusal}
 use Rattle.dates.specs.declared.TimeOffset.{TimeOffset}
 use Rattle.dates.specs.declared.OptionOffset.the-variants.{NoOffset}
 use Rattle.dates.specs.declared.Time.{Time}
@@ -18,23 +23,27 @@ use Rattle.dates.specs.declared.DateValue.{DateValue}
 use Rattle.dates.specs.declared.DateValue.the-variants.{At, After, Before, Between}
 use Rattle.dates.specs.declared.Date.{Date}
 use Rattle.dates.specs.Time.{time}
+use Rattle.dates.specs.Value.{seasonNumber, hasSeason, anySeason}
 use Rattle.order.specs.declared.Order.{Order}
 use Rattle.order.specs.declared.Order.the-variants.{Less, Equal, Greater, None}
-use Rattle.order.specs.Order.{order}
+use Rattle.order.specs.declared.Compared.{Compared}
+use Rattle.order.specs.declared.Compared.the-variants.{Stands, Refused}
+use Rattle.order.specs.Order.{order, seasoned, partialCmp}
 use Rattle.writer.specs.declared.Written.{Written}
 use Rattle.writer.specs.declared.Measured.{Measured}
-use Rattle.writer.specs.Answers.{measured, answer, afterwards}
+use Rattle.writer.specs.Answers.{measured, answer, afterwards, dateMeasured, dateAnswer, dateAfterwards}
 use Rattle.writer.specs.Texts.{partsOf, datetimeText, valueText, markText, dateText, endPanics, valuePanics, panics}
 use Rattle.writer.specs.Fields.{endLines, valueLines, fieldsText}
+use Rattle.writer.specs.Level.{behindText, levelEnd, levelValue, levelText, levelEndPanics, levelValuePanics, levelPanics}
 use Rattle.knobstream.specs.declared.PlainDatetime.{PlainDatetime}
 use Rattle.knobstream.specs.declared.PlainDate.{PlainDate}
 use Rattle.knobstream.specs.declared.PlainWritten.{PlainWritten}
-use Rattle.knobstream.specs.Plain.{hasMonth, monthNumber, hasDay, dayNumber, shiftOf, offsetSort, hoursOf, minutesOf, datetime, written, measure, orderNumber}
+use Rattle.knobstream.specs.Plain.{hasMonth, monthNumber, hasDay, dayNumber, shiftOf, offsetSort, hoursOf, minutesOf, datetime, written, measure, orderNumber, comparedNumber}
 use Rattle.knobstream.specs.Back.{isSet, datetimeOf, dayOnly, valueOf, dateBy, dateOf}
 
 -- the struct of a year and other numbers
-abbrev plain : ℤ → ℕ → ℕ → ℕ → ℕ → ℕ → Time → ℕ → ℕ → ℕ → PlainDatetime
-plain y hm m hd n ht t sort hours minutes =
+abbrev plain : ℤ → ℕ → ℕ → ℕ → ℕ → ℕ → Time → ℕ → ℕ → ℕ → ℕ → PlainDatetime
+plain y hm m hd n ht t sort hours minutes s =
     record {
       year = y;
       «has_month» = hm;
@@ -48,15 +57,16 @@ plain y hm m hd n ht t sort hours minutes =
       offset = sort;
       «offset_hours» = hours;
       «offset_minutes» = minutes;
+      season = s;
     }
 
-module _ (d : Datetime) {y : ℤ} {hm m hd n : ℕ} (ey : y ≡ d .year) (a : hm ≡ hasMonth (d .month)) (b : m ≡ monthNumber (d .month)) (e : hd ≡ hasDay (d .day)) (f : n ≡ dayNumber (d .day)) where
-  pub made-untimed : d .time ≡ NoTime → plain y hm m hd n 0 (time 0 0 0 NoOffset) 0 0 0 ≡ datetime d
-  made-untimed g = rw (ey, a, b, e, f, g)
+module _ (d : Datetime) {y : ℤ} {hm m hd n s : ℕ} (ey : y ≡ d .year) (a : hm ≡ hasMonth (d .month)) (b : m ≡ monthNumber (d .month)) (e : hd ≡ hasDay (d .day)) (f : n ≡ dayNumber (d .day)) (es : s ≡ seasonNumber (d .season)) where
+  pub made-untimed : d .time ≡ NoTime → plain y hm m hd n 0 (time 0 0 0 NoOffset) 0 0 0 s ≡ datetime d
+  made-untimed g = rw (ey, a, b, e, f, g, es)
 
   pub made-timed : {t : Time} {o : TimeOffset} {sort hours minutes : ℕ} → d .time ≡ SomeTime t → o ≡ shiftOf (t .offset) → sort ≡ offsetSort (t .offset) → hours ≡ hoursOf o → minutes ≡ minutesOf o
-      → plain y hm m hd n 1 t sort hours minutes ≡ datetime d
-  made-timed g eo h i j = rw (ey, a, b, e, f, g, h, i, j, eo)
+      → plain y hm m hd n 1 t sort hours minutes s ≡ datetime d
+  made-timed g eo h i j = rw (ey, a, b, e, f, g, h, i, j, eo, es)
 
 -- the number of an order has 32 bits
 pub order-fits : (o : Order) → toZ w32 (ofZ w32 (orderNumber o)) ≡ orderNumber o
@@ -65,19 +75,42 @@ order-fits Equal = refl
 order-fits Greater = refl
 order-fits None = refl
 
-pub made-order : {a b x y : Datetime} {o : Order} {r : ℤ} → x ≡ a → y ≡ b → o ≡ order x y → r ≡ orderNumber o → toZ w32 (ofZ w32 r) ≡ orderNumber (order a b)
-made-order {a} {b} ex ey eo er = rw (er, eo, ex, ey) (order-fits (order a b))
+-- so has what the comparison answers
+compared-fits : (a b : Datetime) → toZ w32 (ofZ w32 (comparedNumber (partialCmp a b))) ≡ comparedNumber (partialCmp a b)
+unfolding partialCmp seasoned refusal pick
+compared-fits a b = of-test (hasSeason a || hasSeason b) (λ x. rw x) (λ x. rw x (order-fits (order a b)))
+
+pub made-stands : {c : Compared} {o : Order} {r : ℤ} → c ≡ Stands o → r ≡ orderNumber o → toZ w32 (ofZ w32 r) ≡ comparedNumber c
+made-stands {o = o} e er = rw (e, er) (order-fits o)
+
+pub made-refused : {c : Compared} {e : Refusal} {n : ℕ} → n < 256 → c ≡ Refused e → n ≡ number (e .kind) → toZ w32 n ≡ comparedNumber c
+made-refused {n = n} h ec en = rw ec (toZ-pos w32 n (omega arith) ∙ ap pos en)
+
+pub made-compared : {a b x y : Datetime} {o : Compared} {r : ℤ} → x ≡ a → y ≡ b → o ≡ partialCmp x y → r ≡ comparedNumber o → toZ w32 (ofZ w32 r) ≡ comparedNumber (partialCmp a b)
+made-compared {a} {b} ex ey eo er = rw (er, eo, ex, ey) (compared-fits a b)
 
 -- what a writer said of a Date without its times, as a struct, and what it left in the buffer: the same as with its times
 pub made-written : {d e : Date} (t : Date → List ℕ) (l : List ℕ) {m : List ℕ} {w : Written} {r : PlainWritten}
-    → panics d ≡ panics e → t d ≡ t e → (w ≡ answer (panics d) (t d) (length l)) × (m ≡ afterwards (panics d) (t d) l) → r ≡ written w
-    → (r ≡ written (answer (panics e) (t e) (length l))) × (m ≡ afterwards (panics e) (t e) l)
-made-written t l ep et h er = (rw (er, h .0, ep, et), rw (h .1, ep, et))
+    → anySeason (d .value) ≡ anySeason (e .value) → panics d ≡ panics e → t d ≡ t e → (w ≡ dateAnswer d (t d) (length l)) × (m ≡ dateAfterwards d (t d) l) → r ≡ written w
+    → (r ≡ written (dateAnswer e (t e) (length l))) × (m ≡ dateAfterwards e (t e) l)
+unfolding dateMeasured dateAnswer dateAfterwards
+made-written t l es ep et h er = (rw (er, h .0, es, ep, et), rw (h .1, es, ep, et))
 
 -- what measuring said of it
-pub made-measure : (d e : Date) {m : Measured} {r : PlainWritten} → panics d ≡ panics e → dateText d ≡ dateText e → m ≡ measured (panics d) (dateText d) → r ≡ measure m
-    → r ≡ measure (measured (panics e) (dateText e))
-made-measure d e ep et em er = rw (er, em, ep, et)
+pub made-measure : (d e : Date) {m : Measured} {r : PlainWritten} → anySeason (d .value) ≡ anySeason (e .value) → panics d ≡ panics e → dateText d ≡ dateText e → m ≡ dateMeasured d (dateText d) → r ≡ measure m
+    → r ≡ measure (dateMeasured e (dateText e))
+unfolding dateMeasured
+made-measure d e es ep et em er = rw (er, em, es, ep, et)
+
+-- the same of the writer of level one
+pub level-written : (d e : Date) (l : List ℕ) {m : List ℕ} {w : Written} {r : PlainWritten}
+    → levelPanics d ≡ levelPanics e → levelText d ≡ levelText e → (w ≡ answer (levelPanics d) (levelText d) (length l)) × (m ≡ afterwards (levelPanics d) (levelText d) l) → r ≡ written w
+    → (r ≡ written (answer (levelPanics e) (levelText e) (length l))) × (m ≡ afterwards (levelPanics e) (levelText e) l)
+level-written d e l ep et h er = (rw (er, h .0, ep, et), rw (h .1, ep, et))
+
+pub level-measure : (d e : Date) {m : Measured} {r : PlainWritten} → levelPanics d ≡ levelPanics e → levelText d ≡ levelText e → m ≡ measured (levelPanics d) (levelText d) → r ≡ measure m
+    → r ≡ measure (measured (levelPanics e) (levelText e))
+level-measure d e ep et em er = rw (er, em, ep, et)
 
 module _ (p : PlainDate) where
   by-shape : {A : Type 0} (f : DateValue → A) → f (At (dayOnly (p .first))) ≡ f (At (datetimeOf (p .first))) → f (After (dayOnly (p .first))) ≡ f (After (datetimeOf (p .first)))
@@ -99,3 +132,15 @@ module _ (p : PlainDate) where
   pub same-fields : fieldsText (dateBy dayOnly p) ≡ fieldsText (dateOf p)
   unfolding fieldsText dateBy valueLines endLines partsOf dayOnly datetimeOf
   same-fields = by-shape valueLines refl refl refl refl
+
+  pub same-season : anySeason (dateBy dayOnly p .value) ≡ anySeason (dateOf p .value)
+  unfolding dateBy dayOnly datetimeOf
+  same-season = by-shape anySeason refl refl refl refl
+
+  pub same-level-panics : levelPanics (dateBy dayOnly p) ≡ levelPanics (dateOf p)
+  unfolding levelPanics dateBy levelValuePanics levelEndPanics endPanics partsOf dayOnly datetimeOf
+  same-level-panics = by-shape levelValuePanics refl refl refl refl
+
+  pub same-level-text : levelText (dateBy dayOnly p) ≡ levelText (dateOf p)
+  unfolding levelText dateBy levelValue levelEnd behindText partsOf dayOnly datetimeOf
+  same-level-text = ap (λ (t : List ℕ). t ++ markText (isSet (p .uncertain)) (isSet (p .approximate))) (by-shape levelValue refl refl refl refl)

@@ -66,9 +66,9 @@ module _ (p : PlainDatetime) (h : DatetimeFits p) where
       rw (halves, four-bytes (p .«has_month») (p .month) (p .«has_day») (p .day) (omega arith))
 
   time-bytes : inBytes 8 (timeWord p)
-      ≡ p .«has_time» ∷ p .hour ∷ p .minute ∷ p .second ∷ p .offset ∷ p .«offset_hours» ∷ p .«offset_minutes» ∷ 0 ∷ []
+      ≡ p .«has_time» ∷ p .hour ∷ p .minute ∷ p .second ∷ p .offset ∷ p .«offset_hours» ∷ p .«offset_minutes» ∷ p .season ∷ []
   time-bytes =
-      eight-bytes (p .«has_time») (p .hour) (p .minute) (p .second) (p .offset) (p .«offset_hours») (p .«offset_minutes») 0
+      eight-bytes (p .«has_time») (p .hour) (p .minute) (p .second) (p .offset) (p .«offset_hours») (p .«offset_minutes») (p .season)
       (omega arith) (omega arith)
 
   -- the two words of a Datetime, before others
@@ -132,10 +132,9 @@ module _ (p q : PlainDatetime) (h : DatetimeFits p) (k : DatetimeFits q) where
       → (p .«has_time» ≡ q .«has_time») × ((p .hour ≡ q .hour) × ((p .minute ≡ q .minute) × (p .second ≡ q .second)))
   time-same e = four-same (p .«has_time») (p .hour) (p .minute) (p .second) (omega arith) (omega arith) (omega arith)
 
-  -- the season is 0 in both
   offset-same : timeWord p ≡ timeWord q
-      → (p .offset ≡ q .offset) × ((p .«offset_hours» ≡ q .«offset_hours») × ((p .«offset_minutes» ≡ q .«offset_minutes») × (_≡_ {A = ℕ} 0 0)))
-  offset-same e = four-same (p .offset) (p .«offset_hours») (p .«offset_minutes») 0 (omega arith) (omega arith) (omega arith)
+      → (p .offset ≡ q .offset) × ((p .«offset_hours» ≡ q .«offset_hours») × ((p .«offset_minutes» ≡ q .«offset_minutes») × (p .season ≡ q .season)))
+  offset-same e = four-same (p .offset) (p .«offset_hours») (p .«offset_minutes») (p .season) (omega arith) (omega arith) (omega arith)
 
   datetime-same : dayWord p ≡ dayWord q → timeWord p ≡ timeWord q → p ≡ q
   datetime-same e f =
@@ -156,6 +155,7 @@ module _ (p q : PlainDatetime) (h : DatetimeFits p) (k : DatetimeFits q) where
         offset = c .0 i;
         «offset_hours» = c .1 .0 i;
         «offset_minutes» = c .1 .1 .0 i;
+        season = c .1 .1 .1 i;
       }
 
 -- two answers with the same words are the same

@@ -12,12 +12,14 @@ use Rattle.dates.specs.declared.OptionOffset.{OptionOffset}
 use Rattle.dates.specs.declared.OptionOffset.the-variants.{NoOffset, SomeOffset}
 use Rattle.dates.specs.declared.OptionTime.{OptionTime}
 use Rattle.dates.specs.declared.OptionTime.the-variants.{NoTime, SomeTime}
+use Rattle.dates.specs.declared.OptionSeason.{OptionSeason}
+use Rattle.dates.specs.declared.OptionSeason.the-variants.{NoSeason, Spring, Summer, Autumn, Winter}
 use Rattle.dates.specs.declared.Datetime.{Datetime}
 use Rattle.dates.specs.declared.DateValue.{DateValue}
 use Rattle.dates.specs.declared.DateValue.the-variants.{At, After, Before, Between}
 use Rattle.dates.specs.declared.Date.{Date}
 use Rattle.dates.specs.Time.{time}
-use Rattle.dates.specs.Value.{month, day, datetime, date}
+use Rattle.dates.specs.Value.{month, day, date}
 use Rattle.knobstream.specs.declared.PlainDatetime.{PlainDatetime}
 use Rattle.knobstream.specs.declared.PlainDate.{PlainDate}
 
@@ -45,9 +47,24 @@ timeOf p =
     (SomeTime (time (p .hour) (p .minute) (p .second) (offsetOf (p .offset) (p .«offset_hours») (p .«offset_minutes»))))
     NoTime
 
+-- the season: 0 none, 21 spring, 22 summer, 23 autumn, every other number winter
+unfoldable pub seasonOf : ℕ → OptionSeason
+seasonOf n = pick (eqb n 0) NoSeason (pick (eqb n 21) Spring (pick (eqb n 22) Summer (pick (eqb n 23) Autumn Winter)))
+
+-- the Datetime, with a time that is given
+abbrev pub datetimeAt : PlainDatetime → OptionTime → Datetime
+datetimeAt p t =
+    record {
+      year = p .year;
+      month = monthOf (p .«has_month») (p .month);
+      day = dayOf (p .«has_day») (p .day);
+      time = t;
+      season = seasonOf (p .season);
+    }
+
 -- the Datetime
 unfoldable pub datetimeOf : PlainDatetime → Datetime
-datetimeOf p = datetime (p .year) (monthOf (p .«has_month») (p .month)) (dayOf (p .«has_day») (p .day)) (timeOf p)
+datetimeOf p = datetimeAt p (timeOf p)
 
 -- the point or range, by what its Datetimes mean: 0 At, 1 After, 2 Before, every other number Between; only Between looks at the second
 unfoldable pub valueOf : (PlainDatetime → Datetime) → PlainDate → DateValue
@@ -66,4 +83,4 @@ dateOf p = dateBy datetimeOf p
 
 -- a Datetime without its time. No public contract rests on it: the writers look at no time
 unfoldable pub dayOnly : PlainDatetime → Datetime
-dayOnly p = datetime (p .year) (monthOf (p .«has_month») (p .month)) (dayOf (p .«has_day») (p .day)) NoTime
+dayOnly p = datetimeAt p NoTime

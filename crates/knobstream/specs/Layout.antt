@@ -22,7 +22,7 @@ inMemory ws = flatMap (inBytes 8) ws
 abbrev pub smallMembers : PlainDatetime → List ℕ
 smallMembers p =
     p .«has_month» ∷ p .month ∷ p .«has_day» ∷ p .day ∷ p .«has_time» ∷ p .hour ∷ p .minute ∷ p .second ∷ p .offset ∷ p .«offset_hours»
-    ∷ p .«offset_minutes» ∷ 0 ∷ []
+    ∷ p .«offset_minutes» ∷ p .season ∷ []
 
 -- knobstream_datetime: four bytes for the year, and those behind it
 abbrev pub datetimeStruct : PlainDatetime → List ℕ
@@ -50,11 +50,13 @@ pub record DatetimeFits (p : PlainDatetime) : Type 0 where
 
 -- the numbers of an answer are of their types
 pub record Fits (r : PlainRead) : Type 0 where
-  -- a uint64_t each
+  -- where the place starts: a uint64_t
   pub start-fits : r .start < 18446744073709551616
+  -- where it ends: a uint64_t too
   pub end-fits : r .end < 18446744073709551616
-  -- both Datetimes
+  -- the first Datetime
   pub first-fits : DatetimeFits (r .date .first)
+  -- the second
   pub second-fits : DatetimeFits (r .date .second)
   -- a uint8_t each
   pub bytes-fit : Bytes (r .date .shape ∷ r .date .uncertain ∷ r .date .approximate ∷ r .refusal ∷ [])

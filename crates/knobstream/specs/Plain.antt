@@ -20,6 +20,7 @@ use Rattle.dates.specs.declared.DateValue.{DateValue}
 use Rattle.dates.specs.declared.DateValue.the-variants.{At, After, Before, Between}
 use Rattle.dates.specs.declared.Date.{Date}
 use Rattle.dates.specs.Time.{time}
+use Rattle.dates.specs.Value.{seasonNumber}
 use Rattle.datefield.specs.declared.ReadDate.{ReadDate}
 use Rattle.datefield.specs.declared.ReadDate.the-variants.{Accepted, Refused}
 use Rattle.answers.specs.Answer.{twos}
@@ -29,6 +30,8 @@ use Rattle.writer.specs.declared.Written.{Written}
 use Rattle.writer.specs.declared.Written.the-variants.{Done, Refused as NotWritten}
 use Rattle.order.specs.declared.Order.{Order}
 use Rattle.order.specs.declared.Order.the-variants.{Less, Equal, Greater, None}
+use Rattle.order.specs.declared.Compared.{Compared}
+use Rattle.order.specs.declared.Compared.the-variants.{Stands, Refused as NotCompared}
 use Rattle.knobstream.specs.declared.PlainDatetime.{PlainDatetime}
 use Rattle.knobstream.specs.declared.PlainDate.{PlainDate}
 use Rattle.knobstream.specs.declared.PlainRead.{PlainRead}
@@ -111,6 +114,7 @@ datetime d =
       offset = offsetSort (clockOf (d .time) .offset);
       «offset_hours» = hoursOf (shiftOf (clockOf (d .time) .offset));
       «offset_minutes» = minutesOf (shiftOf (clockOf (d .time) .offset));
+      season = seasonNumber (d .season);
     }
 
 -- where there is no Datetime, all numbers are 0
@@ -129,6 +133,7 @@ noDatetime =
       offset = 0;
       «offset_hours» = 0;
       «offset_minutes» = 0;
+      season = 0;
     }
 
 -- the shape of a point or range, as a number
@@ -185,10 +190,11 @@ fourBytes a b c d = a + 256 * b + 65536 * c + 16777216 * d
 abbrev pub dayWord : PlainDatetime → ℕ
 dayWord p = twos (p .year) + 4294967296 * fourBytes (p .«has_month») (p .month) (p .«has_day») (p .day)
 
--- the eight behind them, of which the last is 0
+-- the eight behind them, of which the last is the season
 abbrev pub timeWord : PlainDatetime → ℕ
 timeWord p =
-    fourBytes (p .«has_time») (p .hour) (p .minute) (p .second) + 4294967296 * fourBytes (p .offset) (p .«offset_hours») (p .«offset_minutes») 0
+    fourBytes (p .«has_time») (p .hour) (p .minute) (p .second)
+    + 4294967296 * fourBytes (p .offset) (p .«offset_hours») (p .«offset_minutes») (p .season)
 
 -- the last eight bytes of an answer: the shape, the two marks, a 0, the refusal, and zeros
 abbrev pub lastWord : ℕ → ℕ → ℕ → ℕ → ℕ
@@ -216,3 +222,8 @@ orderNumber Less = negsuc 0
 orderNumber Equal = pos 0
 orderNumber Greater = pos 1
 orderNumber None = pos 2
+
+-- what the comparison answers: that, or the refusal's number
+abbrev pub comparedNumber : Compared → ℤ
+comparedNumber (Stands o) = orderNumber o
+comparedNumber (NotCompared e) = pos (number (e .kind))

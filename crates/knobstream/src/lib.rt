@@ -5,14 +5,14 @@ ghost use mathlib.Core.Path.{_≡_};
 ghost use mathlib.Core.Bool.{false};
 ghost use Prim.Native.Nat.{_<_};
 ghost use lib.ListN.{length};
-ghost use Rattle.reader.specs.Field.{parsed, parsedStrict};
+ghost use Rattle.reader.specs.Field.{parsed, parsedStrict, parsedLevelOne};
 ghost use Rattle.reader.specs.Fields.{threeFields};
-ghost use Rattle.order.specs.Order.{order};
-ghost use Rattle.writer.specs.Texts.{panics, dateText};
+ghost use Rattle.order.specs.Order.{partialCmp};
+ghost use Rattle.writer.specs.Texts.{dateText};
 ghost use Rattle.writer.specs.Fields.{fieldsText};
-ghost use Rattle.writer.specs.Answers.{measured, answer, afterwards};
-ghost use Rattle.answers.specs.Answer.{answerLine};
-ghost use Rattle.frames.specs.Frame.{lineRead};
+ghost use Rattle.writer.specs.Level.{levelPanics, levelText};
+ghost use Rattle.writer.specs.Answers.{measured, answer, afterwards, dateMeasured, dateAnswer, dateAfterwards};
+ghost use Rattle.frames.specs.Frame.{lineAnswer};
 ghost use Rattle.knobstream.specs.Plain as plain;
 ghost use Rattle.knobstream.specs.Layout.{Answered};
 ghost use Rattle.knobstream.specs.Back as back;
@@ -25,9 +25,11 @@ use dates::Month;
 use dates::OptionDay;
 use dates::OptionMonth;
 use dates::OptionOffset;
+use dates::OptionSeason;
 use dates::OptionTime;
 use dates::Time;
 use dates::TimeOffset;
+use order::Compared;
 use order::Order;
 use quick::UsualText;
 use writer::Measured;
@@ -49,6 +51,8 @@ pub struct PlainDatetime {
     pub offset: u8,
     pub offset_hours: u8,
     pub offset_minutes: u8,
+    // 0 none, 21 spring, 22 summer, 23 autumn, 24 winter.
+    pub season: u8,
 }
 
 // A Date. The second Datetime is all zeros but in a range with both ends.
@@ -185,6 +189,8 @@ fn plain_datetime(d: Datetime) -> PlainDatetime
     let month = d.month;
     let day = d.day;
     let time = d.time;
+    let season = d.season;
+    let number = dates::season_number(season);
     match time {
         OptionTime::NoTime => {
             return PlainDatetime {
@@ -200,6 +206,7 @@ fn plain_datetime(d: Datetime) -> PlainDatetime
                 offset: 0,
                 offset_hours: 0,
                 offset_minutes: 0,
+                season: number,
             };
         }
         OptionTime::SomeTime(t) => {
@@ -218,6 +225,7 @@ fn plain_datetime(d: Datetime) -> PlainDatetime
                 offset: offset_sort(offset),
                 offset_hours: hours_of(o),
                 offset_minutes: minutes_of(o),
+                season: number,
             };
         }
     }
@@ -239,6 +247,7 @@ fn no_datetime() -> PlainDatetime
         offset: 0,
         offset_hours: 0,
         offset_minutes: 0,
+        season: 0,
     }
 }
 
@@ -325,6 +334,18 @@ fn plain_order(o: Order) -> i32
     }
 }
 
+fn plain_compared(c: Compared) -> i32
+    ensures { λ r. ⌜ r ≡ plain.comparedNumber c ⌝ }
+{
+    match c {
+        Compared::Stands(o) => plain_order(o),
+        Compared::Refused(e) => {
+            let kind = e.kind;
+            refusals::number(kind) as i32
+        }
+    }
+}
+
 // ---- from plain numbers to words: the first byte of a word is its lowest
 
 fn four_bytes(a: u8, b: u8, c: u8, d: u8) -> u64
@@ -343,7 +364,7 @@ fn time_word(p: PlainDatetime) -> u64
     ensures { λ r. ⌜ r ≡ plain.timeWord p ⌝ }
 {
     four_bytes(p.has_time, p.hour, p.minute, p.second)
-        + 4294967296 * four_bytes(p.offset, p.offset_hours, p.offset_minutes, 0)
+        + 4294967296 * four_bytes(p.offset, p.offset_hours, p.offset_minutes, p.season)
 }
 
 fn last_word(shape: u8, uncertain: u8, approximate: u8, refusal: u8) -> u64
@@ -441,6 +462,24 @@ fn offset_of(sort: u8, hours: u8, minutes: u8) -> OptionOffset
     })
 }
 
+fn season_of(n: u8) -> OptionSeason
+    ensures { λ r. ⌜ r ≡ back.seasonOf n ⌝ }
+{
+    if n == 0 {
+        return OptionSeason::NoSeason;
+    }
+    if n == 21 {
+        return OptionSeason::Spring;
+    }
+    if n == 22 {
+        return OptionSeason::Summer;
+    }
+    if n == 23 {
+        return OptionSeason::Autumn;
+    }
+    OptionSeason::Winter
+}
+
 fn time_of(p: PlainDatetime) -> OptionTime
     ensures { λ r. ⌜ r ≡ back.timeOf p ⌝ }
 {
@@ -461,16 +500,27 @@ fn datetime_of(p: PlainDatetime) -> Datetime
     let month = month_of(p.has_month, p.month);
     let day = day_of(p.has_day, p.day);
     let time = time_of(p);
-    Datetime::new(p.year, month, day, time)
+    let season = season_of(p.season);
+    Datetime {
+        year: p.year,
+        month,
+        day,
+        time,
+        season,
+    }
 }
 
 // The Datetime without its time, which no writer looks at.
 fn day_only(p: PlainDatetime) -> Datetime
     ensures { λ r. ⌜ r ≡ back.dayOnly p ⌝ }
 {
-    let month = month_of(p.has_month, p.month);
-    let day = day_of(p.has_day, p.day);
-    Datetime::new(p.year, month, day, OptionTime::NoTime)
+    Datetime {
+        year: p.year,
+        month: month_of(p.has_month, p.month),
+        day: day_of(p.has_day, p.day),
+        time: OptionTime::NoTime,
+        season: season_of(p.season),
+    }
 }
 
 fn value_of(p: PlainDate) -> DateValue
@@ -507,12 +557,12 @@ fn date_of(p: PlainDate) -> Date
 
 // ---- the calls
 
-const VERSION: u32 = 2;
+const VERSION: u32 = 3;
 
 // The version of these calls and of their structs: a caller that was made for another must not go on.
 #[no_mangle]
 pub extern "C" fn knobstream_version() -> u32
-    ensures { λ r. ⌜ r ≡ 2 ⌝ }
+    ensures { λ r. ⌜ r ≡ 3 ⌝ }
 {
     VERSION
 }
@@ -561,6 +611,14 @@ pub extern "C" fn knobstream_parse_strict(bytes: &[u8], table: &[u64], answer: &
     put_read(usual::parse_strict(bytes, table), answer);
 }
 
+// A date field, read by the grammar of level one: strict texts, seasons and long years.
+#[no_mangle]
+pub extern "C" fn knobstream_parse_level_one(bytes: &[u8], table: &[u64], answer: &mut [u64; 7])
+    ensures { λ _. ⌜ Answered (now (answer .exit)) (plain.read (parsedLevelOne (now (bytes .entry)) (now (table .entry)))) ⌝ }
+{
+    put_read(reader::parse_level_one(bytes, table), answer);
+}
+
 // The fields year, month and day; a list is absent if the number before it is 0, and then is not looked at.
 #[no_mangle]
 pub extern "C" fn knobstream_parse_three_fields(
@@ -599,7 +657,7 @@ pub extern "C" fn knobstream_measure_date(
     uncertain: u8,
     approximate: u8,
 ) -> PlainWritten
-    ensures { λ r. ⌜ r ≡ plain.measure (measured (panics (back.dateOf (plain.parts shape uncertain approximate first second))) (dateText (back.dateOf (plain.parts shape uncertain approximate first second)))) ⌝ }
+    ensures { λ r. ⌜ r ≡ plain.measure (dateMeasured (back.dateOf (plain.parts shape uncertain approximate first second)) (dateText (back.dateOf (plain.parts shape uncertain approximate first second)))) ⌝ }
 {
     let d = date_of(PlainDate {
         shape,
@@ -621,8 +679,8 @@ pub extern "C" fn knobstream_write_date(
     uncertain: u8,
     approximate: u8,
 ) -> PlainWritten
-    ensures { λ r. ⌜ r ≡ plain.written (answer (panics (back.dateOf (plain.parts shape uncertain approximate first second))) (dateText (back.dateOf (plain.parts shape uncertain approximate first second))) (length (now (out .entry)))) ⌝ }
-    ensures { λ r. ⌜ now (out .exit) ≡ afterwards (panics (back.dateOf (plain.parts shape uncertain approximate first second))) (dateText (back.dateOf (plain.parts shape uncertain approximate first second))) (now (out .entry)) ⌝ }
+    ensures { λ r. ⌜ r ≡ plain.written (dateAnswer (back.dateOf (plain.parts shape uncertain approximate first second)) (dateText (back.dateOf (plain.parts shape uncertain approximate first second))) (length (now (out .entry)))) ⌝ }
+    ensures { λ r. ⌜ now (out .exit) ≡ dateAfterwards (back.dateOf (plain.parts shape uncertain approximate first second)) (dateText (back.dateOf (plain.parts shape uncertain approximate first second))) (now (out .entry)) ⌝ }
 {
     let d = date_of(PlainDate {
         shape,
@@ -644,8 +702,8 @@ pub extern "C" fn knobstream_write_fields(
     uncertain: u8,
     approximate: u8,
 ) -> PlainWritten
-    ensures { λ r. ⌜ r ≡ plain.written (answer (panics (back.dateOf (plain.parts shape uncertain approximate first second))) (fieldsText (back.dateOf (plain.parts shape uncertain approximate first second))) (length (now (out .entry)))) ⌝ }
-    ensures { λ r. ⌜ now (out .exit) ≡ afterwards (panics (back.dateOf (plain.parts shape uncertain approximate first second))) (fieldsText (back.dateOf (plain.parts shape uncertain approximate first second))) (now (out .entry)) ⌝ }
+    ensures { λ r. ⌜ r ≡ plain.written (dateAnswer (back.dateOf (plain.parts shape uncertain approximate first second)) (fieldsText (back.dateOf (plain.parts shape uncertain approximate first second))) (length (now (out .entry)))) ⌝ }
+    ensures { λ r. ⌜ now (out .exit) ≡ dateAfterwards (back.dateOf (plain.parts shape uncertain approximate first second)) (fieldsText (back.dateOf (plain.parts shape uncertain approximate first second))) (now (out .entry)) ⌝ }
 {
     let d = date_of(PlainDate {
         shape,
@@ -657,21 +715,65 @@ pub extern "C" fn knobstream_write_fields(
     plain_written(writer::write_fields(d, out))
 }
 
-// How the first Datetime stands to the second: -1 less, 0 equal, 1 greater, 2 none of these.
+// How long the text of a Date is by the writer of level one, likewise; it knows seasons, and refuses none.
+#[no_mangle]
+pub extern "C" fn knobstream_measure_level_one(
+    first: PlainDatetime,
+    second: PlainDatetime,
+    shape: u8,
+    uncertain: u8,
+    approximate: u8,
+) -> PlainWritten
+    ensures { λ r. ⌜ r ≡ plain.measure (measured (levelPanics (back.dateOf (plain.parts shape uncertain approximate first second))) (levelText (back.dateOf (plain.parts shape uncertain approximate first second)))) ⌝ }
+{
+    let d = date_of(PlainDate {
+        shape,
+        uncertain,
+        approximate,
+        first,
+        second,
+    });
+    plain_measured(writer::level_length(d))
+}
+
+// The text of a Date by that writer, at the front of the lent buffer; a refusal stores nothing.
+#[no_mangle]
+pub extern "C" fn knobstream_write_level_one(
+    first: PlainDatetime,
+    second: PlainDatetime,
+    out: &mut [u8],
+    shape: u8,
+    uncertain: u8,
+    approximate: u8,
+) -> PlainWritten
+    ensures { λ r. ⌜ r ≡ plain.written (answer (levelPanics (back.dateOf (plain.parts shape uncertain approximate first second))) (levelText (back.dateOf (plain.parts shape uncertain approximate first second))) (length (now (out .entry)))) ⌝ }
+    ensures { λ r. ⌜ now (out .exit) ≡ afterwards (levelPanics (back.dateOf (plain.parts shape uncertain approximate first second))) (levelText (back.dateOf (plain.parts shape uncertain approximate first second))) (now (out .entry)) ⌝ }
+{
+    let d = date_of(PlainDate {
+        shape,
+        uncertain,
+        approximate,
+        first,
+        second,
+    });
+    plain_written(writer::write_level(d, out))
+}
+
+// How the first Datetime stands to the second: -1 less, 0 equal, 1 greater, 2 none of these; or the number of the refusal, if one has a season.
 #[no_mangle]
 pub extern "C" fn knobstream_compare(a: PlainDatetime, b: PlainDatetime) -> i32
-    ensures { λ r. ⌜ r ≡ plain.orderNumber (order (back.datetimeOf a) (back.datetimeOf b)) ⌝ }
+    ensures { λ r. ⌜ r ≡ plain.comparedNumber (partialCmp (back.datetimeOf a) (back.datetimeOf b)) ⌝ }
 {
     let x = datetime_of(a);
     let y = datetime_of(b);
-    plain_order(order::partial_cmp(x, y))
+    plain_compared(order::partial_cmp(x, y))
 }
 
 // The answer to a line of hexadecimal digits, as a line at the front of the lent buffer; without room for it nothing is stored.
 #[no_mangle]
 pub extern "C" fn knobstream_answer_frame(line: &[u8], out: &mut [u8]) -> PlainWritten
-    ensures { λ r. ⌜ r ≡ plain.written (answer false (answerLine (lineRead (now (line .entry)))) (length (now (out .entry)))) ⌝ }
-    ensures { λ r. ⌜ now (out .exit) ≡ afterwards false (answerLine (lineRead (now (line .entry)))) (now (out .entry)) ⌝ }
+    ensures { λ r. ⌜ r ≡ plain.written (answer false (lineAnswer (now (line .entry))) (length (now (out .entry)))) ⌝ }
+    ensures { λ r. ⌜ now (out .exit) ≡ afterwards false (lineAnswer (now (line .entry))) (now (out .entry)) ⌝ }
 {
     plain_written(frames::answer(line, out))
 }

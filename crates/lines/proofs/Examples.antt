@@ -7,8 +7,7 @@ use Rattle.chars.specs.Ascii.{ascii}
 use Rattle.refusals.specs.Refusal.{refusal}
 use Rattle.hexes.specs.Hex.{isHex, allDigits}
 use Rattle.answers.specs.Answer.{answerLine, refusedBytes, hexText, glyph}
-use Rattle.frames.specs.Frame.{lineRead, frameRead, asked, formed}
-use Rattle.lines.specs.Frames.{lineAnswer}
+use Rattle.frames.specs.Frame.{asked, formed, frameRead, lineBy, frameAnswer, lineAnswer}
 use Rattle.lines.specs.Lines.{linesFrom, restFrom, answersTo, lastAnswer, answersOf}
 
 -- a line answered by itself in brackets
@@ -37,5 +36,5 @@ whole-lines = refl
 
 -- an empty line is no frame
 pub no-frame : answersOf lineAnswer (10 ∷ []) ≡ ascii "0e00000000000000000000000000000000" ++ (10 ∷ [])
-unfolding answersOf answersTo lastAnswer linesFrom restFrom pick lineAnswer lineRead isHex allDigits frameRead asked formed refusal answerLine refusedBytes hexText glyph
+unfolding answersOf answersTo lastAnswer linesFrom restFrom pick lineAnswer frameAnswer lineBy isHex allDigits frameRead asked formed refusal answerLine refusedBytes hexText glyph
 no-frame = refl

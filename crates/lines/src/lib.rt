@@ -6,7 +6,8 @@ ghost use lib.ListN.{length, drop};
 ghost use Rattle.writer.specs.Answers as writing;
 ghost use Rattle.lines.specs.Lines as spec;
 ghost use Rattle.lines.specs.Steps.{Replied, nextAnswer, takenAt, Stepped, Finished};
-ghost use Rattle.lines.specs.Frames.{lineAnswer, longAnswer};
+ghost use Rattle.frames.specs.Frame.{lineAnswer};
+ghost use Rattle.lines.specs.Frames.{longAnswer};
 use writer::Written;
 
 // A line of more bytes is no frame: it is dropped as it is read, and refused.

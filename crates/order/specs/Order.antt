@@ -1,5 +1,5 @@
 -- The order of Datetimes and of times, as the ported code has it. Four answers: less, equal, greater, none.
-use mathlib.Core.Bool.{Bool, true, false}
+use mathlib.Core.Bool.{Bool, true, false, _||_}
 use mathlib.Core.Option.{Option, none, some}
 use lib.IntN.{ℤ, pos}
 use lib.Signed.{ltZ}
@@ -15,8 +15,13 @@ use Rattle.dates.specs.declared.OptionOffset.the-variants.{NoOffset, SomeOffset
 use Rattle.dates.specs.declared.Time.{Time}
 use Rattle.dates.specs.declared.Datetime.{Datetime}
 use Rattle.dates.specs.Time.{utcSeconds}
+use Rattle.dates.specs.Value.{hasSeason}
+use Rattle.refusals.specs.declared.Kind.the-variants.{HasSeason}
+use Rattle.refusals.specs.Refusal.{fileSpan, refusal}
 use Rattle.order.specs.declared.Order.{Order}
 use Rattle.order.specs.declared.Order.the-variants.{Less, Equal, Greater, None}
+use Rattle.order.specs.declared.Compared.{Compared}
+use Rattle.order.specs.declared.Compared.the-variants.{Stands, Refused}
 
 -- two numbers are never without an order
 unfoldable pub number : ℤ → ℤ → Order
@@ -77,3 +82,11 @@ fromMonth a b = both (monthOf (a .month)) (monthOf (b .month)) λ m n. inTurn (n
 -- year, month, day, time in turn
 unfoldable pub order : Datetime → Datetime → Order
 order a b = inTurn (number (a .year) (b .year)) (fromMonth a b)
+
+-- a date with a season is not compared
+unfoldable pub seasoned : Compared
+seasoned = Refused (refusal HasSeason (fileSpan 0 0))
+
+-- the comparison: HasSeason if either has a season, else the order, which looks at none
+unfoldable pub partialCmp : Datetime → Datetime → Compared
+partialCmp a b = pick (hasSeason a || hasSeason b) seasoned (Stands (order a b))

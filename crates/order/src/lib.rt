@@ -8,6 +8,9 @@ use dates::OptionMonth;
 use dates::OptionOffset;
 use dates::OptionTime;
 use dates::Time;
+use refusals::FileSpan;
+use refusals::Kind;
+use refusals::Refusal;
 
 // How the first stands to the second.
 pub enum Order {
@@ -16,6 +19,12 @@ pub enum Order {
     Greater,
     // Neither is before the other, and they are not equal.
     None,
+}
+
+// How the first stands to the second, or why they are not compared.
+pub enum Compared {
+    Stands(Order),
+    Refused(Refusal),
 }
 
 // Two numbers are never without an order.
@@ -138,7 +147,7 @@ fn from_month(a: Datetime, b: Datetime) -> Order
 }
 
 // Dates: year, month, day, time in turn.
-pub fn partial_cmp(a: Datetime, b: Datetime) -> Order
+fn from_year(a: Datetime, b: Datetime) -> Order
     ensures { λ r. ⌜ r ≡ spec.order a b ⌝ }
 {
     match cmp_year(a.year, b.year) {
@@ -147,4 +156,24 @@ pub fn partial_cmp(a: Datetime, b: Datetime) -> Order
         Order::Greater => Order::Greater,
         Order::None => Order::None,
     }
+}
+
+// The refusal of a date with a season.
+fn has_season() -> Compared
+    ensures { λ r. ⌜ r ≡ spec.seasoned ⌝ }
+{
+    Compared::Refused(refusals::refuse(Kind::HasSeason, FileSpan(0, 0)))
+}
+
+// Dates: refused if either has a season.
+pub fn partial_cmp(a: Datetime, b: Datetime) -> Compared
+    ensures { λ r. ⌜ r ≡ spec.partialCmp a b ⌝ }
+{
+    if a.has_season() {
+        return has_season();
+    }
+    if b.has_season() {
+        return has_season();
+    }
+    Compared::Stands(from_year(a, b))
 }

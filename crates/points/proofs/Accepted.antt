@@ -1,6 +1,6 @@
 -- What the reader accepts: a year from -9999 to 9999, a month of twelve, a day within its month, and a time in its ranges or none.
 -- Assumes nothing.
-use mathlib.Core.Path.{_≡_, subst}
+use mathlib.Core.Path.{_≡_, refl, subst}
 use mathlib.Core.List.{List}
 use Prim.Native.Nat.{ℕ, _+_, _^_, _≤_, _<_}
 use native.Mathlib.Omega.{arith}
@@ -25,6 +25,7 @@ use Rattle.dates.specs.declared.OptionMonth.{OptionMonth}
 use Rattle.dates.specs.declared.OptionMonth.the-variants.{SomeMonth}
 use Rattle.dates.specs.declared.OptionDay.{OptionDay}
 use Rattle.dates.specs.declared.OptionTime.the-variants.{NoTime}
+use Rattle.dates.specs.declared.OptionSeason.the-variants.{NoSeason}
 use Rattle.dates.specs.declared.Datetime.{Datetime}
 use Rattle.points.specs.Step.{monthAt, dayAt, hyphenAt, onPart, onSeparator, orEnd}
 use Rattle.points.specs.Time.{timeAt}
@@ -44,6 +45,7 @@ use Rattle.points.proofs.Ranges.{PartIn, part, nopart, part-in, windowe
 pub record Dated (d : Datetime) : Type 0 where
   pub year-in : natAbs (d .year) < 10000
   pub parts-in : PartsIn (d .year) (d .month) (d .day)
+  pub unseasoned : d .season ≡ NoSeason
 
 data Good : ReadPoint → Type 0 where
   good : {d : Datetime} → Dated d → Good (Point d)
@@ -99,7 +101,7 @@ or-end s at w g = by-test Good _ (λ _. good w) (λ _. g (eatWhile Whitespace s 
 module _ (y : ℤ) (m : OptionMonth) (d : OptionDay) (h : natAbs y < 10000) (l : PartsIn y m d) where
   time-good : (r : ReadTime) → Good (withTime y m d r)
   unfolding withTime
-  time-good (Clock t) = good (record { year-in = h; parts-in = l })
+  time-good (Clock t) = good (record { year-in = h; parts-in = l; unseasoned = refl })
   time-good (NoClock e) = refused
 
   or-good : (s : List ℕ) (a : ℕ) (r : EatIf) → Good (timeOr s a y m d r)
@@ -109,12 +111,12 @@ module _ (y : ℤ) (m : OptionMonth) (d : OptionDay) (h : natAbs y < 10000) (l :
 
   day-good : (s : List ℕ) (at : ℕ) → Good (behindDay s at y m d)
   unfolding behindDay
-  day-good s at = or-end s at (record { year-in = h; parts-in = l }) λ a. or-good s a (eatIf (Is 0x54) s a)
+  day-good s at = or-end s at (record { year-in = h; parts-in = l; unseasoned = refl }) λ a. or-good s a (eatIf (Is 0x54) s a)
 
 month-good : (s : List ℕ) (at : ℕ) (y : ℤ) (m : Month) → natAbs y < 10000 → m .0 < 12 → Good (behindMonth s at y m)
 unfolding behindMonth dayAt
 month-good s at y m h l =
-    or-end s at (record { year-in = h; parts-in = l }) λ a.
+    or-end s at (record { year-in = h; parts-in = l; unseasoned = refl }) λ a.
     on-separator (hyphenAt s a) λ b.
     on-part (part-in s b 1 31 DayOutOfRange) λ d next _.
     by-test Good _ (λ t. day-good y (SomeMonth m) (day d) h (l, ltb-true d (monthLength (m .0) y) t) s next) (λ _. refused)
@@ -122,7 +124,7 @@ month-good s at y m h l =
 year-good : (s : List ℕ) (at : ℕ) (y : ℤ) → natAbs y < 10000 → Good (behindYear s at y)
 unfolding behindYear monthAt
 year-good s at y h =
-    or-end s at (record { year-in = h; parts-in = tt }) λ a.
+    or-end s at (record { year-in = h; parts-in = tt; unseasoned = refl }) λ a.
     on-separator (hyphenAt s a) λ b.
     on-part (part-in s b 1 12 MonthOutOfRange) λ m next l.
     month-good s next y (record { 0 = m }) h (omega (arith, l))
@@ -136,4 +138,4 @@ accepted-date s e = of-good (subst Good e (on-year (year-in s 0) λ y next h. ye
 
 -- every Datetime that the reader gives can be written and read back, if it has no time
 pub accepted : (s : List ℕ) {d : Datetime} → point s ≡ Point d → d .time ≡ NoTime → EndIn d
-accepted s e t = let g = accepted-date s e in record { year-in = g .year-in; parts-in = g .parts-in; untimed = t }
+accepted s e t = let g = accepted-date s e in record { year-in = g .year-in; parts-in = g .parts-in; untimed = t; unseasoned = g .unseasoned }

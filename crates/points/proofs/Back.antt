@@ -22,6 +22,7 @@ use Rattle.numbers.proofs.Reading.{bytes, value, AreDigits, Behind, end, digit-
 use Rattle.dates.specs.Calendar.{monthLength}
 use Rattle.dates.specs.Domain.{PartsIn, EndIn}
 use Rattle.dates.proofs.Lengths.{length-most}
+use Rattle.dates.proofs.Whole.{three-parts}
 use Rattle.dates.specs.Value.{day, datetime}
 use Rattle.dates.specs.declared.Month.{Month}
 use Rattle.dates.specs.declared.OptionMonth.{OptionMonth}
@@ -210,7 +211,7 @@ point-back d w =
     let f = from-start (written d) in
     on-year (written d) (year-read y (w .year-in) (behind-tail (d .month) (d .day)) f)
     ∙ tail-read y (d .month) (d .day) (w .parts-in) (from-behind (yearBytes y) f)
-    ∙ ap (λ (t : OptionTime). Point (datetime y (d .month) (d .day) t)) (sym (w .untimed))
+    ∙ ap (λ (a : Datetime). Point a) (three-parts d w)
 
 -- a written point with a day that its month does not have is refused, from its start to its end
 pub point-past : (y : ℤ) (m d : ℕ) → natAbs y < 10000 → m < 12 → d < 31 → monthLength m y ≤ d → point (yearBytes y ++ (partBytes m ++ partBytes d)) ≡ Refused (textRefusal DayOutOfRange 0 (length (yearBytes y) + 6))

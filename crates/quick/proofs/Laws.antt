@@ -123,7 +123,7 @@ module _ (s : List ℕ) where
   year-said n h =
       record {
         text-is = year-text (omega arith) h ∙ ap (λ (t : List ℕ). digits 4 (yearOf s) ++ t) (ended 4 n);
-        end-in = record { year-in = h; parts-in = tt; untimed = refl };
+        end-in = record { year-in = h; parts-in = tt; untimed = refl; unseasoned = refl };
       }
 
   month-said : length s ≡ 7 → yearOf s < 10000 → partAt s 4 < 12 → Said s (datetime (pos (yearOf s)) (month (partAt s 4)) NoDay NoTime)
@@ -133,7 +133,7 @@ module _ (s : List ℕ) where
         text-is =
             year-text (omega arith) h
             ∙ ap (λ (t : List ℕ). digits 4 (yearOf s) ++ t) (part-text 4 (omega arith) (omega arith) ∙ ap (λ (t : List ℕ). partText (partAt s 4) ++ t) (ended 7 n));
-        end-in = record { year-in = h; parts-in = m; untimed = refl };
+        end-in = record { year-in = h; parts-in = m; untimed = refl; unseasoned = refl };
       }
 
   day-said : length s ≡ 10 → yearOf s < 10000 → partAt s 4 < 12 → partAt s 7 < monthLength (partAt s 4) (pos (yearOf s))
@@ -147,7 +147,7 @@ module _ (s : List ℕ) where
             ∙ ap (λ (t : List ℕ). digits 4 (yearOf s) ++ t)
             (part-text 4 (omega arith) (omega arith)
             ∙ ap (λ (t : List ℕ). partText (partAt s 4) ++ t) (part-text 7 (omega arith) (omega (arith, l, d)) ∙ ap (λ (t : List ℕ). partText (partAt s 7) ++ t) (ended 10 n) ∙ no-more (partText (partAt s 7))));
-        end-in = record { year-in = h; parts-in = (m, d); untimed = refl };
+        end-in = record { year-in = h; parts-in = (m, d); untimed = refl; unseasoned = refl };
       }
     where
       no-more : (t : List ℕ) → t ++ [] ≡ t

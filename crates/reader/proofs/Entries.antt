@@ -18,7 +18,9 @@ use Rattle.chunks.proofs.Room.{room-bound}
 use Rattle.datefield.specs.declared.ReadDate.the-variants.{Refused}
 use Rattle.datefield.specs.Value.{parseText}
 use Rattle.strict.specs.Matcher.{strict}
-use Rattle.reader.specs.Field.{onClean, parsed, strictly, parsedStrict}
+use Rattle.strict.specs.LevelMatcher.{level}
+use Rattle.reader.specs.Field.{onClean, parsed, strictly, parsedStrict, leveled, parsedLevelOne}
+use Rattle.reader.specs.Readable.{matchBy, parsedBy}
 
 -- a short list has room in a small array, and any list within the limits in the large one
 pub small-room : (b table : List ℕ) → length b ≤ 56 → length table ≤ 16 → isShort b table ≡ true → roomOf b table ≤ 64
@@ -45,10 +47,19 @@ module _ (b table : List ℕ) where
   unfolding parsed onClean
   parsed-faulty c = rw c
 
-  pub strict-clean : checked b table ≡ Clean → {t : List ℕ} → t ≡ textOf false b table → strictly (strict t) ≡ parsedStrict b table
-  unfolding parsedStrict onClean
-  strict-clean c e = rw (c, e, plain-as-is b table {u = false} refl)
+  pub exact-clean : (one : Bool) → checked b table ≡ Clean → {t : List ℕ} → t ≡ textOf false b table → matchBy one t ≡ parsedBy one b table
+  unfolding parsedBy onClean
+  exact-clean one c e = rw (c, e, plain-as-is b table {u = false} refl)
 
-  pub strict-faulty : {f : Refusal} → checked b table ≡ Faulty f → Refused f ≡ parsedStrict b table
-  unfolding parsedStrict onClean
-  strict-faulty c = rw c
+  pub exact-faulty : (one : Bool) {f : Refusal} → checked b table ≡ Faulty f → Refused f ≡ parsedBy one b table
+  unfolding parsedBy onClean
+  exact-faulty one c = rw c
+
+  -- by each of the two grammars
+  pub strict-clean : checked b table ≡ Clean → {t : List ℕ} → t ≡ textOf false b table → strictly (strict t) ≡ parsedStrict b table
+  unfolding matchBy parsedBy parsedStrict
+  strict-clean c e = exact-clean false c e
+
+  pub level-clean : checked b table ≡ Clean → {t : List ℕ} → t ≡ textOf false b table → leveled (level t) ≡ parsedLevelOne b table
+  unfolding matchBy parsedBy parsedLevelOne
+  level-clean c e = exact-clean true c e

@@ -1,7 +1,7 @@
--- A chunk list as a date field: what the ported reader and the strict reader say of it.
+-- A chunk list as a date field: what the ported reader, the strict reader and the one of level one say of it.
 use Prim.Native.Nat.{ℕ}
 use mathlib.Core.List.{List}
-use Rattle.refusals.specs.declared.Kind.the-variants.{NotStrict}
+use Rattle.refusals.specs.declared.Kind.the-variants.{NotStrict, NotLevelOne}
 use Rattle.refusals.specs.Refusal.{fileSpan, refusal}
 use Rattle.chunks.specs.declared.Checked.{Checked}
 use Rattle.chunks.specs.declared.Checked.the-variants.{Clean, Faulty}
@@ -15,6 +15,7 @@ use Rattle.datefield.specs.Value.{parseText}
 use Rattle.strict.specs.declared.Matched.{Matched}
 use Rattle.strict.specs.declared.Matched.the-variants.{Strict, NotStrict as NoMatch}
 use Rattle.strict.specs.Matcher.{strict}
+use Rattle.strict.specs.LevelMatcher.{level}
 
 -- a list without a fault is read; else the fault is the answer
 unfoldable pub onClean : Checked → ReadDate → ReadDate
@@ -33,3 +34,12 @@ strictly NoMatch = Refused (refusal NotStrict (fileSpan 0 0))
 -- the strict reader: the formatted text as it is
 unfoldable pub parsedStrict : List ℕ → List ℕ → ReadDate
 parsedStrict b table = onClean (checked b table) (strictly (strict (formatted b table)))
+
+-- what the matcher of level one says, likewise
+unfoldable pub leveled : Matched → ReadDate
+leveled (Strict d) = Accepted d
+leveled NoMatch = Refused (refusal NotLevelOne (fileSpan 0 0))
+
+-- the reader of level one: the formatted text as it is
+unfoldable pub parsedLevelOne : List ℕ → List ℕ → ReadDate
+parsedLevelOne b table = onClean (checked b table) (leveled (level (formatted b table)))

@@ -1,4 +1,4 @@
-// The readers over chunk lists: a date field by the ported reader and by the strict one.
+// The readers over chunk lists: a date field by the ported reader, by the strict one and by the one of level one.
 // No call keeps anything, and no refusal changes a lent byte: the lists are lent for reading only.
 ghost use mathlib.Core.Path.{_≡_};
 ghost use mathlib.Core.Bool.{true};
@@ -15,6 +15,7 @@ ghost use Rattle.fields.specs.Day.{dayField};
 ghost use Rattle.reader.specs.Field as field;
 ghost use Rattle.reader.specs.Fields as fieldset;
 ghost use Rattle.reader.specs.Readable.{Readable, Small};
+ghost use Rattle.reader.specs.Readable as exact;
 use chunks::Checked;
 use chunks::Formatted;
 use datefield::ReadDate;
@@ -80,29 +81,66 @@ fn strictly(m: Matched) -> ReadDate
     }
 }
 
-// A date field by the strict grammar, formatted into a buffer with room for it.
-fn parse_strict_in(bytes: &[u8], table: &[u64], buf: &mut [u8]) -> ReadDate
+// What the matcher of level one says.
+fn leveled(m: Matched) -> ReadDate
+    ensures { λ r. ⌜ r ≡ field.leveled m ⌝ }
+{
+    match m {
+        Matched::Strict(d) => ReadDate::Accepted(d),
+        Matched::NotStrict => ReadDate::Refused(refusals::refuse(
+            Kind::NotLevelOne,
+            FileSpan(0, 0),
+        )),
+    }
+}
+
+// A text by the grammar of level one or by the strict one.
+fn match_by(level: bool, s: &[u8]) -> ReadDate
+    ensures { λ r. ⌜ r ≡ exact.matchBy level (now (s .entry)) ⌝ }
+{
+    if level {
+        return leveled(strict::match_level(s));
+    }
+    strictly(strict::match_text(s))
+}
+
+// A date field by one of the grammars, formatted into a buffer with room for it.
+fn parse_by_in(level: bool, bytes: &[u8], table: &[u64], buf: &mut [u8]) -> ReadDate
     requires { ⌜ (isShort (now bytes) (now table) ≡ true → roomOf (now bytes) (now table) ≤ length (now buf)) ⌝ }
-    ensures { λ r. ⌜ r ≡ field.parsedStrict (now (bytes .entry)) (now (table .entry)) ⌝ }
+    ensures { λ r. ⌜ r ≡ exact.parsedBy level (now (bytes .entry)) (now (table .entry)) ⌝ }
 {
     match chunks::format_verbatim(bytes, table, buf) {
-        Formatted::Text(n) => strictly(strict::match_text(&buf[..n])),
+        Formatted::Text(n) => match_by(level, &buf[..n]),
         Formatted::Refused(e) => ReadDate::Refused(e),
     }
 }
 
-// A date field by the strict grammar: neither trimmed nor in upper case.
-pub fn parse_strict(bytes: &[u8], table: &[u64]) -> ReadDate
-    ensures { λ r. ⌜ r ≡ field.parsedStrict (now (bytes .entry)) (now (table .entry)) ⌝ }
+// A date field by one of the grammars: neither trimmed nor in upper case.
+fn parse_by(level: bool, bytes: &[u8], table: &[u64]) -> ReadDate
+    ensures { λ r. ⌜ r ≡ exact.parsedBy level (now (bytes .entry)) (now (table .entry)) ⌝ }
 {
     if bytes.len() <= 56 {
         if table.len() <= 16 {
             let mut small = [0u8; 64];
-            return parse_strict_in(bytes, table, &mut small);
+            return parse_by_in(level, bytes, table, &mut small);
         }
     }
     let mut buf = [0u8; 4224];
-    parse_strict_in(bytes, table, &mut buf)
+    parse_by_in(level, bytes, table, &mut buf)
+}
+
+// A date field by the strict grammar.
+pub fn parse_strict(bytes: &[u8], table: &[u64]) -> ReadDate
+    ensures { λ r. ⌜ r ≡ field.parsedStrict (now (bytes .entry)) (now (table .entry)) ⌝ }
+{
+    parse_by(false, bytes, table)
+}
+
+// A date field by the grammar of level one.
+pub fn parse_level_one(bytes: &[u8], table: &[u64]) -> ReadDate
+    ensures { λ r. ⌜ r ≡ field.parsedLevelOne (now (bytes .entry)) (now (table .entry)) ⌝ }
+{
+    parse_by(true, bytes, table)
 }
 
 // The checks of three lists: each that is present in full, year, month, day, before any is read.

@@ -3,7 +3,7 @@ use Prim.Native.Nat.{ℕ}
 use mathlib.Core.Bool.{Bool, true, false}
 use Rattle.chars.specs.Pick.{pick}
 use Rattle.refusals.specs.declared.Kind.{Kind}
-use Rattle.refusals.specs.declared.Kind.the-variants.{UndefinedRange, DayOutOfRange, MonthOutOfRange, InvalidNumber, MissingNumber, WrongNumberOfDigits, InvalidFormat, YearZeroCE, RustPanics, BadUtf8, UnsupportedChar, NotStrict, NoRoom, BadFrame, BadChunks, TooLong, NotACalendarDate, BadPeriod, DuplicateEntry, ChronologyFull, UnknownEntry, BadTime, NoInstant, BadChronology}
+use Rattle.refusals.specs.declared.Kind.the-variants.{UndefinedRange, DayOutOfRange, MonthOutOfRange, InvalidNumber, MissingNumber, WrongNumberOfDigits, InvalidFormat, YearZeroCE, RustPanics, BadUtf8, UnsupportedChar, NotStrict, NoRoom, BadFrame, BadChunks, TooLong, NotACalendarDate, BadPeriod, DuplicateEntry, ChronologyFull, UnknownEntry, BadTime, NotLevelOne, HasSeason, NoInstant, BadChronology}
 use Rattle.refusals.specs.declared.FileSpan.{FileSpan}
 use Rattle.refusals.specs.declared.Refusal.{Refusal}
 
@@ -31,6 +31,8 @@ number DuplicateEntry = 19
 number ChronologyFull = 20
 number UnknownEntry = 21
 number BadTime = 22
+number NotLevelOne = 23
+number HasSeason = 24
 number NoInstant = 25
 number BadChronology = 26
 
@@ -58,6 +60,8 @@ hasPlace DuplicateEntry = false
 hasPlace ChronologyFull = false
 hasPlace UnknownEntry = false
 hasPlace BadTime = false
+hasPlace NotLevelOne = false
+hasPlace HasSeason = false
 hasPlace NoInstant = false
 hasPlace BadChronology = false
 

@@ -51,6 +51,10 @@ pub enum Kind {
     UnknownEntry,
     // A time without a day beside a month, or one that no clock shows, or whose offset none has.
     BadTime,
+    // The text is not one of level one.
+    NotLevelOne,
+    // A date has a season, which this call does not know.
+    HasSeason,
     // A day, a time or its offset is absent, so there is no instant.
     NoInstant,
     // What was lent is no chronology.
@@ -119,6 +123,8 @@ pub fn number(kind: Kind) -> u8
         Kind::ChronologyFull => 20,
         Kind::UnknownEntry => 21,
         Kind::BadTime => 22,
+        Kind::NotLevelOne => 23,
+        Kind::HasSeason => 24,
         Kind::NoInstant => 25,
         Kind::BadChronology => 26,
     }

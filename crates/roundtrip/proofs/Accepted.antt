@@ -83,7 +83,7 @@ halves-good span s slash =
 
 -- a date of a year without a sign, and no time
 pub dated : (y : ℕ) (m : OptionMonth) (d : OptionDay) → y < 10000 → PartsIn (pos y) m d → Dated (datetime (pos y) m d NoTime)
-dated y m d h p = record { year-in = h; parts-in = p }
+dated y m d h p = record { year-in = h; parts-in = p; unseasoned = refl }
 
 -- an X range
 range-known : {a b : Datetime} → XRange a b → Known (Between a b)
@@ -128,7 +128,7 @@ of-fine : {d : Date} → Fine (Accepted d) → Known (d .value)
 of-fine (fine h) = h
 
 end-in : {d : Datetime} → Dated d → d .time ≡ NoTime → EndIn d
-end-in w t = record { year-in = w .year-in; parts-in = w .parts-in; untimed = t }
+end-in w t = record { year-in = w .year-in; parts-in = w .parts-in; untimed = t; unseasoned = w .unseasoned }
 
 -- without a time it is of the domain
 pub in-domain : (v : DateValue) → AllDated v → Untimed v → InDomain v

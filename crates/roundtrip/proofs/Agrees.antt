@@ -57,7 +57,7 @@ two-in n = each-bytes value-digit (two n) (two-digits n)
 four-in : (n : ℕ) → Each InValue (digits 4 n)
 four-in n = each-bytes value-digit (four n) (four-digits n)
 
-unknown-text : {s : List ℕ} {v : DateValue} → Unknown s v → ValueText s
+pub unknown-text : {s : List ℕ} {v : DateValue} → Unknown s v → ValueText s
 unknown-text (ddXX n h) = record { in-value = each-append (two-in n) (more x-in (more x-in none)); some = omega arith; short = omega arith }
 unknown-text (dddX n h) =
     record { in-value = each-append (each-bytes value-digit (three n) (four-digits n .1)) (more x-in none); some = omega arith; short = omega arith }
@@ -122,6 +122,20 @@ unfolding parsedStrict
 derivation b table {d} e =
     let s = formatted b table in
     exact s d .0 (matched-is (strict s) (clean-read (checked b table) {q = strictly (strict s)} e .0))
+
+-- such a list has no fault, and a list without one is read by what its text derives
+is-clean : (c : Checked) (r : ReadDate) {d : Date} → onClean c r ≡ Accepted d → c ≡ Clean
+unfolding onClean
+is-clean Clean r e = refl
+is-clean (Faulty x) r e = let z : _≡_ {A = ℕ} 0 1 = cc in absurd (omega arith)
+
+pub strict-clean-list : (b table : List ℕ) {d : Date} → parsedStrict b table ≡ Accepted d → checked b table ≡ Clean
+unfolding parsedStrict
+strict-clean-list b table e = is-clean (checked b table) (strictly (strict (formatted b table))) e
+
+pub strict-read : (b table : List ℕ) {d : Date} → checked b table ≡ Clean → Text (formatted b table) d → parsedStrict b table ≡ Accepted d
+unfolding parsedStrict onClean strictly
+strict-read b table {d} c t = rw (c, exact (formatted b table) d .1 t)
 
 -- for every chunk list: what the strict reader accepts, the ported reader accepts with the same Date, or with the 31st as its end
 pub agrees : (b table : List ℕ) {d : Date} → parsedStrict b table ≡ Accepted d → Both (formatted b table) d (parsed b table)

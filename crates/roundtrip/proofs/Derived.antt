@@ -54,7 +54,7 @@ pub canonical-is : (d : Datetime) → EndIn d → datetimeText d ≡ canonical d
 unfolding canonical
 canonical-is d w = text-is d w ∙ rw (year-same (d .year), tail-same (d .month) (d .day))
 
-end-derived : (d : Datetime) → EndIn d → Point (datetimeText d) d
+pub end-derived : (d : Datetime) → EndIn d → Point (datetimeText d) d
 end-derived d w = subst (λ (s : List ℕ). Point s d) (sym (canonical-is d w)) (derived d w)
 
 value-derived : (v : DateValue) → InDomain v → Value Point (valueText v) v

@@ -16,3 +16,7 @@ pub mod Agrees
 pub mod Strictly
 pub mod Narrow
 pub mod Theorems
+pub mod LevelRead
+pub mod LevelBack
+pub mod Seasons
+pub mod LevelExamples

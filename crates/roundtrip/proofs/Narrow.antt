@@ -1,12 +1,13 @@
 -- What a reader accepts, whatever its time, has at every end a year of four digits and a month and a day of two, so that its text is short.
 -- Assumes nothing.
-use mathlib.Core.Path.{_≡_, subst}
+use mathlib.Core.Path.{_≡_, refl, ap, subst}
 use mathlib.Core.Bool.{Bool}
 use mathlib.Core.List.{List}
 use mathlib.Core.Logic.{⊎-elim}
-use Prim.Native.Nat.{ℕ}
+use Prim.Native.Nat.{ℕ, _≤_}
 use native.Mathlib.Omega.{arith}
 use lib.IntN.{ℤ}
+use lib.ListN.{length}
 use Rattle.dates.specs.declared.OptionMonth.{OptionMonth}
 use Rattle.dates.specs.declared.OptionMonth.the-variants.{NoMonth, SomeMonth}
 use Rattle.dates.specs.declared.OptionDay.{OptionDay}
@@ -16,18 +17,22 @@ use Rattle.dates.specs.declared.DateValue.{DateValue}
 use Rattle.dates.specs.declared.DateValue.the-variants.{At, After, Before, Between}
 use Rattle.dates.specs.declared.Date.{Date}
 use Rattle.dates.specs.Domain.{PartsIn}
+use Rattle.dates.specs.Value.{isSeason}
 use Rattle.dates.proofs.Lengths.{length-most}
 use Rattle.points.proofs.Accepted.{Dated}
 use Rattle.months.proofs.Named.{MonthBelow}
 use Rattle.fields.proofs.Ranges.{DayBelow}
 use Rattle.datefield.specs.declared.ReadDate.the-variants.{Accepted}
-use Rattle.reader.specs.Field.{parsed, parsedStrict}
+use Rattle.reader.specs.Field.{parsed, parsedStrict, parsedLevelOne}
 use Rattle.reader.specs.Fields.{threeFields}
 use Rattle.reader.proofs.Stored.{FieldsIn, fields, three-in}
+use Rattle.writer.specs.Level.{levelText}
 use Rattle.writer.proofs.Bounds.{MonthUnder, DayUnder, Narrow, NarrowEnds}
+use Rattle.writer.proofs.Levels.{LevelNarrow, narrow, seasoned, long, level-short}
 use Rattle.roundtrip.specs.Domain.{ShortMonthRange, days-xx}
 use Rattle.roundtrip.proofs.Accepted.{AllDated, accepted-known}
 use Rattle.roundtrip.proofs.Strictly.{strict-dated}
+use Rattle.roundtrip.proofs.LevelRead.{Given, on-calendar, in-season, long-year, level-given, each-end}
 
 -- a date of the calendar
 parts-narrow : (y : ℤ) (m : OptionMonth) (d : OptionDay) → PartsIn y m d → MonthUnder 99 m × DayUnder 99 d
@@ -71,6 +76,15 @@ parsed-narrow b table {d} e = ⊎-elim (λ w. all-narrow (d .value) w) (λ r. sh
 -- by the strict reader
 pub strict-narrow : (b table : List ℕ) {d : Date} → parsedStrict b table ≡ Accepted d → NarrowEnds (d .value)
 strict-narrow b table {d} e = all-narrow (d .value) (strict-dated b table e)
+
+-- by the reader of level one: what is written of it is as short
+given-narrow : (a : Datetime) → Given a → LevelNarrow a
+given-narrow a (on-calendar w) = narrow (ap isSeason (w .unseasoned)) (dated-narrow a w)
+given-narrow a (in-season h e) = seasoned e h
+given-narrow a (long-year h k) = long refl refl k
+
+pub level-narrow : (b table : List ℕ) {d : Date} → parsedLevelOne b table ≡ Accepted d → length (levelText d) ≤ 24
+level-narrow b table {d} e = level-short d (each-end given-narrow (d .value) (level-given b table e))
 
 -- as three fields
 pub three-narrow : (b table : List ℕ) (hm : Bool) (m mt : List ℕ) (hd : Bool) (dy dt : List ℕ) {d : Date} → threeFields b table hm m mt hd dy dt ≡ Accepted d → NarrowEnds (d .value)

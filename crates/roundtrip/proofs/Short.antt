@@ -43,7 +43,7 @@ short-value span (days-xx y m h l n) =
     let a = datetime (pos y) (month m) (day 0) NoTime in
     let b = datetime (pos y) (month m) (day 30) NoTime in
     rw (text-short a h (l, lit< tt), text-short b h (l, lit< tt), append-assoc (written a) (47 ∷ []) (written b))
-    (second-refused span a b (record { year-in = h; parts-in = (l, some-day m (pos y) l); untimed = refl }) (point-past (pos y) m 30 h l (lit< tt) (omega arith)))
+    (second-refused span a b (record { year-in = h; parts-in = (l, some-day m (pos y) l); untimed = refl; unseasoned = refl }) (point-past (pos y) m 30 h l (lit< tt) (omega arith)))
 
 -- such a range is not of the domain
 pub short-out : {v : DateValue} → ShortMonthRange v → InDomain v → ⊥

@@ -26,11 +26,11 @@ use Rattle.roundtrip.specs.Domain.{InDomain, Untimed}
 use Rattle.roundtrip.proofs.Agrees.{derivation}
 use Rattle.roundtrip.proofs.Accepted.{AllDated, dated, in-domain}
 
-negated : (n : ℕ) → natAbs (negℤ (pos n)) ≡ n
+pub negated : (n : ℕ) → natAbs (negℤ (pos n)) ≡ n
 negated zero = refl
 negated (suc n) = refl
 
-year-in : {s : List ℕ} {y : ℤ} → Year s y → natAbs y < 10000
+pub year-in : {s : List ℕ} {y : ℤ} → Year s y → natAbs y < 10000
 year-in (dddd n h) = h
 year-in (-dddd n h) = rw (negated n) h
 
@@ -39,10 +39,10 @@ parts-in no-month = tt
 parts-in (-mm (field m h) no-day) = omega arith
 parts-in (-mm (field m h) (-dd (field d k) t)) = (omega arith, omega arith)
 
-point-dated : {s : List ℕ} {a : Datetime} → Point s a → Dated a
-point-dated (point y p) = record { year-in = year-in y; parts-in = parts-in p }
+pub point-dated : {s : List ℕ} {a : Datetime} → Point s a → Dated a
+point-dated (point y p) = record { year-in = year-in y; parts-in = parts-in p; unseasoned = refl }
 
-unknown-dated : {s : List ℕ} {v : DateValue} → Unknown s v → AllDated v
+pub unknown-dated : {s : List ℕ} {v : DateValue} → Unknown s v → AllDated v
 unfolding lastDay
 unknown-dated (ddXX n h) = (dated _ NoMonth NoDay (omega arith) tt, dated _ NoMonth NoDay (omega arith) tt)
 unknown-dated (dddX n h) = (dated _ NoMonth NoDay (omega arith) tt, dated _ NoMonth NoDay (omega arith) tt)

@@ -30,6 +30,7 @@ use Rattle.writer.specs.Texts.{partText, writtenMonth, writtenDay, dayParts, mo
 use Rattle.writer.specs.Fields.{partLines, endLines}
 use Rattle.dates.specs.Domain.{PartsIn, EndIn}
 use Rattle.dates.proofs.Lengths.{length-most}
+use Rattle.dates.proofs.Whole.{three-parts}
 use Rattle.roundtrip.specs.Domain.{oneChunk}
 use Rattle.roundtrip.specs.Fields.{hasMonth, hasDay, monthValue, dayValue, lineIf, linesOf, readBack}
 use Rattle.roundtrip.proofs.Bytes.{Piece, bytes-piece, point-clear, clear-text, clear-ascii}
@@ -92,7 +93,7 @@ module _ (ys ye ms me ds de : ℕ) where
   pub fields-back : (d : Datetime) → EndIn d → readBack d ys ye ms me ds de ≡ Accepted (fromDatetime d)
   fields-back d w =
       parts-back (d .year) (d .month) (d .day) (w .year-in) (w .parts-in)
-      ∙ ap (λ (t : OptionTime). Accepted (fromDatetime (datetime (d .year) (d .month) (d .day) t))) (sym (w .untimed))
+      ∙ ap (λ (a : Datetime). Accepted (fromDatetime a)) (three-parts d w)
 
 part-lines : (end : Bool) (y : ℤ) (m : OptionMonth) (d : OptionDay) → PartsIn y m d → partLines end (monthParts m d) ≡ lineIf (hasMonth m) end (109 ∷ 111 ∷ 110 ∷ 116 ∷ 104 ∷ 61 ∷ []) (monthValue m) ++ lineIf (hasDay d) end (100 ∷ 97 ∷ 121 ∷ 61 ∷ []) (dayValue d)
 unfolding partLines monthParts dayParts writtenMonth writtenDay pick

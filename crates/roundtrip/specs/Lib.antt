@@ -1,2 +1,3 @@
 pub mod Domain
 pub mod Fields
+pub mod Level

@@ -3,3 +3,4 @@ pub mod Filled
 pub mod Back
 pub mod Refusals
 pub mod Examples
+pub mod Seasons

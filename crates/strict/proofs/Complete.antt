@@ -85,7 +85,7 @@ module _ {r : List ℕ} (e : Ends r) {s : List ℕ} {at : ℕ} (y : ℤ) where
       record { place = o .place; left = o .left; reads = rw (field-at d (b ++ r) g (omega (arith, short m y)), o .reads) }
 
 module _ {r : List ℕ} (e : Ends r) {s : List ℕ} {at : ℕ} (y : ℤ) where
-  month-read : {t : List ℕ} {m : OptionMonth} {d : OptionDay} {c : OptionTime} → InYear y t m d c → From s at (t ++ r)
+  pub month-read : {t : List ℕ} {m : OptionMonth} {d : OptionDay} {c : OptionTime} → InYear y t m d c → From s at (t ++ r)
       → Before s r (λ n. behindYear s at y ≡ Upto (datetime y m d c) n)
   unfolding behindYear on
   month-read no-month f = record { place = at; left = f; reads = rw (no-field 45 1 12 f (e .dash)) }

@@ -10,3 +10,6 @@ pub mod Texts
 pub mod Exact
 pub mod Written
 pub mod Examples
+pub mod Runs
+pub mod Long
+pub mod Level

@@ -4,7 +4,8 @@ use mathlib.Core.Bool.{false}
 use Prim.Native.Nat.{ℕ}
 use Prim.Native.Char.{code}
 use mathlib.Core.List.{List}
-use lib.ListN.{drop}
+use lib.ListN.{getD, drop}
+use Rattle.chars.specs.Classes.{isAsciiDigit}
 use Rattle.dates.specs.declared.Datetime.{Datetime}
 use Rattle.strict.specs.declared.ReadPoint.{ReadPoint}
 use Rattle.strict.specs.declared.ReadPoint.the-variants.{Upto, NoPoint}
@@ -18,6 +19,7 @@ pub record Ends (r : List ℕ) : Type 0 where
   pub tee : is (code "T") r 0 ≡ false
   pub zed : is (code "Z") r 0 ≡ false
   pub plus : is (code "+") r 0 ≡ false
+  pub digit : isAsciiDigit (getD r 0 0) ≡ false
 
 -- a reader that goes as far as r, and says so of the place where r starts
 pub record Before (s r : List ℕ) (says : ℕ → Type 0) : Type 0 where

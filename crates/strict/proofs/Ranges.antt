@@ -36,7 +36,7 @@ no-xx : (l : List ℕ) → is 45 l 0 ≡ false → dashXX l ≡ false
 unfolding dashXX
 no-xx l h = rw h
 
-field-xx : {low high n : ℕ} {t : List ℕ} → Field 45 low high t n → (l : List ℕ) → dashXX (t ++ l) ≡ false
+pub field-xx : {low high n : ℕ} {t : List ℕ} → Field 45 low high t n → (l : List ℕ) → dashXX (t ++ l) ≡ false
 unfolding dashXX
 field-xx {low} (Grammar.field n h) l = rw (ne-eqb (48 + (low + n) / 10 % 10) 88 (λ e. omega arith))
 

@@ -93,10 +93,10 @@ module _ (s : List ℕ) where
       let o = time-taken (at + 3) in
       day-at (-dd (p .derived) (o .derived)) (joined (p .split) (o .split))
 
-  data MonthAt (at : ℕ) (y : ℤ) : ReadPoint → Type 0 where
+  pub data MonthAt (at : ℕ) (y : ℤ) : ReadPoint → Type 0 where
     month-at : {t : List ℕ} {m : OptionMonth} {d : OptionDay} {c : OptionTime} {next : ℕ} → InYear y t m d c → Split (drop at s) t (drop next s) → MonthAt at y (Upto (datetime y m d c) next)
 
-  month-taken : (at : ℕ) (y : ℤ) → MonthAt at y (behindYear s at y)
+  pub month-taken : (at : ℕ) (y : ℤ) → MonthAt at y (behindYear s at y)
   unfolding behindYear
   month-taken at y =
       by-two (MonthAt at y) (field 45 1 12 (drop at s)) (month-at no-month none-taken) λ m e.

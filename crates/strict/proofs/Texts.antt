@@ -29,13 +29,15 @@ use Rattle.strict.proofs.Ranges.{no-digit, unknown-read, Ranged, no-ran
 -- ---- what has a derivation is accepted
 
 mark-ends : {t : List ℕ} {u a : Bool} → Mark t u a → Ends t
-mark-ends no-mark = record { dash = refl; tee = refl; zed = refl; plus = refl }
-mark-ends uncertain = record { dash = refl; tee = refl; zed = refl; plus = refl }
-mark-ends approximate = record { dash = refl; tee = refl; zed = refl; plus = refl }
-mark-ends both = record { dash = refl; tee = refl; zed = refl; plus = refl }
+unfolding isAsciiDigit within
+mark-ends no-mark = record { dash = refl; tee = refl; zed = refl; plus = refl; digit = refl }
+mark-ends uncertain = record { dash = refl; tee = refl; zed = refl; plus = refl; digit = refl }
+mark-ends approximate = record { dash = refl; tee = refl; zed = refl; plus = refl; digit = refl }
+mark-ends both = record { dash = refl; tee = refl; zed = refl; plus = refl; digit = refl }
 
 slash-ends : (l : List ℕ) → Ends (code "/" ∷ l)
-slash-ends l = record { dash = refl; tee = refl; zed = refl; plus = refl }
+unfolding isAsciiDigit within
+slash-ends l = record { dash = refl; tee = refl; zed = refl; plus = refl; digit = refl }
 
 mark-slash : {t : List ℕ} {u a : Bool} → Mark t u a → is (code "/") t 0 ≡ false
 mark-slash no-mark = refl

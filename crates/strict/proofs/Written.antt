@@ -1,18 +1,18 @@
 -- A Datetime of the calendar without a time is derived from its text, and so is read back from it. Assumes nothing.
 use Prim.Native.Nat.{ℕ, suc, _<_}
 use native.Mathlib.Omega.{arith}
-use mathlib.Core.Path.{_≡_, sym, subst}
+use mathlib.Core.Path.{_≡_, subst}
 use mathlib.Core.List.{List, append-nil}
 use lib.IntN.{ℤ, pos, negsuc, natAbs}
 use Rattle.dates.specs.declared.OptionMonth.{OptionMonth}
 use Rattle.dates.specs.declared.OptionMonth.the-variants.{NoMonth, SomeMonth}
 use Rattle.dates.specs.declared.OptionDay.{OptionDay}
 use Rattle.dates.specs.declared.OptionDay.the-variants.{NoDay, SomeDay}
-use Rattle.dates.specs.declared.OptionTime.{OptionTime}
 use Rattle.dates.specs.declared.OptionTime.the-variants.{NoTime}
 use Rattle.dates.specs.declared.Datetime.{Datetime}
 use Rattle.dates.specs.Domain.{PartsIn, EndIn}
-use Rattle.dates.specs.Value.{datetime, fromDatetime}
+use Rattle.dates.specs.Value.{fromDatetime}
+use Rattle.dates.proofs.Whole.{three-parts}
 use Rattle.strict.specs.declared.Matched.the-variants.{Strict}
 use Rattle.strict.specs.Grammar.{Year, dddd, -dddd, field, no-time, no-day, -dd, InMonth, InYear, no-month, -mm, Point, point, alone, no-mark, Text, text}
 use Rattle.strict.specs.Matcher.{strict}
@@ -35,7 +35,7 @@ parts-derived y (SomeMonth m) (SomeDay d) h =
 pub derived : (d : Datetime) → EndIn d → Point (canonical d) d
 unfolding canonical
 derived d p =
-    subst (λ (t : OptionTime). Point (canonical d) (datetime (d .year) (d .month) (d .day) t)) (sym (p .untimed))
+    subst (λ (a : Datetime). Point (canonical d) a) (three-parts d p)
     (point (year-derived (d .year) (p .year-in)) (parts-derived (d .year) (d .month) (d .day) (p .parts-in)))
 
 -- it is read back

@@ -1,5 +1,5 @@
-// The strict reader: a text is taken as it stands, and has a Date exactly if the strict grammar derives it.
-// Every piece of the grammar has a fixed length, so a reader looks at fixed places behind where a point starts. A reader takes as much
+// The strict reader and the one of level one: a text is taken as it stands, and has a Date exactly if the grammar derives it.
+// Every piece of the strict grammar has a fixed length, so a reader looks at fixed places behind where a point starts. A reader takes as much
 // as the grammar lets it, and what may not follow is refused by the one that looks at what is left.
 use chars::byte_at;
 use chars::is_digit;
@@ -11,17 +11,20 @@ use dates::Month;
 use dates::OptionDay;
 use dates::OptionMonth;
 use dates::OptionOffset;
+use dates::OptionSeason;
 use dates::OptionTime;
 use dates::Time;
 use dates::TimeOffset;
 use dates::days_in_month;
 ghost use mathlib.Core.Path.{_≡_};
-ghost use Prim.Native.Nat.{_<_};
-ghost use lib.ListN.{drop};
+ghost use Prim.Native.Nat.{_^_, _≤_, _<_};
+ghost use lib.ListN.{take, drop};
 ghost use Rattle.strict.specs.Grammar as grammar;
 ghost use Rattle.strict.specs.Matcher as spec;
+ghost use Rattle.strict.specs.Level as levels;
+ghost use Rattle.strict.specs.LevelMatcher as matcher;
 
-// What the strict grammar says of a text.
+// What the strict grammar says of a text, or the one of level one.
 pub enum Matched {
     Strict(Date),
     NotStrict,
@@ -49,6 +52,12 @@ struct ReadOffset {
 struct ReadTime {
     time: OptionTime,
     next: usize,
+}
+
+// Digits, as far as they go or ten of them: how many, and the number that they write.
+struct ReadDigits {
+    count: usize,
+    number: u64,
 }
 
 // A point at the front of a text, as long as it goes, and the place behind it.
@@ -303,6 +312,130 @@ fn point(s: &[u8]) -> ReadPoint
     point_at(s, 0, false)
 }
 
+// The season of a number that is counted from 21.
+fn season_at(n: u8) -> OptionSeason
+    ensures { λ r. ⌜ r ≡ levels.seasonAt n ⌝ }
+{
+    match n {
+        0 => OptionSeason::Spring,
+        1 => OptionSeason::Summer,
+        2 => OptionSeason::Autumn,
+        _ => OptionSeason::Winter,
+    }
+}
+
+// Behind a year of four digits: -21 to -24 is a season, else what a strict point has.
+fn level_year(s: &[u8], at: usize, year: i32) -> ReadPoint
+    requires { ⌜ at < 50 ⌝ }
+    ensures { λ r. ⌜ r ≡ matcher.levelYear (now (s .entry)) at year ⌝ }
+{
+    match field_at(s, at, b'-', 21, 24) {
+        OptionTwo::NoTwo => behind_year(s, at, year),
+        OptionTwo::SomeTwo(n) => ReadPoint::Upto {
+            value: Datetime::of_season(year, season_at(n)),
+            next: at + 3,
+        },
+    }
+}
+
+// A point of level one whose four digits start at a place.
+fn level_at(s: &[u8], at: usize, negative: bool) -> ReadPoint
+    requires { ⌜ at < 2 ⌝ }
+    ensures { λ r. ⌜ r ≡ matcher.levelAt (now (s .entry)) at negative ⌝ }
+{
+    match four_at(s, at) {
+        OptionFour::NoFour => ReadPoint::NoPoint,
+        OptionFour::SomeFour(n) => level_year(s, at + 4, signed(negative, n)),
+    }
+}
+
+// The digits at a place, as far as they go; ten are too many for any year.
+fn digits_at(s: &[u8], at: usize) -> ReadDigits
+    requires { ⌜ at < 3 ⌝ }
+    ensures { λ r. ⌜ r .count ≡ matcher.run 10 (drop at (now (s .entry))) ⌝ }
+    ensures { λ r. ⌜ r .number ≡ matcher.valueFrom 0 (take (r .count) (drop at (now (s .entry)))) ⌝ }
+    ensures { λ r. ⌜ (r .count ≤ 10) × (r .number < 10 ^ r .count) ⌝ }
+{
+    let mut n = 0;
+    let mut v = 0u64;
+    while n < 10 {
+        let c = byte_at(s, at + n);
+        if is_digit(c) {
+            v = v * 10 + (c - b'0') as u64;
+            n += 1;
+        } else {
+            return ReadDigits {
+                count: n,
+                number: v,
+            };
+        }
+    }
+    ReadDigits {
+        count: n,
+        number: v,
+    }
+}
+
+// The year of up to nine digits and a sign.
+fn signed_long(negative: bool, n: u64) -> i32
+    requires { ⌜ n < 1000000000 ⌝ }
+    ensures { λ r. ⌜ r ≡ spec.signed negative n ⌝ }
+{
+    let year = n as i32;
+    if negative { 0 - year } else { year }
+}
+
+// A long year whose digits start at a place: five to nine of them, the first not zero.
+fn long_at(s: &[u8], at: usize, negative: bool) -> ReadPoint
+    requires { ⌜ at < 3 ⌝ }
+    ensures { λ r. ⌜ r ≡ matcher.longAt (now (s .entry)) at negative ⌝ }
+{
+    let d = digits_at(s, at);
+    if 5 <= d.count {
+        if d.count <= 9 {
+            if byte_at(s, at) != b'0' {
+                return ReadPoint::Upto {
+                    value: Datetime::new(
+                        signed_long(negative, d.number),
+                        OptionMonth::NoMonth,
+                        OptionDay::NoDay,
+                        OptionTime::NoTime,
+                    ),
+                    next: at + d.count,
+                };
+            }
+        }
+    }
+    ReadPoint::NoPoint
+}
+
+// A point of level one at the front of a text.
+fn level_point(s: &[u8]) -> ReadPoint
+    ensures { λ r. ⌜ r ≡ matcher.levelPoint (now (s .entry)) ⌝ }
+{
+    let c = byte_at(s, 0);
+    if c == b'Y' {
+        if byte_at(s, 1) == b'-' {
+            return long_at(s, 2, true);
+        }
+        return long_at(s, 1, false);
+    }
+    if c == b'-' {
+        return level_at(s, 1, true);
+    }
+    level_at(s, 0, false)
+}
+
+// A point of level one or a strict one.
+fn point_of(level: bool, s: &[u8]) -> ReadPoint
+    ensures { λ r. ⌜ r ≡ matcher.pointOf level (now (s .entry)) ⌝ }
+{
+    if level {
+        return level_point(s);
+    }
+    point(s)
+}
+
 // Whether -XX stands at a place.
 fn dash_xx_at(s: &[u8], at: usize) -> bool
     requires { ⌜ at < 90 ⌝ }
@@ -470,39 +603,57 @@ fn is_open(s: &[u8]) -> bool
 }
 
 // Behind `../` a point must stand: both ends open is no range.
-fn behind_open(s: &[u8]) -> Matched
-    ensures { λ r. ⌜ r ≡ spec.behindOpen spec.point (now (s .entry)) ⌝ }
+fn behind_open(level: bool, s: &[u8]) -> Matched
+    ensures { λ r. ⌜ r ≡ spec.behindOpen (matcher.pointOf level) (now (s .entry)) ⌝ }
 {
-    match point(s) {
+    match point_of(level, s) {
         ReadPoint::NoPoint => Matched::NotStrict,
         ReadPoint::Upto { value, next } => ending(DateValue::Before(value), s, next),
     }
 }
 
 // Behind a point and a slash: another point, or an open end.
-fn behind_slash(first: Datetime, s: &[u8]) -> Matched
-    ensures { λ r. ⌜ r ≡ spec.behindSlash spec.point first (now (s .entry)) ⌝ }
+fn behind_slash(level: bool, first: Datetime, s: &[u8]) -> Matched
+    ensures { λ r. ⌜ r ≡ spec.behindSlash (matcher.pointOf level) first (now (s .entry)) ⌝ }
 {
     if is_open(s) {
         return ending(DateValue::After(first), s, 2);
     }
-    match point(s) {
+    match point_of(level, s) {
         ReadPoint::NoPoint => Matched::NotStrict,
         ReadPoint::Upto { value, next } => ending(DateValue::Between(first, value), s, next),
     }
 }
 
 // A text that starts with a point.
-fn from_point(s: &[u8]) -> Matched
-    ensures { λ r. ⌜ r ≡ spec.fromPoint spec.point (now (s .entry)) ⌝ }
+fn from_point(level: bool, s: &[u8]) -> Matched
+    ensures { λ r. ⌜ r ≡ spec.fromPoint (matcher.pointOf level) (now (s .entry)) ⌝ }
 {
-    match point(s) {
+    match point_of(level, s) {
         ReadPoint::NoPoint => Matched::NotStrict,
         ReadPoint::Upto { value, next } => {
             if byte_at(s, next) == b'/' {
-                return behind_slash(value, &s[next + 1..]);
+                return behind_slash(level, value, &s[next + 1..]);
             }
             ending(DateValue::At(value), s, next)
+        }
+    }
+}
+
+// The Date of a text, by the strict points or those of level one.
+fn text_of(level: bool, s: &[u8]) -> Matched
+    ensures { λ r. ⌜ r ≡ spec.textOf (matcher.pointOf level) (now (s .entry)) ⌝ }
+{
+    match unknown(s) {
+        ReadUnknown::Within { value, next } => ending(value, s, next),
+        ReadUnknown::NoUnknown => {
+            if is_open(s) {
+                if byte_at(s, 2) == b'/' {
+                    return behind_open(level, &s[3..]);
+                }
+                return Matched::NotStrict;
+            }
+            from_point(level, s)
         }
     }
 }
@@ -511,16 +662,12 @@ fn from_point(s: &[u8]) -> Matched
 pub fn match_text(s: &[u8]) -> Matched
     ensures { λ r. ⌜ r ≡ spec.strict (now (s .entry)) ⌝ }
 {
-    match unknown(s) {
-        ReadUnknown::Within { value, next } => ending(value, s, next),
-        ReadUnknown::NoUnknown => {
-            if is_open(s) {
-                if byte_at(s, 2) == b'/' {
-                    return behind_open(&s[3..]);
-                }
-                return Matched::NotStrict;
-            }
-            from_point(s)
-        }
-    }
+    text_of(false, s)
+}
+
+// The Date of a text of level one.
+pub fn match_level(s: &[u8]) -> Matched
+    ensures { λ r. ⌜ r ≡ matcher.level (now (s .entry)) ⌝ }
+{
+    text_of(true, s)
 }

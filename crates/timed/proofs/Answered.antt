@@ -12,11 +12,11 @@ use borrow.Author.Tests.{le-leb, leb-true}
 use borrow.Rule.Slice.PartMut.{putMid}
 use Rattle.chars.specs.Pick.{pick}
 use Rattle.chars.proofs.Cases.{of-test}
-use Rattle.refusals.specs.declared.Kind.the-variants.{RustPanics, BadTime}
+use Rattle.refusals.specs.declared.Kind.the-variants.{RustPanics, BadTime, HasSeason}
 use Rattle.refusals.specs.declared.Refusal.{Refusal}
 use Rattle.dates.specs.declared.Datetime.{Datetime}
 use Rattle.dates.specs.declared.Date.{Date}
-use Rattle.dates.specs.Value.{fromDatetime}
+use Rattle.dates.specs.Value.{fromDatetime, hasSeason, anySeason}
 use Rattle.writer.specs.declared.Measured.{Measured}
 use Rattle.writer.specs.declared.Measured.the-variants.{Length, NoLength}
 use Rattle.writer.specs.declared.Written.{Written}
@@ -26,8 +26,9 @@ use Rattle.writer.specs.Answers as writing
 use Rattle.writer.specs.Texts.{datetimeText, markText, dateText, endPanics, valuePanics, panics}
 use Rattle.writer.specs.Texts as untimed
 use Rattle.writer.proofs.Puts.{at-front, lent, lent-room}
+use Rattle.writer.proofs.Levels.{else-as-before}
 use Rattle.timed.specs.Texts.{timedText, timesText}
-use Rattle.timed.specs.Answers.{valueBad, measured, answer, afterwards}
+use Rattle.timed.specs.Answers.{valueBad, plainMeasured, measured, answer, afterwards}
 use Rattle.timed.proofs.Pieces.{timed-length, timed-most}
 
 abbrev isDone : Written → Bool
@@ -42,36 +43,68 @@ isLength (NoLength e) = false
 abbrev measure : Bool → Bool → List ℕ → Measured
 measure p b t = pick p (NoLength (refused RustPanics)) (pick b (NoLength (refused BadTime)) (Length (length t)))
 
+-- and with seasons by three
+abbrev asked : Bool → Measured → Measured
+asked s m = pick s (NoLength (refused HasSeason)) m
+
+-- ---- seasons
+
+module _ (d : Date) where
+  -- an end has one: HasSeason, and nothing is stored
+  pub seasoned : anySeason (d .value) ≡ true → (measured d ≡ NoLength (refused HasSeason)) × ((room : ℕ) → answer d room ≡ Refused (refused HasSeason)) × ((out : List ℕ) → afterwards d out ≡ out)
+  unfolding measured answer afterwards decided pick
+  seasoned e = (
+    ap (λ (s : Bool). asked s (plainMeasured d)) e,
+    λ (room : ℕ). ap (λ (s : Bool). decided (asked s (plainMeasured d)) room) e,
+    λ (out : List ℕ). ap (λ (s : Bool). pick s out (writing.afterwards (panics d || valueBad (d .value)) (timedText d) out)) e,
+  )
+
+  -- none has: all is as without seasons
+  pub plain : anySeason (d .value) ≡ false → (measured d ≡ plainMeasured d) × ((room : ℕ) → answer d room ≡ decided (plainMeasured d) room) × ((out : List ℕ) → afterwards d out ≡ writing.afterwards (panics d || valueBad (d .value)) (timedText d) out)
+  unfolding measured answer afterwards pick
+  plain e = (
+    ap (λ (s : Bool). asked s (plainMeasured d)) e,
+    λ (room : ℕ). ap (λ (s : Bool). decided (asked s (plainMeasured d)) room) e,
+    λ (out : List ℕ). ap (λ (s : Bool). pick s out (writing.afterwards (panics d || valueBad (d .value)) (timedText d) out)) e,
+  )
+
 -- ---- the measure, by that of the text without its times
 
-module _ (d : Date) {m : Measured} (em : m ≡ writing.measured (panics d) (dateText d)) where
-  has-none : (b : Bool) (t : List ℕ) {n : ℕ} → writing.measured b t ≡ Length n → (b ≡ false) × (n ≡ length t)
+module _ (d : Date) {m : Measured} (em : m ≡ writing.dateMeasured d (dateText d)) where
+  has-none : (s p : Bool) (t : List ℕ) {n : ℕ} → asked s (writing.measured p t) ≡ Length n → (s ≡ false) × (p ≡ false) × (n ≡ length t)
   unfolding writing.measured pick
-  has-none true t e = absurd (false≢true (ap isLength e))
-  has-none false t e = (refl, cc)
+  has-none true p t e = absurd (false≢true (ap isLength e))
+  has-none false true t e = absurd (false≢true (ap isLength e))
+  has-none false false t e = (refl, refl, cc)
 
-  -- no end panics
+  -- no end has a season or panics
   module _ {n : ℕ} (e : m ≡ Length n) where
-    pub no-panic : (panics d ≡ false) × (n ≡ length (dateText d))
-    no-panic = has-none (panics d) (dateText d) (sym em ∙ e)
+    pub no-panic : (anySeason (d .value) ≡ false) × (panics d ≡ false) × (n ≡ length (dateText d))
+    unfolding writing.dateMeasured
+    no-panic = has-none (anySeason (d .value)) (panics d) (dateText d) (sym em ∙ e)
 
     module _ {b : Bool} (eb : b ≡ valueBad (d .value)) where
       pub is-bad : b ≡ true → {x : Refusal} → x ≡ refused BadTime → NoLength x ≡ measured d
-      unfolding measured pick
-      is-bad f g = rw (no-panic .0, sym eb ∙ f, g)
+      unfolding plainMeasured pick
+      is-bad f {x} g =
+          let q : NoLength x ≡ plainMeasured d = rw (no-panic .1, sym eb ∙ f, g) in
+          q ∙ sym (plain d (no-panic .0) .0)
 
       pub has-length : b ≡ false → {k : ℕ} → k ≡ length (timesText (d .value)) → Length (n + k) ≡ measured d
-      unfolding measured pick
-      has-length f g = rw (no-panic .0, sym eb ∙ f, no-panic .1, g) (ap Length (sym (timed-length d)))
+      unfolding plainMeasured pick
+      has-length f {k} g =
+          let q : Length (n + k) ≡ plainMeasured d = rw (no-panic .1, sym eb ∙ f, no-panic .2, g) (ap Length (sym (timed-length d))) in
+          q ∙ sym (plain d (no-panic .0) .0)
 
-  -- one does
+  -- one has or does
   pub panicked : {x : Refusal} → m ≡ NoLength x → NoLength x ≡ measured d
-  unfolding measured writing.measured pick
-  panicked {x} e = go (panics d) (sym em ∙ e)
+  unfolding measured plainMeasured writing.dateMeasured writing.measured pick
+  panicked {x} e = go (anySeason (d .value)) (panics d) (sym em ∙ e)
     where
-      go : (b : Bool) → writing.measured b (dateText d) ≡ NoLength x → NoLength x ≡ measure b (valueBad (d .value)) (timedText d)
-      go true e = sym e
-      go false e = absurd (false≢true (sym (ap isLength e)))
+      go : (s p : Bool) → asked s (writing.measured p (dateText d)) ≡ NoLength x → NoLength x ≡ asked s (measure p (valueBad (d .value)) (timedText d))
+      go true p e = sym e
+      go false true e = sym e
+      go false false e = absurd (false≢true (sym (ap isLength e)))
 
   pub most : (panics d ≡ false → length (dateText d) ≤ 40) → panics d ≡ false → length (timedText d) ≤ 70
   most f p = timed-most d (f p)
@@ -82,23 +115,30 @@ has-room : (t : List ℕ) (room : ℕ) {n : ℕ} → decided (Length (length t))
 unfolding decided pick
 has-room t room e = of-test (leb (length t) room) (λ q. leb-true (length t) room q) (λ q. absurd (false≢true (ap isDone (rw q at e))))
 
--- whose answer is a length: no end panics or has a bad time, and there is room
-told : (p b : Bool) (t : List ℕ) (room : ℕ) {n : ℕ} → decided (measure p b t) room ≡ Done n → (p ≡ false) × (b ≡ false) × (length t ≤ room)
+-- whose answer is a length: no end has a season, panics or has a bad time, and there is room
+told : (s p b : Bool) (t : List ℕ) (room : ℕ) {n : ℕ} → decided (asked s (measure p b t)) room ≡ Done n → (s ≡ false) × (p ≡ false) × (length t ≤ room)
 unfolding decided pick
-told true b t room e = absurd (false≢true (ap isDone e))
-told false true t room e = absurd (false≢true (ap isDone e))
-told false false t room e = (refl, refl, has-room t room e)
+told true p b t room e = absurd (false≢true (ap isDone e))
+told false true b t room e = absurd (false≢true (ap isDone e))
+told false false true t room e = absurd (false≢true (ap isDone e))
+told false false false t room e = (refl, refl, has-room t room e)
 
-stored : (t l : List ℕ) {m : List ℕ} {k : ℕ} → length t ≤ length l → Put t l 0 m k → (Done k ≡ decided (Length (length t)) (length l)) × (m ≡ writing.afterwards false t l)
+stored : (s p b : Bool) (t l : List ℕ) {n : ℕ} → decided (asked s (measure p b t)) (length l) ≡ Done n → {m : List ℕ} {k : ℕ} → Put t l 0 m k → (Done k ≡ decided (asked s (measure p b t)) (length l)) × (m ≡ pick s l (writing.afterwards (p || b) t l))
 unfolding decided writing.afterwards pick
-stored t l h p = rw (le-leb (length t) (length l) h) (ap Done (p .behind ∙ zero-add (length t)), at-front h p)
+stored true p b t l e q = absurd (false≢true (ap isDone e))
+stored false true b t l e q = absurd (false≢true (ap isDone e))
+stored false false true t l e q = absurd (false≢true (ap isDone e))
+stored false false false t l e q =
+    let h = has-room t (length l) e in
+    rw (le-leb (length t) (length l) h) (ap Done (q .behind ∙ zero-add (length t)), at-front h q)
 
 -- a refusal leaves all as it was
-all-left : (p b : Bool) (t l : List ℕ) {e : Refusal} → decided (measure p b t) (length l) ≡ Refused e → l ≡ writing.afterwards (p || b) t l
+all-left : (s p b : Bool) (t l : List ℕ) {e : Refusal} → decided (asked s (measure p b t)) (length l) ≡ Refused e → l ≡ pick s l (writing.afterwards (p || b) t l)
 unfolding decided writing.afterwards pick
-all-left true b t l e = refl
-all-left false true t l e = refl
-all-left false false t l e = of-test (leb (length t) (length l)) (λ q. absurd (false≢true (sym (ap isDone (rw q at e))))) (λ q. rw q)
+all-left true p b t l e = refl
+all-left false true b t l e = refl
+all-left false false true t l e = refl
+all-left false false false t l e = of-test (leb (length t) (length l)) (λ q. absurd (false≢true (sym (ap isDone (rw q at e))))) (λ q. rw q)
 
 -- what is found out before anything is stored: m is the measure, w the answer
 module _ (d : Date) (l : List ℕ) {m : Measured} {w : Written} (em : m ≡ measured d) (ew : w ≡ decided m (length l)) where
@@ -108,21 +148,19 @@ module _ (d : Date) (l : List ℕ) {m : Measured} {w : Written} (em : m ≡ meas
 
   -- it is to write
   module _ {n : ℕ} (e : w ≡ Done n) where
-    pub fits : (panics d ≡ false) × (length (timedText d) ≤ length l)
-    unfolding answer measured
-    fits = let q = told (panics d) (valueBad (d .value)) (timedText d) (length l) (sym by-measure ∙ e) in (q .0, q .2)
+    pub fits : (anySeason (d .value) ≡ false) × (panics d ≡ false) × (length (timedText d) ≤ length l)
+    unfolding answer measured plainMeasured
+    fits = told (anySeason (d .value)) (panics d) (valueBad (d .value)) (timedText d) (length l) (sym by-measure ∙ e)
 
     -- and has written
     pub done : {out : List ℕ} {k : ℕ} → Put (timedText d) l 0 out k → (Done k ≡ answer d (length l)) × (out ≡ afterwards d l)
-    unfolding answer measured afterwards pick
-    done p =
-        let q = told (panics d) (valueBad (d .value)) (timedText d) (length l) (sym by-measure ∙ e) in
-        rw (q .0, q .1) (stored (timedText d) l (q .2) p)
+    unfolding answer measured plainMeasured afterwards
+    done p = stored (anySeason (d .value)) (panics d) (valueBad (d .value)) (timedText d) l (sym by-measure ∙ e) p
 
   -- it refuses
   pub refuses : {e : Refusal} → w ≡ Refused e → (Refused e ≡ answer d (length l)) × (l ≡ afterwards d l)
-  unfolding answer measured afterwards
-  refuses e = (sym e ∙ by-measure, all-left (panics d) (valueBad (d .value)) (timedText d) l (sym by-measure ∙ e))
+  unfolding answer measured plainMeasured afterwards
+  refuses e = (sym e ∙ by-measure, all-left (anySeason (d .value)) (panics d) (valueBad (d .value)) (timedText d) l (sym by-measure ∙ e))
 
 -- ---- one end without its time, by the writer of dates in the rest of the buffer
 
@@ -151,26 +189,30 @@ has-stored t l h e =
     }
 
 -- the buffer m is lent on from a place, and comes back there as p with the answer w
-module _ (d : Datetime) (m p : List ℕ) (at : ℕ) {w : Written} {x : Date} (ex : x ≡ fromDatetime d) (h : (endPanics d ≡ false) × (at + length (datetimeText d) ≤ length m))
-    (ew : w ≡ writing.answer (panics x) (dateText x) (length (take (length m - at) (drop at m))))
-    (ep : p ≡ writing.afterwards (panics x) (dateText x) (take (length m - at) (drop at m))) where
+module _ (d : Datetime) (m p : List ℕ) (at : ℕ) {w : Written} {x : Date} (ex : x ≡ fromDatetime d) (h : (hasSeason d ≡ false) × (endPanics d ≡ false) × (at + length (datetimeText d) ≤ length m))
+    (ew : w ≡ writing.dateAnswer x (dateText x) (length (take (length m - at) (drop at m))))
+    (ep : p ≡ writing.dateAfterwards x (dateText x) (take (length m - at) (drop at m))) where
   abbrev part : List ℕ
   part = take (length m - at) (drop at m)
 
+  -- it has no season
+  no-season : anySeason (x .value) ≡ false
+  no-season = ap (λ (y : Date). anySeason (y .value)) ex ∙ h .0
+
   known : w ≡ Done (length (datetimeText d))
-  known = has-done (datetimeText d) part (lent-room (datetimeText d) m at (h .1)) (ew ∙ rw (ex, alone d, alone-panics d, h .0))
+  known = has-done (datetimeText d) part (lent-room (datetimeText d) m at (h .2)) (ew ∙ else-as-before x (dateText x) no-season .1 (length part) ∙ rw (ex, alone d, alone-panics d, h .1))
 
   put : Put (datetimeText d) part 0 p (length (datetimeText d))
-  put = has-stored (datetimeText d) part (lent-room (datetimeText d) m at (h .1)) (ep ∙ rw (ex, alone d, alone-panics d, h .0))
+  put = has-stored (datetimeText d) part (lent-room (datetimeText d) m at (h .2)) (ep ∙ else-as-before x (dateText x) no-season .2 part ∙ rw (ex, alone d, alone-panics d, h .1))
 
   count : {n : ℕ} → w ≡ Done n → length (datetimeText d) ≡ n
   count e = let k = known in cc
 
   pub end-put : {n : ℕ} → w ≡ Done n → Put (datetimeText d) m at (putMid at (length m - at) m p) (at + n)
-  end-put e = rw (sym (count e)) (lent (datetimeText d) m p at (length (datetimeText d)) (h .1) put)
+  end-put e = rw (sym (count e)) (lent (datetimeText d) m p at (length (datetimeText d)) (h .2) put)
 
   pub end-count : {n : ℕ} → w ≡ Done n → at + n ≤ length m
-  end-count e = omega (arith, count e, h .1)
+  end-count e = omega (arith, count e, h .2)
 
   pub never-refused : {e : Refusal} → w ≡ Refused e → ⊥
   never-refused e = false≢true (ap isDone (sym e ∙ known))

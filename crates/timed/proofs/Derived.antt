@@ -7,6 +7,7 @@ use Prim.Native.Char.{code}
 use native.Mathlib.Nat.{zero-add}
 use native.Mathlib.Omega.{arith}
 use lib.IntN.{ℤ, pos, negsuc, natAbs}
+use Rattle.dates.proofs.Whole.{four-parts}
 use Rattle.dates.specs.declared.Month.{Month}
 use Rattle.dates.specs.declared.Day.{Day}
 use Rattle.dates.specs.declared.OptionMonth.{OptionMonth}
@@ -74,7 +75,7 @@ year-derived (negsuc n) h = -dddd (suc n) h
 -- what is written before the time does not depend on it
 same-date : (y : ℤ) (m : OptionMonth) (d : OptionDay) (t : OptionTime) → natAbs y < 10000 → PartsIn y m d → datetimeText (datetime y m d t) ≡ yearText y ++ monthText m d
 unfolding datetimeText partsOf canonical
-same-date y m d t h w = canonical-is (datetime y m d NoTime) (record { year-in = h; parts-in = w; untimed = refl })
+same-date y m d t h w = canonical-is (datetime y m d NoTime) (record { year-in = h; parts-in = w; untimed = refl; unseasoned = refl })
 
 module _ (y : ℤ) (h : natAbs y < 10000) where
   on-day : (m : Month) (d : Day) (t : Time) → (m .0 < 12) × (d .0 < monthLength (m .0) y) → ClockIn t
@@ -90,7 +91,7 @@ module _ (y : ℤ) (h : natAbs y < 10000) where
   unfolding timeText canonical
   parts-derived m d NoTime w k =
       subst (λ (s : List ℕ). Point s (datetime y m d NoTime)) (sym (append-nil (yearText y ++ monthText m d)))
-      (derived (datetime y m d NoTime) (record { year-in = h; parts-in = w; untimed = refl }))
+      (derived (datetime y m d NoTime) (record { year-in = h; parts-in = w; untimed = refl; unseasoned = refl }))
   parts-derived m NoDay (SomeTime t) w k = absurd k
   parts-derived NoMonth (SomeDay d) (SomeTime t) w k = absurd w
   parts-derived (SomeMonth m) (SomeDay d) (SomeTime t) w k = on-day m d t w k
@@ -98,8 +99,9 @@ module _ (y : ℤ) (h : natAbs y < 10000) where
 pub end-derived : (d : Datetime) → TimedIn d → Point (endText d) d
 unfolding endText
 end-derived d w =
-    subst (λ (s : List ℕ). Point (s ++ timeText (d .time)) d) (sym (same-date (d .year) (d .month) (d .day) (d .time) (w .year-in) (w .parts-in)))
-    (parts-derived (d .year) (w .year-in) (d .month) (d .day) (d .time) (w .parts-in) (w .time-in))
+    subst (λ (a : Datetime). Point (endText a) a) (four-parts d (w .unseasoned))
+    (subst (λ (s : List ℕ). Point (s ++ timeText (d .time)) (datetime (d .year) (d .month) (d .day) (d .time))) (sym (same-date (d .year) (d .month) (d .day) (d .time) (w .year-in) (w .parts-in)))
+    (parts-derived (d .year) (w .year-in) (d .month) (d .day) (d .time) (w .parts-in) (w .time-in)))
 
 -- ---- a date
 

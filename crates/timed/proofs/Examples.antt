@@ -9,7 +9,7 @@ use lib.ListN.{length}
 use Rattle.chars.specs.Pick.{pick}
 use Rattle.chars.specs.Ascii.{ascii}
 use Rattle.refusals.specs.declared.Kind.{Kind}
-use Rattle.refusals.specs.declared.Kind.the-variants.{RustPanics, NoRoom, BadTime}
+use Rattle.refusals.specs.declared.Kind.the-variants.{RustPanics, NoRoom, BadTime, HasSeason}
 use Rattle.refusals.specs.Refusal.{fileSpan, refusal, number}
 use Rattle.dates.specs.declared.OptionMonth.the-variants.{NoMonth}
 use Rattle.dates.specs.declared.OptionDay.the-variants.{NoDay}
@@ -18,18 +18,19 @@ use Rattle.dates.specs.declared.OptionOffset.{OptionOffset}
 use Rattle.dates.specs.declared.OptionOffset.the-variants.{NoOffset, SomeOffset}
 use Rattle.dates.specs.declared.OptionTime.{OptionTime}
 use Rattle.dates.specs.declared.OptionTime.the-variants.{NoTime, SomeTime}
+use Rattle.dates.specs.declared.OptionSeason.the-variants.{Spring, Winter}
 use Rattle.dates.specs.declared.Datetime.{Datetime}
 use Rattle.dates.specs.declared.DateValue.the-variants.{At, After, Before, Between}
 use Rattle.dates.specs.declared.Date.{Date}
 use Rattle.dates.specs.Time.{time, inRange}
-use Rattle.dates.specs.Value.{month, day, datetime, date, fromDatetime}
+use Rattle.dates.specs.Value.{month, day, datetime, seasonOf, date, fromDatetime}
 use Rattle.writer.specs.declared.Written.the-variants.{Done, Refused}
 use Rattle.writer.specs.Answers.{refused, decided}
 use Rattle.writer.specs.Numbers.{count, digitCount, width, decimal}
 use Rattle.writer.specs.Texts.{minus, yearText, writtenMonth, writtenDay, dayParts, monthParts, partsOf, partText, hyphenPart, partsText, datetimeText, markText, tooLarge, endPanics, valuePanics, panics}
 use Rattle.timed.specs.Texts.{field, sign, offsetText, zoneText, clockText, timeText, endText, valueText, timedText}
 use Rattle.clocks.specs.Clocks.{offsetIn, zoneIn, clockIn, onDay, badTime, hasBadTime}
-use Rattle.timed.specs.Answers.{valueBad, measured, answer}
+use Rattle.timed.specs.Answers.{valueBad, plainMeasured, measured, answer}
 
 -- a date, and what is written
 pub record Example : Type 0 where
@@ -70,7 +71,7 @@ text-examples = refl
 
 -- 70 bytes are room for each
 pub written-examples : map (λ (e : Example). answer (e .of) 70) texts ≡ map (λ (e : Example). Done (length (ascii (e .text)))) texts
-unfolding answer measured decided valueBad hasBadTime badTime onDay clockIn zoneIn offsetIn inRange timedText valueText endText timeText clockText zoneText offsetText sign field datetimeText yearText minus decimal width digitCount count partsOf monthParts dayParts writtenMonth writtenDay partsText hyphenPart partText markText panics valuePanics endPanics tooLarge pick
+unfolding answer measured plainMeasured decided valueBad hasBadTime badTime onDay clockIn zoneIn offsetIn inRange timedText valueText endText timeText clockText zoneText offsetText sign field datetimeText yearText minus decimal width digitCount count partsOf monthParts dayParts writtenMonth writtenDay partsText hyphenPart partText markText panics valuePanics endPanics tooLarge pick
 written-examples = refl
 
 -- a date, so much room, and why it is refused
@@ -82,6 +83,10 @@ pub record Refusal : Type 0 where
 -- an end at which the Rust panics
 abbrev pub panicking : OptionTime → Datetime
 panicking t = datetime (pos 2000) (month 1) (day 255) t
+
+-- one with a season too
+abbrev pub inSpring : OptionTime → Datetime
+inSpring t = record { year = pos 2000; month = month 1; day = day 255; time = t; season = Spring }
 
 abbrev pub refusals : List Refusal
 refusals =
@@ -98,10 +103,14 @@ refusals =
     ∷ record { of = fromDatetime (panicking (SomeTime (time 24 0 0 NoOffset))); room = 70; kind = RustPanics }
     ∷ record { of = date (Between (at 24 0 0 NoOffset) (panicking NoTime)) false false; room = 0; kind = RustPanics }
     ∷ record { of = fromDatetime (at 1 2 3 NoOffset); room = 18; kind = NoRoom }
+    ∷ record { of = fromDatetime (seasonOf (pos 2000) Winter); room = 70; kind = HasSeason }
+    ∷ record { of = fromDatetime (inSpring (SomeTime (time 24 0 0 NoOffset))); room = 0; kind = HasSeason }
+    ∷ record { of = date (Between (panicking NoTime) (seasonOf (pos 2000) Winter)) false false; room = 0; kind = HasSeason }
+    ∷ record { of = date (Between (at 24 0 0 NoOffset) (seasonOf (pos 2000) Winter)) false false; room = 70; kind = HasSeason }
     ∷ []
 
 pub refused-examples : map (λ (e : Refusal). answer (e .of) (e .room)) refusals ≡ map (λ (e : Refusal). Refused (refused (e .kind))) refusals
-unfolding answer measured decided valueBad hasBadTime badTime onDay clockIn zoneIn offsetIn inRange timedText valueText endText timeText clockText zoneText offsetText sign field datetimeText yearText minus decimal width digitCount count partsOf monthParts dayParts writtenMonth writtenDay partsText hyphenPart partText markText panics valuePanics endPanics tooLarge pick
+unfolding answer measured plainMeasured decided valueBad hasBadTime badTime onDay clockIn zoneIn offsetIn inRange timedText valueText endText timeText clockText zoneText offsetText sign field datetimeText yearText minus decimal width digitCount count partsOf monthParts dayParts writtenMonth writtenDay partsText hyphenPart partText markText panics valuePanics endPanics tooLarge pick
 refused-examples = refl
 
 -- the refusal's number is 22, and it has no place

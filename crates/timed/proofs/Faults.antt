@@ -23,6 +23,7 @@ use Rattle.dates.specs.declared.DateValue.{DateValue}
 use Rattle.dates.specs.declared.DateValue.the-variants.{At, After, Before, Between}
 use Rattle.dates.specs.Time.{inRange}
 use Rattle.clocks.specs.Clocks.{offsetIn, zoneIn, clockIn, onDay, badTime, hasBadTime}
+use Rattle.writer.proofs.Pieces.{either, one-of}
 use Rattle.timed.specs.Answers.{valueBad}
 
 -- Why a time is bad.
@@ -131,15 +132,6 @@ cause (SomeMonth m) (SomeDay d) (SomeTime t) e = clock-cause t (not-not (clockIn
 end-bad : (d : Datetime) → (hasBadTime d ≡ true) ↔ EndFault d
 unfolding hasBadTime
 end-bad d = (cause (d .month) (d .day) (d .time), λ f. bad f)
-
-either : (a : Bool) {b : Bool} → a || b ≡ true → (a ≡ true) ⊎ (b ≡ true)
-either true e = inl refl
-either false e = inr e
-
-one-of : (a : Bool) {b : Bool} → (a ≡ true) ⊎ (b ≡ true) → a || b ≡ true
-one-of true e = refl
-one-of false (inl e) = absurd (false≢true e)
-one-of false (inr e) = e
 
 -- a point or range has a bad time exactly if one of its ends has such a cause
 pub value-bad : (v : DateValue) → (valueBad v ≡ true) ↔ FaultIn v

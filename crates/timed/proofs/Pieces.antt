@@ -1,6 +1,6 @@
 -- How long the texts are, and the pieces that they are put together of. Over plain variables. Assumes nothing.
 use mathlib.Core.Path.{_≡_, refl, sym}
-use mathlib.Core.Bool.{Bool, true, false, _||_, false≢true}
+use mathlib.Core.Bool.{Bool, true, false}
 use mathlib.Core.List.{_++_}
 use Prim.Native.Nat.{ℕ, _+_, _≤_}
 use Prim.Native.Char.{code}
@@ -45,15 +45,6 @@ some-length u e f = rw (e, f) (sym (clock-length u))
 pub shift-text : {o : TimeOffset} (p : Bool) (h m : ℕ) {r : ℕ} → o ≡ Offset p h m → r ≡ sign p → offsetText o ≡ field r h ++ field (code ":") m
 unfolding offsetText
 shift-text p h m e f = rw (e, f)
-
--- none of two ends panics
-pub first-false : (a b : Bool) → a || b ≡ false → a ≡ false
-first-false true b e = e
-first-false false b e = refl
-
-pub second-false : (a b : Bool) → a || b ≡ false → b ≡ false
-second-false true b e = absurd (false≢true (sym e))
-second-false false b e = e
 
 zone-most : (o : OptionOffset) → length (zoneText o) ≤ 6
 unfolding zoneText offsetText field

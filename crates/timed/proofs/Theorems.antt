@@ -11,7 +11,7 @@ use lib.ListN.{length}
 use borrow.Author.Tests.{ne-eqb, le-leb, lt-leb, leb-true, leb-false}
 use Rattle.chars.specs.Pick.{pick}
 use Rattle.chars.proofs.Cases.{of-test}
-use Rattle.refusals.specs.declared.Kind.the-variants.{RustPanics, NoRoom, BadTime}
+use Rattle.refusals.specs.declared.Kind.the-variants.{RustPanics, NoRoom, BadTime, HasSeason}
 use Rattle.refusals.specs.Refusal.{number, refusal}
 use Rattle.dates.specs.declared.OptionMonth.{OptionMonth}
 use Rattle.dates.specs.declared.OptionMonth.the-variants.{NoMonth, SomeMonth}
@@ -28,11 +28,12 @@ use Rattle.dates.specs.declared.DateValue.the-variants.{At, After, Before, Betw
 use Rattle.dates.specs.declared.Date.{Date}
 use Rattle.dates.specs.Domain.{PartsIn}
 use Rattle.dates.specs.Time.{time, inRange}
-use Rattle.dates.specs.Value.{month, day, datetime, date}
+use Rattle.dates.specs.Value.{month, day, datetime, isSeason, hasSeason, anySeason, date}
 use Rattle.dates.proofs.Lengths.{length-most}
 use Rattle.datefield.specs.declared.ReadDate.the-variants.{Accepted}
 use Rattle.reader.specs.Field.{parsed, parsedStrict}
 use Rattle.roundtrip.specs.Domain.{Untimed, oneChunk}
+use Rattle.writer.specs.declared.Measured.{Measured}
 use Rattle.writer.specs.declared.Measured.the-variants.{Length, NoLength}
 use Rattle.writer.specs.declared.Written.{Written}
 use Rattle.writer.specs.declared.Written.the-variants.{Done, Refused}
@@ -44,9 +45,10 @@ use Rattle.writer.specs.Texts as untimed
 use Rattle.writer.proofs.Bounds.{Ends, Stored, text-most}
 use Rattle.timed.specs.Texts.{field, sign, offsetText, zoneText, clockText, timeText, endText, valueText, timedText}
 use Rattle.clocks.specs.Clocks.{offsetIn, zoneIn, clockIn, onDay, badTime, hasBadTime}
-use Rattle.timed.specs.Answers.{valueBad, measured, answer, afterwards}
+use Rattle.timed.specs.Answers.{valueBad, plainMeasured, measured, answer, afterwards}
 use Rattle.timed.specs.Domain.{ZoneIn, ClockIn, TimeIn, TimedIn, InTimed}
 use Rattle.timed.proofs.Pieces.{timed-most}
+use Rattle.timed.proofs.Answered.{seasoned, plain}
 use Rattle.timed.proofs.Faults.{Fault, no-month, no-day, hour-above, minute-above, second-above, offset-hours, offset-minutes, EndFault, FaultIn, value-bad}
 use Rattle.timed.proofs.Back as back
 
@@ -92,19 +94,19 @@ module _ (d : Date) (w : Untimed (d .value)) where
   same-text = rw (value-untimed (d .value) w)
 
   -- the same length or refusal,
-  pub same-length : measured d ≡ writing.measured (panics d) (dateText d)
-  unfolding measured writing.measured pick
+  pub same-length : measured d ≡ writing.dateMeasured d (dateText d)
+  unfolding measured plainMeasured writing.dateMeasured writing.measured pick
   same-length = rw (value-good (d .value) w, same-text)
 
   -- the same answer,
-  pub same-answer : (room : ℕ) → answer d room ≡ writing.answer (panics d) (dateText d) room
-  unfolding answer writing.answer
+  pub same-answer : (room : ℕ) → answer d room ≡ writing.dateAnswer d (dateText d) room
+  unfolding answer writing.dateAnswer
   same-answer room = rw same-length
 
   -- and the same buffer afterwards
-  pub same-buffer : (out : List ℕ) → afterwards d out ≡ writing.afterwards (panics d) (dateText d) out
-  unfolding afterwards
-  same-buffer out = rw (value-good (d .value) w, same-text) (ap (λ (b : Bool). writing.afterwards b (dateText d) out) (or-false (panics d)))
+  pub same-buffer : (out : List ℕ) → afterwards d out ≡ writing.dateAfterwards d (dateText d) out
+  unfolding afterwards writing.dateAfterwards
+  same-buffer out = rw (value-good (d .value) w, same-text) (ap (λ (b : Bool). pick (anySeason (d .value)) out (writing.afterwards b (dateText d) out)) (or-false (panics d)))
     where
       or-false : (b : Bool) → b || false ≡ b
       or-false true = refl
@@ -132,24 +134,29 @@ widest-stored = (longest-stored, longest-stored)
 
 -- and one that is written reaches them
 pub reached : (length (timedText widest) ≡ 70) × (answer widest 70 ≡ Done 70)
-unfolding answer measured decided valueBad hasBadTime badTime onDay clockIn zoneIn offsetIn inRange timedText valueText endText timeText clockText zoneText offsetText sign field datetimeText yearText minus decimal width digitCount count partsOf monthParts dayParts writtenMonth writtenDay partsText hyphenPart partText markText panics valuePanics endPanics tooLarge pick
+unfolding answer measured plainMeasured decided valueBad hasBadTime badTime onDay clockIn zoneIn offsetIn inRange timedText valueText endText timeText clockText zoneText offsetText sign field datetimeText yearText minus decimal width digitCount count partsOf monthParts dayParts writtenMonth writtenDay partsText hyphenPart partText markText panics valuePanics endPanics tooLarge pick
 reached = (refl, refl)
 
 -- ---- which answer is given
 
--- the answer by its three tests
-abbrev pub shown : Bool → Bool → Bool → ℕ → Written
-shown p b fits n = pick p (Refused (refused RustPanics)) (pick b (Refused (refused BadTime)) (pick fits (Done n) (Refused (refused NoRoom))))
+-- without a season all is as before
+pub else-as-before : (d : Date) → anySeason (d .value) ≡ false → (measured d ≡ plainMeasured d) × ((room : ℕ) → answer d room ≡ decided (plainMeasured d) room) × ((out : List ℕ) → afterwards d out ≡ writing.afterwards (panics d || valueBad (d .value)) (timedText d) out)
+else-as-before d e = plain d e
 
--- RustPanics of either end comes first, then BadTime of either, then NoRoom
-pub in-order : (d : Date) (room : ℕ) → answer d room ≡ shown (panics d) (valueBad (d .value)) (leb (length (timedText d)) room) (length (timedText d))
-unfolding answer measured decided pick
-in-order d room = go (panics d) (valueBad (d .value))
+-- the answer by its four tests
+abbrev pub shown : Bool → Bool → Bool → Bool → ℕ → Written
+shown s p b fits n = pick s (Refused (refused HasSeason)) (pick p (Refused (refused RustPanics)) (pick b (Refused (refused BadTime)) (pick fits (Done n) (Refused (refused NoRoom)))))
+
+-- HasSeason of either end comes first, then RustPanics of either, then BadTime of either, then NoRoom
+pub in-order : (d : Date) (room : ℕ) → answer d room ≡ shown (anySeason (d .value)) (panics d) (valueBad (d .value)) (leb (length (timedText d)) room) (length (timedText d))
+unfolding answer measured plainMeasured decided pick
+in-order d room = go (anySeason (d .value)) (panics d) (valueBad (d .value))
   where
-    go : (p b : Bool) → decided (pick p (NoLength (refused RustPanics)) (pick b (NoLength (refused BadTime)) (Length (length (timedText d))))) room ≡ shown p b (leb (length (timedText d)) room) (length (timedText d))
-    go true b = refl
-    go false true = refl
-    go false false = refl
+    go : (s p b : Bool) → decided (pick s (NoLength (refused HasSeason)) (pick p (NoLength (refused RustPanics)) (pick b (NoLength (refused BadTime)) (Length (length (timedText d)))))) room ≡ shown s p b (leb (length (timedText d)) room) (length (timedText d))
+    go true p b = refl
+    go false true b = refl
+    go false false true = refl
+    go false false false = refl
 
 -- the number of a refusal; 0 if nothing is refused
 abbrev numbered : Written → ℕ
@@ -161,33 +168,45 @@ other f e = f (ap numbered e)
 
 -- which tests lead to which answer
 module _ (n : ℕ) where
-  panics-only : (p b f : Bool) → shown p b f n ≡ Refused (refused RustPanics) → p ≡ true
+  season-only : (s p b f : Bool) → shown s p b f n ≡ Refused (refused HasSeason) → s ≡ true
   unfolding refused refusal pick
-  panics-only true b f e = refl
-  panics-only false true f e = absurd (other (λ (z : _≡_ {A = ℕ} 22 9). omega arith) e)
-  panics-only false false true e = absurd (other (λ (z : _≡_ {A = ℕ} 0 9). omega arith) e)
-  panics-only false false false e = absurd (other (λ (z : _≡_ {A = ℕ} 13 9). omega arith) e)
+  season-only true p b f e = refl
+  season-only false true b f e = absurd (other (λ (z : _≡_ {A = ℕ} 9 24). omega arith) e)
+  season-only false false true f e = absurd (other (λ (z : _≡_ {A = ℕ} 22 24). omega arith) e)
+  season-only false false false true e = absurd (other (λ (z : _≡_ {A = ℕ} 0 24). omega arith) e)
+  season-only false false false false e = absurd (other (λ (z : _≡_ {A = ℕ} 13 24). omega arith) e)
 
-  bad-only : (p b f : Bool) → shown p b f n ≡ Refused (refused BadTime) → (p ≡ false) × (b ≡ true)
+  panics-only : (s p b f : Bool) → shown s p b f n ≡ Refused (refused RustPanics) → (s ≡ false) × (p ≡ true)
   unfolding refused refusal pick
-  bad-only true b f e = absurd (other (λ (z : _≡_ {A = ℕ} 9 22). omega arith) e)
-  bad-only false true f e = (refl, refl)
-  bad-only false false true e = absurd (other (λ (z : _≡_ {A = ℕ} 0 22). omega arith) e)
-  bad-only false false false e = absurd (other (λ (z : _≡_ {A = ℕ} 13 22). omega arith) e)
+  panics-only true p b f e = absurd (other (λ (z : _≡_ {A = ℕ} 24 9). omega arith) e)
+  panics-only false true b f e = (refl, refl)
+  panics-only false false true f e = absurd (other (λ (z : _≡_ {A = ℕ} 22 9). omega arith) e)
+  panics-only false false false true e = absurd (other (λ (z : _≡_ {A = ℕ} 0 9). omega arith) e)
+  panics-only false false false false e = absurd (other (λ (z : _≡_ {A = ℕ} 13 9). omega arith) e)
 
-  room-only : (p b f : Bool) → shown p b f n ≡ Refused (refused NoRoom) → (p ≡ false) × (b ≡ false) × (f ≡ false)
+  bad-only : (s p b f : Bool) → shown s p b f n ≡ Refused (refused BadTime) → (s ≡ false) × (p ≡ false) × (b ≡ true)
   unfolding refused refusal pick
-  room-only true b f e = absurd (other (λ (z : _≡_ {A = ℕ} 9 13). omega arith) e)
-  room-only false true f e = absurd (other (λ (z : _≡_ {A = ℕ} 22 13). omega arith) e)
-  room-only false false true e = absurd (other (λ (z : _≡_ {A = ℕ} 0 13). omega arith) e)
-  room-only false false false e = (refl, refl, refl)
+  bad-only true p b f e = absurd (other (λ (z : _≡_ {A = ℕ} 24 22). omega arith) e)
+  bad-only false true b f e = absurd (other (λ (z : _≡_ {A = ℕ} 9 22). omega arith) e)
+  bad-only false false true f e = (refl, refl, refl)
+  bad-only false false false true e = absurd (other (λ (z : _≡_ {A = ℕ} 0 22). omega arith) e)
+  bad-only false false false false e = absurd (other (λ (z : _≡_ {A = ℕ} 13 22). omega arith) e)
 
-  done-only : (p b f : Bool) → shown p b f n ≡ Done n → (p ≡ false) × (b ≡ false) × (f ≡ true)
+  room-only : (s p b f : Bool) → shown s p b f n ≡ Refused (refused NoRoom) → (s ≡ false) × (p ≡ false) × (b ≡ false) × (f ≡ false)
   unfolding refused refusal pick
-  done-only true b f e = absurd (other (λ (z : _≡_ {A = ℕ} 9 0). omega arith) e)
-  done-only false true f e = absurd (other (λ (z : _≡_ {A = ℕ} 22 0). omega arith) e)
-  done-only false false true e = (refl, refl, refl)
-  done-only false false false e = absurd (other (λ (z : _≡_ {A = ℕ} 13 0). omega arith) e)
+  room-only true p b f e = absurd (other (λ (z : _≡_ {A = ℕ} 24 13). omega arith) e)
+  room-only false true b f e = absurd (other (λ (z : _≡_ {A = ℕ} 9 13). omega arith) e)
+  room-only false false true f e = absurd (other (λ (z : _≡_ {A = ℕ} 22 13). omega arith) e)
+  room-only false false false true e = absurd (other (λ (z : _≡_ {A = ℕ} 0 13). omega arith) e)
+  room-only false false false false e = (refl, refl, refl, refl)
+
+  done-only : (s p b f : Bool) → shown s p b f n ≡ Done n → (s ≡ false) × (p ≡ false) × (b ≡ false) × (f ≡ true)
+  unfolding refused refusal pick
+  done-only true p b f e = absurd (other (λ (z : _≡_ {A = ℕ} 24 0). omega arith) e)
+  done-only false true b f e = absurd (other (λ (z : _≡_ {A = ℕ} 9 0). omega arith) e)
+  done-only false false true f e = absurd (other (λ (z : _≡_ {A = ℕ} 22 0). omega arith) e)
+  done-only false false false true e = (refl, refl, refl, refl)
+  done-only false false false false e = absurd (other (λ (z : _≡_ {A = ℕ} 13 0). omega arith) e)
 
 -- no cause, no bad time
 no-fault : (v : DateValue) → valueBad v ≡ false → FaultIn v → ⊥
@@ -200,34 +219,53 @@ module _ (d : Date) (room : ℕ) where
   abbrev n : ℕ
   n = length (timedText d)
 
-  -- RustPanics is answered exactly if one of the ends panics,
-  pub panics-exactly : (answer d room ≡ Refused (refused RustPanics)) ↔ (panics d ≡ true)
-  unfolding pick
-  panics-exactly = (λ e. panics-only n (panics d) (valueBad (d .value)) (leb n room) (sym (in-order d room) ∙ e), λ e. in-order d room ∙ rw e)
+  -- the answer, once it is told whether an end has a season
+  told : (s : Bool) → anySeason (d .value) ≡ s → answer d room ≡ shown s (panics d) (valueBad (d .value)) (leb n room) n
+  told s e = in-order d room ∙ ap (λ (x : Bool). shown x (panics d) (valueBad (d .value)) (leb n room) n) e
 
-  -- BadTime exactly if none does and one of the ends has a bad time,
-  pub bad-exactly : (answer d room ≡ Refused (refused BadTime)) ↔ ((panics d ≡ false) × FaultIn (d .value))
-  unfolding pick
-  bad-exactly = (
-    λ e. let q = bad-only n (panics d) (valueBad (d .value)) (leb n room) (sym (in-order d room) ∙ e) in (q .0, value-bad (d .value) .0 (q .1)),
-    λ (h : (panics d ≡ false) × FaultIn (d .value)). in-order d room ∙ rw (h .0, value-bad (d .value) .1 (h .1)),
+  -- HasSeason is answered exactly if one of the ends has a season,
+  pub season-exactly : (answer d room ≡ Refused (refused HasSeason)) ↔ (anySeason (d .value) ≡ true)
+  season-exactly = (
+    λ e. season-only n (anySeason (d .value)) (panics d) (valueBad (d .value)) (leb n room) (sym (in-order d room) ∙ e),
+    λ e. seasoned d e .1 room,
   )
 
-  -- NoRoom exactly if no end panics or has a bad time, and the buffer is shorter than the text,
-  pub no-room-exactly : (answer d room ≡ Refused (refused NoRoom)) ↔ ((panics d ≡ false) × (FaultIn (d .value) → ⊥) × (room < length (timedText d)))
+  -- RustPanics exactly if none has and one of them panics,
+  pub panics-exactly : (answer d room ≡ Refused (refused RustPanics)) ↔ ((anySeason (d .value) ≡ false) × (panics d ≡ true))
+  unfolding pick
+  panics-exactly = (
+    λ e. panics-only n (anySeason (d .value)) (panics d) (valueBad (d .value)) (leb n room) (sym (in-order d room) ∙ e),
+    λ (h : (anySeason (d .value) ≡ false) × (panics d ≡ true)). told false (h .0) ∙ rw (h .1),
+  )
+
+  -- BadTime exactly if none has or does and one of the ends has a bad time,
+  pub bad-exactly : (answer d room ≡ Refused (refused BadTime)) ↔ ((anySeason (d .value) ≡ false) × (panics d ≡ false) × FaultIn (d .value))
+  unfolding pick
+  bad-exactly = (
+    λ e. let q = bad-only n (anySeason (d .value)) (panics d) (valueBad (d .value)) (leb n room) (sym (in-order d room) ∙ e) in (q .0, q .1, value-bad (d .value) .0 (q .2)),
+    λ (h : (anySeason (d .value) ≡ false) × (panics d ≡ false) × FaultIn (d .value)). told false (h .0) ∙ rw (h .1, value-bad (d .value) .1 (h .2)),
+  )
+
+  -- NoRoom exactly if no end has a season, panics or has a bad time, and the buffer is shorter than the text,
+  pub no-room-exactly : (answer d room ≡ Refused (refused NoRoom)) ↔ ((anySeason (d .value) ≡ false) × (panics d ≡ false) × (FaultIn (d .value) → ⊥) × (room < length (timedText d)))
   unfolding pick
   no-room-exactly = (
-    λ e. let q = room-only n (panics d) (valueBad (d .value)) (leb n room) (sym (in-order d room) ∙ e) in (q .0, no-fault (d .value) (q .1), leb-false n room (q .2)),
-    λ (h : (panics d ≡ false) × (FaultIn (d .value) → ⊥) × (room < n)). in-order d room ∙ rw (h .0, good (d .value) (h .1), lt-leb n room (h .2)),
+    λ e. let q = room-only n (anySeason (d .value)) (panics d) (valueBad (d .value)) (leb n room) (sym (in-order d room) ∙ e) in (q .0, q .1, no-fault (d .value) (q .2), leb-false n room (q .3)),
+    λ (h : (anySeason (d .value) ≡ false) × (panics d ≡ false) × (FaultIn (d .value) → ⊥) × (room < n)). told false (h .0) ∙ rw (h .1, good (d .value) (h .2), lt-leb n room (h .3)),
   )
 
   -- and the text is written exactly if it is not
-  pub written-exactly : (answer d room ≡ Done (length (timedText d))) ↔ ((panics d ≡ false) × (FaultIn (d .value) → ⊥) × (length (timedText d) ≤ room))
+  pub written-exactly : (answer d room ≡ Done (length (timedText d))) ↔ ((anySeason (d .value) ≡ false) × (panics d ≡ false) × (FaultIn (d .value) → ⊥) × (length (timedText d) ≤ room))
   unfolding pick
   written-exactly = (
-    λ e. let q = done-only n (panics d) (valueBad (d .value)) (leb n room) (sym (in-order d room) ∙ e) in (q .0, no-fault (d .value) (q .1), leb-true n room (q .2)),
-    λ (h : (panics d ≡ false) × (FaultIn (d .value) → ⊥) × (n ≤ room)). in-order d room ∙ rw (h .0, good (d .value) (h .1), le-leb n room (h .2)),
+    λ e. let q = done-only n (anySeason (d .value)) (panics d) (valueBad (d .value)) (leb n room) (sym (in-order d room) ∙ e) in (q .0, q .1, no-fault (d .value) (q .2), leb-true n room (q .3)),
+    λ (h : (anySeason (d .value) ≡ false) × (panics d ≡ false) × (FaultIn (d .value) → ⊥) × (n ≤ room)). told false (h .0) ∙ rw (h .1, good (d .value) (h .2), le-leb n room (h .3)),
   )
+
+-- and so it is with the length
+pub season-measured : (d : Date) → (measured d ≡ NoLength (refused HasSeason)) ↔ (anySeason (d .value) ≡ true)
+unfolding answer decided
+season-measured d = (λ e. season-exactly d 0 .0 (ap (λ (m : Measured). decided m 0) e), λ q. seasoned d q .0)
 
 -- ---- no Date of the domain is refused
 
@@ -250,6 +288,16 @@ value-known (At a) w = end-known a w
 value-known (After a) w = end-known a w
 value-known (Before a) w = end-known a w
 value-known (Between a b) w = rw (end-known a (w .0), end-known b (w .1))
+
+-- nor has a season
+end-plain : (d : Datetime) → TimedIn d → hasSeason d ≡ false
+end-plain d w = ap isSeason (w .unseasoned)
+
+value-plain : (v : DateValue) → InTimed v → anySeason v ≡ false
+value-plain (At a) w = end-plain a w
+value-plain (After a) w = end-plain a w
+value-plain (Before a) w = end-plain a w
+value-plain (Between a b) w = ap (λ (x : Bool). x || hasSeason b) (end-plain a (w .0)) ∙ end-plain b (w .1)
 
 -- nor has a bad time
 in-clock : (d : OptionDay) {t : Time} → TimeIn d (SomeTime t) → ClockIn t
@@ -279,4 +327,4 @@ value-sound (Between a b) w (inr f) = end-sound b (w .1) f
 -- so where there is room its text is written
 pub accepted : (d : Date) → InTimed (d .value) → (room : ℕ) → length (timedText d) ≤ room → answer d room ≡ Done (length (timedText d))
 unfolding panics
-accepted d w room h = written-exactly d room .1 (value-known (d .value) w, value-sound (d .value) w, h)
+accepted d w room h = written-exactly d room .1 (value-plain (d .value) w, value-known (d .value) w, value-sound (d .value) w, h)

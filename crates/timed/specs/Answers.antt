@@ -4,10 +4,11 @@ use mathlib.Core.Bool.{Bool, _||_}
 use mathlib.Core.List.{List}
 use lib.ListN.{length}
 use Rattle.chars.specs.Pick.{pick}
-use Rattle.refusals.specs.declared.Kind.the-variants.{RustPanics, BadTime}
+use Rattle.refusals.specs.declared.Kind.the-variants.{RustPanics, BadTime, HasSeason}
 use Rattle.dates.specs.declared.DateValue.{DateValue}
 use Rattle.dates.specs.declared.DateValue.the-variants.{At, After, Before, Between}
 use Rattle.dates.specs.declared.Date.{Date}
+use Rattle.dates.specs.Value.{anySeason}
 use Rattle.clocks.specs.Clocks.{hasBadTime}
 use Rattle.writer.specs.declared.Measured.{Measured}
 use Rattle.writer.specs.declared.Measured.the-variants.{Length, NoLength}
@@ -24,9 +25,13 @@ valueBad (After d) = hasBadTime d
 valueBad (Before d) = hasBadTime d
 valueBad (Between a b) = hasBadTime a || hasBadTime b
 
--- the length of a date's text; RustPanics of either end comes before BadTime of either
+-- the length of the text of a date without seasons; RustPanics of either end comes before BadTime of either
+unfoldable pub plainMeasured : Date → Measured
+plainMeasured d = pick (panics d) (NoLength (refused RustPanics)) (pick (valueBad (d .value)) (NoLength (refused BadTime)) (Length (length (timedText d))))
+
+-- the length of a date's text: HasSeason if an end has a season, before all else
 unfoldable pub measured : Date → Measured
-measured d = pick (panics d) (NoLength (refused RustPanics)) (pick (valueBad (d .value)) (NoLength (refused BadTime)) (Length (length (timedText d))))
+measured d = pick (anySeason (d .value)) (NoLength (refused HasSeason)) (plainMeasured d)
 
 -- the answer with so much room: NoRoom comes last
 unfoldable pub answer : Date → ℕ → Written
@@ -34,4 +39,4 @@ answer d room = decided (measured d) room
 
 -- the buffer afterwards: the text at its front and what was behind it, or, after a refusal, all as it was
 unfoldable pub afterwards : Date → List ℕ → List ℕ
-afterwards d out = writing.afterwards (panics d || valueBad (d .value)) (timedText d) out
+afterwards d out = pick (anySeason (d .value)) out (writing.afterwards (panics d || valueBad (d .value)) (timedText d) out)

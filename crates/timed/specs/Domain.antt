@@ -1,5 +1,6 @@
 -- The Dates whose text with times is read back: those of the calendar with four-digit years, and times beside days.
 use Prim.Native.Nat.{_≤_, _<_}
+use mathlib.Core.Path.{_≡_}
 use lib.IntN.{natAbs}
 use Rattle.dates.specs.declared.OptionDay.{OptionDay}
 use Rattle.dates.specs.declared.OptionDay.the-variants.{NoDay, SomeDay}
@@ -10,6 +11,7 @@ use Rattle.dates.specs.declared.OptionOffset.the-variants.{NoOffset, SomeOffset
 use Rattle.dates.specs.declared.Time.{Time}
 use Rattle.dates.specs.declared.OptionTime.{OptionTime}
 use Rattle.dates.specs.declared.OptionTime.the-variants.{NoTime, SomeTime}
+use Rattle.dates.specs.declared.OptionSeason.the-variants.{NoSeason}
 use Rattle.dates.specs.declared.Datetime.{Datetime}
 use Rattle.dates.specs.declared.DateValue.{DateValue}
 use Rattle.dates.specs.declared.DateValue.the-variants.{At, After, Before, Between}
@@ -50,6 +52,8 @@ pub record TimedIn (d : Datetime) : Type 0 where
   pub parts-in : PartsIn (d .year) (d .month) (d .day)
   -- a time that a clock shows, beside the day
   pub time-in : TimeIn (d .day) (d .time)
+  -- a season is not written
+  pub unseasoned : d .season ≡ NoSeason
 
 -- every end of a Date
 abbrev pub InTimed : DateValue → Type 0

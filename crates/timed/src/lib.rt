@@ -5,6 +5,7 @@ ghost use mathlib.Core.Bool.{false};
 ghost use mathlib.Core.List.{[], _∷_};
 ghost use Prim.Native.Nat.{_+_, _≤_, _<_};
 ghost use lib.ListN.{length};
+ghost use Rattle.dates.specs.Value.{hasSeason, anySeason};
 ghost use Rattle.writer.specs.Answers as writing;
 ghost use Rattle.writer.specs.Answers.{Put};
 ghost use Rattle.writer.specs.Texts as text;
@@ -197,7 +198,7 @@ fn put_time(t: OptionTime, out: &mut [u8], at: usize) -> usize
 
 // The year, the month and the day: the rest of the buffer is lent on to the writer of dates, which does not refuse where there is room.
 fn put_datetime(d: Datetime, out: &mut [u8], at: usize) -> usize
-    requires { ⌜ (text.endPanics d ≡ false) × (at + length (text.datetimeText d) ≤ length (now out)) ⌝ }
+    requires { ⌜ (hasSeason d ≡ false) × (text.endPanics d ≡ false) × (at + length (text.datetimeText d) ≤ length (now out)) ⌝ }
     ensures { λ r. ⌜ Put (text.datetimeText d) (now (out .entry)) at (now (out .exit)) r ⌝ }
 {
     let w = write_text(Date::from_datetime(d), &mut out[at..]);
@@ -209,7 +210,7 @@ fn put_datetime(d: Datetime, out: &mut [u8], at: usize) -> usize
 
 // One end of a date.
 fn put_end(d: Datetime, out: &mut [u8], at: usize) -> usize
-    requires { ⌜ (text.endPanics d ≡ false) × (at + length (timed.endText d) ≤ length (now out)) ⌝ }
+    requires { ⌜ (hasSeason d ≡ false) × (text.endPanics d ≡ false) × (at + length (timed.endText d) ≤ length (now out)) ⌝ }
     ensures { λ r. ⌜ Put (timed.endText d) (now (out .entry)) at (now (out .exit)) r ⌝ }
 {
     let time = d.time;
@@ -219,7 +220,7 @@ fn put_end(d: Datetime, out: &mut [u8], at: usize) -> usize
 
 // A point or a range, at the front of the buffer.
 fn put_value(v: DateValue, out: &mut [u8]) -> usize
-    requires { ⌜ (text.valuePanics v ≡ false) × (length (timed.valueText v) ≤ length (now out)) ⌝ }
+    requires { ⌜ (anySeason v ≡ false) × (text.valuePanics v ≡ false) × (length (timed.valueText v) ≤ length (now out)) ⌝ }
     ensures { λ r. ⌜ Put (timed.valueText v) (now (out .entry)) 0 (now (out .exit)) r ⌝ }
 {
     match v {
@@ -259,7 +260,7 @@ fn put_mark(uncertain: bool, approximate: bool, out: &mut [u8], at: usize) -> us
 
 // A date, at the front of the buffer.
 fn put_date(d: Date, out: &mut [u8]) -> usize
-    requires { ⌜ (text.panics d ≡ false) × (length (timed.timedText d) ≤ length (now out)) ⌝ }
+    requires { ⌜ (anySeason (d .value) ≡ false) × (text.panics d ≡ false) × (length (timed.timedText d) ≤ length (now out)) ⌝ }
     ensures { λ r. ⌜ Put (timed.timedText d) (now (out .entry)) 0 (now (out .exit)) r ⌝ }
 {
     let v = d.value;

@@ -79,15 +79,15 @@ unfolding minus
 minus-most (pos n) = omega arith
 minus-most (negsuc n) = omega arith
 
-year-by : (y : ℤ) (k : ℕ) → 4 ≤ k → digitCount (natAbs y) ≤ k → length (yearText y) ≤ k + 1
+pub year-by : (y : ℤ) (k : ℕ) → 4 ≤ k → digitCount (natAbs y) ≤ k → length (yearText y) ≤ k + 1
 unfolding yearText
 year-by y k h g =
     omega (arith, length-append (minus y) (decimal 4 (natAbs y)), length-decimal 4 (natAbs y), minus-most y, at-most 4 (natAbs y) k h g)
 
-year-most : (y : ℤ) → SFits w32 y → length (yearText y) ≤ 11
+pub year-most : (y : ℤ) → SFits w32 y → length (yearText y) ≤ 11
 year-most y f = let n = fits-abs y f .fits in year-by y 10 (omega arith) (few 10 (natAbs y) (omega arith))
 
-year-short : (y : ℤ) → natAbs y < 10000 → length (yearText y) ≤ 5
+pub year-short : (y : ℤ) → natAbs y < 10000 → length (yearText y) ≤ 5
 year-short y h = year-by y 4 (omega arith) (few 4 (natAbs y) (omega arith))
 
 part-by : (n k : ℕ) → 2 ≤ k → digitCount n ≤ k → length (partText n) ≤ k
@@ -127,6 +127,11 @@ parts-most (one {m} h) = omega (arith, hyphen-length (m .0))
 parts-most (two {m} {d} h g) = omega (arith, length-append (hyphenPart (m .0)) (hyphenPart (d .0)), hyphen-length (m .0), hyphen-length (d .0))
 parts-most over = omega arith
 
+-- of a stored Datetime
+pub behind-most : (d : Datetime) → Stored d → length (partsText (partsOf d)) ≤ 8
+unfolding partsOf
+behind-most d s = parts-most (short (d .month) (d .day) (s .month-in) (s .day-in))
+
 datetime-by : (y k : ℕ) (d : Datetime) → length (yearText (d .year)) ≤ y → Short k (monthParts (d .month) (d .day)) → length (datetimeText d) ≤ y + (2 * k + 2)
 unfolding datetimeText partsOf
 datetime-by y k d h p = omega (arith, length-append (yearText (d .year)) (partsText (monthParts (d .month) (d .day))), parts-most p)
@@ -134,11 +139,11 @@ datetime-by y k d h p = omega (arith, length-append (yearText (d .year)) (partsT
 datetime-most : (d : Datetime) → Stored d → length (datetimeText d) ≤ 19
 datetime-most d s = datetime-by 11 3 d (year-most (d .year) (s .year-in)) (short (d .month) (d .day) (s .month-in) (s .day-in))
 
-datetime-short : (d : Datetime) → Narrow d → length (datetimeText d) ≤ 11
+pub datetime-short : (d : Datetime) → Narrow d → length (datetimeText d) ≤ 11
 datetime-short d s =
     datetime-by 5 2 d (year-short (d .year) (s .year-in)) (short-by 99 2 (λ i h. part-short i (omega arith)) (d .month) (d .day) (s .month-in) (s .day-in))
 
-mark-most : (u a : Bool) → length (markText u a) ≤ 1
+pub mark-most : (u a : Bool) → length (markText u a) ≤ 1
 unfolding markText
 mark-most true true = omega arith
 mark-most false true = omega arith

@@ -1,4 +1,4 @@
--- Texts and fields of some dates, as the ported code writes them: one theorem over one list each. Assumes nothing.
+-- Texts and fields of some dates, as the ported code and the writer of level one have them: one theorem over one list each. Assumes nothing.
 use mathlib.Core.Path.{_≡_, refl}
 use mathlib.Core.Bool.{true, false}
 use mathlib.Core.List.{List, [], _∷_, map}
@@ -7,19 +7,23 @@ use Prim.Native.String.{String}
 use lib.Dec.{eqb}
 use lib.IntN.{ℤ, pos, negsuc}
 use Rattle.chars.specs.Pick.{pick}
+use Rattle.dates.specs.declared.OptionMonth.{OptionMonth}
 use Rattle.dates.specs.declared.OptionMonth.the-variants.{NoMonth}
 use Rattle.dates.specs.declared.OptionDay.the-variants.{NoDay}
 use Rattle.dates.specs.declared.OptionTime.the-variants.{NoTime, SomeTime}
 use Rattle.dates.specs.declared.OptionOffset.the-variants.{NoOffset}
+use Rattle.dates.specs.declared.OptionSeason.{OptionSeason}
+use Rattle.dates.specs.declared.OptionSeason.the-variants.{NoSeason, Spring, Summer, Autumn, Winter}
 use Rattle.dates.specs.declared.Datetime.{Datetime}
 use Rattle.dates.specs.declared.DateValue.the-variants.{At, After, Before, Between}
 use Rattle.dates.specs.declared.Date.{Date}
-use Rattle.dates.specs.Value.{month, day, datetime, date}
+use Rattle.dates.specs.Value.{month, day, datetime, seasonOf, date}
 use Rattle.dates.specs.Time.{time}
 use Rattle.chars.specs.Ascii.{ascii}
 use Rattle.writer.specs.Numbers.{count, digitCount, width, decimal}
-use Rattle.writer.specs.Texts.{minus, yearText, writtenMonth, writtenDay, dayParts, monthParts, partsOf, partText, hyphenPart, partsText, datetimeText, valueText, markText, dateText}
+use Rattle.writer.specs.Texts.{minus, yearText, writtenMonth, writtenDay, dayParts, monthParts, partsOf, partText, hyphenPart, partsText, datetimeText, valueText, markText, dateText, tooLarge, endPanics}
 use Rattle.writer.specs.Fields.{prefix, line, partLines, endLines, valueLines, fieldsText}
+use Rattle.writer.specs.Level.{longSign, behindText, levelEnd, levelValue, levelText, levelEndPanics, levelValuePanics, levelPanics}
 
 -- a date, and what is written
 pub record Example : Type 0 where
@@ -59,3 +63,35 @@ fields =
 pub field-examples : map (λ (e : Example). fieldsText (e .of)) fields ≡ map (λ (e : Example). lines (ascii (e .text))) fields
 unfolding fieldsText valueLines endLines line prefix partLines yearText minus decimal width digitCount count partsOf monthParts dayParts writtenMonth writtenDay partText pick
 field-examples = refl
+
+-- an end with everything
+abbrev pub full : ℤ → OptionMonth → OptionSeason → Datetime
+full y m s = record { year = y; month = m; day = day 254; time = SomeTime (time 1 2 3 NoOffset); season = s }
+
+-- by the writer of level one
+abbrev pub levels : List Example
+levels =
+    record { of = date (At (seasonOf (pos 2000) Spring)) false false; text = "2000-21" }
+    ∷ record { of = date (At (seasonOf (negsuc 43) Winter)) false false; text = "-0044-24" }
+    ∷ record { of = date (At (year (pos 12345))) false false; text = "Y12345" }
+    ∷ record { of = date (At (year (negsuc 123456788))) false true; text = "Y-123456789~" }
+    ∷ record { of = date (At (year (pos 9999))) false false; text = "9999" }
+    ∷ record { of = date (At (year (negsuc 9998))) false false; text = "-9999" }
+    ∷ record { of = date (At (year (pos 10000))) false false; text = "Y10000" }
+    ∷ record { of = date (At (year (negsuc 9999))) false false; text = "Y-10000" }
+    ∷ record { of = date (At (full (pos 2000) (month 255) Summer)) false false; text = "2000-22" }
+    ∷ record { of = date (At (full (pos 2000) (month 0) NoSeason)) false false; text = "2000-01-255" }
+    ∷ record { of = date (At (full (pos 12345) NoMonth Autumn)) false false; text = "Y12345-23" }
+    ∷ record { of = date (Between (seasonOf (pos 1999) Autumn) (seasonOf (pos 2000) Winter)) true false; text = "1999-23/2000-24?" }
+    ∷ record { of = date (After (year (negsuc 12344))) false false; text = "Y-12345/.." }
+    ∷ record { of = date (Before (seasonOf (pos 0) Summer)) true true; text = "../0000-22%" }
+    ∷ []
+
+pub level-examples : map (λ (e : Example). levelText (e .of)) levels ≡ map (λ (e : Example). ascii (e .text)) levels
+unfolding levelText levelValue levelEnd longSign behindText yearText minus decimal width digitCount count partsOf monthParts dayParts writtenMonth writtenDay partsText hyphenPart partText markText pick
+level-examples = refl
+
+-- each is written
+pub levels-written : map (λ (e : Example). levelPanics (e .of)) levels ≡ map (λ (e : Example). false) levels
+unfolding levelPanics levelValuePanics levelEndPanics endPanics tooLarge partsOf monthParts dayParts pick
+levels-written = refl

@@ -1,6 +1,7 @@
 pub mod Counts
 pub mod Puts
 pub mod Pieces
+pub mod Levels
 pub mod Answered
 pub mod Bounds
 pub mod Examples

@@ -1,9 +1,11 @@
 -- The texts that the writers put together, by the tests and variants that lead to them. Over plain variables. Assumes nothing.
 use mathlib.Core.Path.{_≡_, refl, sym, ap, _∙_}
-use mathlib.Core.Bool.{Bool, true, false, false≢true}
+use mathlib.Core.Bool.{Bool, true, false, false≢true, _||_}
+use mathlib.Core.Logic.{_⊎_, inl, inr}
 use mathlib.Core.List.{List, [], _∷_, _++_}
 use Prim.Native.Nat.{ℕ, _+_, _<_}
 use native.Mathlib.Omega.{arith}
+use lib.Dec.{ltb}
 use lib.ListN.{length, length-append}
 use lib.IntN.{ℤ, pos, negsuc, natAbs}
 use lib.Signed.{ltZ}
@@ -11,13 +13,34 @@ use mir.Syntax.{w32}
 use mir.Val.{SFits, ofZ, toZ}
 use mir.ValLaws.{toZ-ofZ}
 use borrow.Author.Tests.{ltb-true}
+use Rattle.chars.specs.Pick.{pick}
 use Rattle.dates.specs.declared.Datetime.{Datetime}
+use Rattle.dates.specs.Value.{hasSeason, seasonNumber}
 use Rattle.writer.specs.declared.Parts.{Parts}
 use Rattle.chars.specs.Ascii.{ascii}
 use Rattle.writer.specs.Numbers.{width, decimal}
 use Rattle.writer.specs.Texts.{minus, yearText, partsOf, partText, hyphenPart, partsText, datetimeText, markText}
 use Rattle.writer.specs.Fields.{prefix, line, partLines, endLines}
+use Rattle.writer.specs.Level.{longSign, behindText}
 use Rattle.writer.proofs.Counts.{length-decimal}
+
+-- what a test of two ends says
+pub either : (a : Bool) {b : Bool} → a || b ≡ true → (a ≡ true) ⊎ (b ≡ true)
+either true e = inl refl
+either false e = inr e
+
+pub one-of : (a : Bool) {b : Bool} → (a ≡ true) ⊎ (b ≡ true) → a || b ≡ true
+one-of true e = refl
+one-of false (inl e) = absurd (false≢true e)
+one-of false (inr e) = e
+
+pub first-false : (a b : Bool) → a || b ≡ false → a ≡ false
+first-false true b e = e
+first-false false b e = refl
+
+pub second-false : (a b : Bool) → a || b ≡ false → b ≡ false
+second-false true b e = absurd (false≢true (sym e))
+second-false false b e = e
 
 -- the length of two texts
 pub added : (a b : List ℕ) {m n : ℕ} → m ≡ length a → n ≡ length b → m + n ≡ length (a ++ b)
@@ -91,3 +114,28 @@ line-length end name value = rw (length-append, length-append, length-append)
 pub hyphen-length : (n : ℕ) → length (hyphenPart n) ≡ length (partText n) + 1
 unfolding hyphenPart
 hyphen-length n = length-append (ascii "-") (partText n) ∙ omega arith
+
+-- ---- level one
+
+-- Y, by whether the year is short
+module _ (y : ℤ) (f : SFits w32 y) {b : Bool} (e : b ≡ ltb (natAbs (toZ w32 (ofZ w32 y))) 10000) where
+  short-known : b ≡ ltb (natAbs y) 10000
+  short-known = e ∙ ap (λ (z : ℤ). ltb (natAbs z) 10000) (toZ-ofZ w32 y f)
+
+  pub has-sign : b ≡ false → longSign y ≡ 89 ∷ []
+  unfolding longSign pick
+  has-sign t = rw (sym short-known ∙ t)
+
+  pub no-sign : b ≡ true → longSign y ≡ []
+  unfolding longSign pick
+  no-sign t = rw (sym short-known ∙ t)
+
+-- behind the year, by whether there is a season
+module _ (d : Datetime) {b : Bool} (e : b ≡ hasSeason d) where
+  pub season-behind : b ≡ true → {n : ℕ} → n ≡ seasonNumber (d .season) → behindText d ≡ hyphenPart n
+  unfolding behindText pick
+  season-behind t g = ap (λ (x : Bool). pick x (hyphenPart (seasonNumber (d .season))) (partsText (partsOf d))) (sym e ∙ t) ∙ ap hyphenPart (sym g)
+
+  pub parts-behind : b ≡ false → {p : Parts} → p ≡ partsOf d → behindText d ≡ partsText p
+  unfolding behindText pick
+  parts-behind t g = ap (λ (x : Bool). pick x (hyphenPart (seasonNumber (d .season))) (partsText (partsOf d))) (sym e ∙ t) ∙ ap partsText (sym g)

@@ -8,13 +8,16 @@ use lib.ListN.{length, drop}
 use lib.Seq.{sets}
 use Rattle.chars.specs.Pick.{pick}
 use Rattle.refusals.specs.declared.Kind.{Kind}
-use Rattle.refusals.specs.declared.Kind.the-variants.{RustPanics, NoRoom}
+use Rattle.refusals.specs.declared.Kind.the-variants.{RustPanics, NoRoom, HasSeason}
 use Rattle.refusals.specs.declared.Refusal.{Refusal}
 use Rattle.refusals.specs.Refusal.{fileSpan, refusal}
+use Rattle.dates.specs.declared.Date.{Date}
+use Rattle.dates.specs.Value.{anySeason}
 use Rattle.writer.specs.declared.Measured.{Measured}
 use Rattle.writer.specs.declared.Measured.the-variants.{Length, NoLength}
 use Rattle.writer.specs.declared.Written.{Written}
 use Rattle.writer.specs.declared.Written.the-variants.{Done, Refused}
+use Rattle.writer.specs.Texts.{panics}
 
 -- a refusal that names no place
 unfoldable pub refused : Kind → Refusal
@@ -36,6 +39,18 @@ answer panics text room = decided (measured panics text) room
 -- the buffer afterwards: the text at its front and what was behind it, or, after a refusal, all as it was
 unfoldable pub afterwards : Bool → List ℕ → List ℕ → List ℕ
 afterwards panics text out = pick panics out (pick (leb (length text) (length out)) (text ++ drop (length text) out) out)
+
+-- the length of what these writers make of a date: HasSeason if an end has a season, before all else
+unfoldable pub dateMeasured : Date → List ℕ → Measured
+dateMeasured d text = pick (anySeason (d .value)) (NoLength (refused HasSeason)) (measured (panics d) text)
+
+-- their answer with so much room
+unfoldable pub dateAnswer : Date → List ℕ → ℕ → Written
+dateAnswer d text room = decided (dateMeasured d text) room
+
+-- the buffer afterwards; HasSeason leaves all as it was
+unfoldable pub dateAfterwards : Date → List ℕ → List ℕ → List ℕ
+dateAfterwards d text out = pick (anySeason (d .value)) out (afterwards (panics d) text out)
 
 -- a text was put at a place of a buffer: the place behind it is given, and all other bytes are as they were
 pub record Put (text before : List ℕ) (at : ℕ) (after : List ℕ) (next : ℕ) : Type 0 where

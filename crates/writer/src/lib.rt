@@ -1,9 +1,10 @@
-// Writing a date as text, and its fields as lines, into a buffer that the caller lends. The length is measured before the first byte is
+// Writing a date as text, as fields in lines, and as text of level one, into a buffer that the caller lends. The length is measured before the first byte is
 // stored. The writers below put a text at a place of a buffer that has the room, and give the place behind it.
 ghost use mathlib.Core.Path.{_≡_};
 ghost use mathlib.Core.Bool.{false};
 ghost use mathlib.Core.List.{[], _∷_, _++_};
 ghost use Prim.Native.Nat.{_+_, _≤_, _<_};
+ghost use lib.Dec.{ltb};
 ghost use lib.IntN.{natAbs};
 ghost use lib.ListN.{length};
 ghost use Rattle.chars.specs.Ascii.{ascii};
@@ -12,6 +13,7 @@ ghost use Rattle.writer.specs.Texts as text;
 ghost use Rattle.writer.specs.Fields as field;
 ghost use Rattle.writer.specs.Answers as spec;
 ghost use Rattle.writer.specs.Answers.{Put};
+ghost use Rattle.writer.specs.Level as level;
 use dates::Date;
 use dates::DateValue;
 use dates::Datetime;
@@ -21,6 +23,7 @@ use dates::OptionDay;
 use dates::OptionMonth;
 use dates::WrittenDay;
 use dates::WrittenMonth;
+use dates::season_number;
 use refusals::FileSpan;
 use refusals::Kind;
 use refusals::Refusal;
@@ -529,25 +532,32 @@ fn refuse(kind: Kind) -> Refusal
 
 // How long the text of a date is: at most 40 bytes. It refuses what `write_text` refuses, apart from NoRoom.
 pub fn date_length(d: Date) -> Measured
-    ensures { λ r. ⌜ r ≡ spec.measured (text.panics d) (text.dateText d) ⌝ }
+    ensures { λ r. ⌜ r ≡ spec.dateMeasured d (text.dateText d) ⌝ }
     ensures { λ r. ⌜ (text.panics d ≡ false → length (text.dateText d) ≤ 40) ⌝ }
 {
     let v = d.value;
+    let n = value_length(v) + mark_length(d.uncertain, d.approximate);
+    if v.has_season() {
+        return Measured::NoLength(refuse(Kind::HasSeason));
+    }
     if value_panics(v) {
         return Measured::NoLength(refuse(Kind::RustPanics));
     }
-    Measured::Length(value_length(v) + mark_length(d.uncertain, d.approximate))
+    Measured::Length(n)
 }
 
 // How long the fields of a date are. It refuses what `write_fields` refuses, apart from NoRoom.
 pub fn fields_length(d: Date) -> Measured
-    ensures { λ r. ⌜ r ≡ spec.measured (text.panics d) (field.fieldsText d) ⌝ }
+    ensures { λ r. ⌜ r ≡ spec.dateMeasured d (field.fieldsText d) ⌝ }
 {
-    let v = d.value;
-    if value_panics(v) {
+    let value = d.value;
+    if value.has_season() {
+        return Measured::NoLength(refuse(Kind::HasSeason));
+    }
+    if value_panics(value) {
         return Measured::NoLength(refuse(Kind::RustPanics));
     }
-    Measured::Length(value_lines_length(v))
+    Measured::Length(value_lines_length(value))
 }
 
 // What is answered to a text that was measured, with so much room.
@@ -567,8 +577,8 @@ fn decide(m: Measured, room: usize) -> Written
 
 // The text of a date, at the front of the lent buffer; a refusal stores nothing. Whoever measured the date knows the room that it needs.
 pub fn write_text(d: Date, out: &mut [u8]) -> Written
-    ensures { λ r. ⌜ r ≡ spec.answer (text.panics d) (text.dateText d) (length (now (out .entry))) ⌝ }
-    ensures { λ r. ⌜ now (out .exit) ≡ spec.afterwards (text.panics d) (text.dateText d) (now (out .entry)) ⌝ }
+    ensures { λ r. ⌜ r ≡ spec.dateAnswer d (text.dateText d) (length (now (out .entry))) ⌝ }
+    ensures { λ r. ⌜ now (out .exit) ≡ spec.dateAfterwards d (text.dateText d) (now (out .entry)) ⌝ }
     ensures { λ r. ⌜ (text.panics d ≡ false → length (text.dateText d) ≤ 40) ⌝ }
 {
     match decide(date_length(d), out.len()) {
@@ -579,8 +589,8 @@ pub fn write_text(d: Date, out: &mut [u8]) -> Written
 
 // Both in one call: the date is measured, then its text is written.
 pub fn write_date(d: Date, out: &mut [u8]) -> Written
-    ensures { λ r. ⌜ r ≡ spec.answer (text.panics d) (text.dateText d) (length (now (out .entry))) ⌝ }
-    ensures { λ r. ⌜ now (out .exit) ≡ spec.afterwards (text.panics d) (text.dateText d) (now (out .entry)) ⌝ }
+    ensures { λ r. ⌜ r ≡ spec.dateAnswer d (text.dateText d) (length (now (out .entry))) ⌝ }
+    ensures { λ r. ⌜ now (out .exit) ≡ spec.dateAfterwards d (text.dateText d) (now (out .entry)) ⌝ }
     ensures { λ r. ⌜ (text.panics d ≡ false → length (text.dateText d) ≤ 40) ⌝ }
 {
     match date_length(d) {
@@ -591,12 +601,181 @@ pub fn write_date(d: Date, out: &mut [u8]) -> Written
 
 // The fields of a date, at the front of the lent buffer; a refusal stores nothing.
 pub fn write_fields(d: Date, out: &mut [u8]) -> Written
-    ensures { λ r. ⌜ r ≡ spec.answer (text.panics d) (field.fieldsText d) (length (now (out .entry))) ⌝ }
-    ensures { λ r. ⌜ now (out .exit) ≡ spec.afterwards (text.panics d) (field.fieldsText d) (now (out .entry)) ⌝ }
+    ensures { λ r. ⌜ r ≡ spec.dateAnswer d (field.fieldsText d) (length (now (out .entry))) ⌝ }
+    ensures { λ r. ⌜ now (out .exit) ≡ spec.dateAfterwards d (field.fieldsText d) (now (out .entry)) ⌝ }
 {
     let v = d.value;
     match decide(fields_length(d), out.len()) {
         Written::Done(_) => Written::Done(put_value_lines(v, out)),
+        Written::Refused(e) => Written::Refused(e),
+    }
+}
+
+// ---- level one
+
+// Whether a year has at most four digits.
+fn is_short(year: i32) -> bool
+    ensures { λ r. ⌜ r ≡ ltb (natAbs year) 10000 ⌝ }
+{
+    magnitude(year) < 10000
+}
+
+// Y, if the year has more than four digits.
+fn put_long_sign(year: i32, out: &mut [u8], at: usize) -> usize
+    requires { ⌜ at + length (level.longSign year) ≤ length (now out) ⌝ }
+    ensures { λ r. ⌜ Put (level.longSign year) (now (out .entry)) at (now (out .exit)) r ⌝ }
+{
+    if is_short(year) {
+        return at;
+    }
+    put_byte(b'Y', out, at)
+}
+
+// How long that is.
+fn long_sign_length(year: i32) -> usize
+    ensures { λ r. ⌜ (r ≡ length (level.longSign year)) × (r < 2) ⌝ }
+{
+    if is_short(year) {
+        return 0;
+    }
+    1
+}
+
+// The season, or else the month and the day.
+fn put_behind(d: Datetime, out: &mut [u8], at: usize) -> usize
+    requires { ⌜ at + length (level.behindText d) ≤ length (now out) ⌝ }
+    ensures { λ r. ⌜ Put (level.behindText d) (now (out .entry)) at (now (out .exit)) r ⌝ }
+{
+    if d.has_season() {
+        let season = d.season;
+        return put_hyphen_part(season_number(season), out, at);
+    }
+    let p = parts_of(d);
+    put_parts(p, out, at)
+}
+
+// How long that is.
+fn behind_length(d: Datetime) -> usize
+    ensures { λ r. ⌜ (r ≡ length (level.behindText d)) × (r < 9) ⌝ }
+{
+    if d.has_season() {
+        let season = d.season;
+        return part_length(season_number(season)) + 1;
+    }
+    let p = parts_of(d);
+    parts_length(p)
+}
+
+// One end of a date.
+fn put_level_end(d: Datetime, out: &mut [u8], at: usize) -> usize
+    requires { ⌜ at + length (level.levelEnd d) ≤ length (now out) ⌝ }
+    ensures { λ r. ⌜ Put (level.levelEnd d) (now (out .entry)) at (now (out .exit)) r ⌝ }
+{
+    let j = put_long_sign(d.year, out, at);
+    let k = put_year(d.year, out, j);
+    put_behind(d, out, k)
+}
+
+// How long it is.
+fn level_end_length(d: Datetime) -> usize
+    ensures { λ r. ⌜ (r ≡ length (level.levelEnd d)) × (r < 21) ⌝ }
+{
+    long_sign_length(d.year) + year_length(d.year) + behind_length(d)
+}
+
+// A point or a range, at the front of the buffer.
+fn put_level_value(v: DateValue, out: &mut [u8]) -> usize
+    requires { ⌜ length (level.levelValue v) ≤ length (now out) ⌝ }
+    ensures { λ r. ⌜ Put (level.levelValue v) (now (out .entry)) 0 (now (out .exit)) r ⌝ }
+{
+    match v {
+        DateValue::At(d) => put_level_end(d, out, 0),
+        DateValue::After(d) => {
+            let k = put_level_end(d, out, 0);
+            put_bytes(b"/..", out, k)
+        }
+        DateValue::Before(d) => {
+            let k = put_bytes(b"../", out, 0);
+            put_level_end(d, out, k)
+        }
+        DateValue::Between(a, b) => {
+            let j = put_level_end(a, out, 0);
+            let k = put_byte(b'/', out, j);
+            put_level_end(b, out, k)
+        }
+    }
+}
+
+// How long it is.
+fn level_value_length(v: DateValue) -> usize
+    ensures { λ r. ⌜ (r ≡ length (level.levelValue v)) × (r < 42) ⌝ }
+{
+    match v {
+        DateValue::At(d) => level_end_length(d),
+        DateValue::After(d) => level_end_length(d) + 3,
+        DateValue::Before(d) => 3 + level_end_length(d),
+        DateValue::Between(a, b) => level_end_length(a) + 1 + level_end_length(b),
+    }
+}
+
+// A date, at the front of the buffer.
+fn put_level_date(d: Date, out: &mut [u8]) -> usize
+    requires { ⌜ length (level.levelText d) ≤ length (now out) ⌝ }
+    ensures { λ r. ⌜ Put (level.levelText d) (now (out .entry)) 0 (now (out .exit)) r ⌝ }
+{
+    let v = d.value;
+    let j = put_level_value(v, out);
+    put_mark(d.uncertain, d.approximate, out, j)
+}
+
+// Whether an end has no text. Beside a season no month and no day is looked at.
+fn level_end_panics(d: Datetime) -> bool
+    ensures { λ r. ⌜ r ≡ level.levelEndPanics d ⌝ }
+{
+    if d.has_season() {
+        return false;
+    }
+    end_panics(d)
+}
+
+// Whether one of the ends has none.
+fn level_value_panics(v: DateValue) -> bool
+    ensures { λ r. ⌜ r ≡ level.levelValuePanics v ⌝ }
+{
+    match v {
+        DateValue::At(d) => level_end_panics(d),
+        DateValue::After(d) => level_end_panics(d),
+        DateValue::Before(d) => level_end_panics(d),
+        DateValue::Between(a, b) => {
+            if level_end_panics(a) {
+                return true;
+            }
+            level_end_panics(b)
+        }
+    }
+}
+
+// How long the text of a date is by the writer of level one: at most 42 bytes. It refuses what `write_level` refuses, apart from NoRoom.
+pub fn level_length(d: Date) -> Measured
+    ensures { λ r. ⌜ r ≡ spec.measured (level.levelPanics d) (level.levelText d) ⌝ }
+    ensures { λ r. ⌜ length (level.levelText d) ≤ 42 ⌝ }
+{
+    let v = d.value;
+    let n = level_value_length(v) + mark_length(d.uncertain, d.approximate);
+    if level_value_panics(v) {
+        return Measured::NoLength(refuse(Kind::RustPanics));
+    }
+    Measured::Length(n)
+}
+
+// The text of a date by the writer of level one, at the front of the lent buffer; a refusal stores nothing. It knows seasons, and refuses none.
+pub fn write_level(d: Date, out: &mut [u8]) -> Written
+    ensures { λ r. ⌜ r ≡ spec.answer (level.levelPanics d) (level.levelText d) (length (now (out .entry))) ⌝ }
+    ensures { λ r. ⌜ now (out .exit) ≡ spec.afterwards (level.levelPanics d) (level.levelText d) (now (out .entry)) ⌝ }
+    ensures { λ r. ⌜ length (level.levelText d) ≤ 42 ⌝ }
+{
+    match decide(level_length(d), out.len()) {
+        Written::Done(_) => Written::Done(put_level_date(d, out)),
         Written::Refused(e) => Written::Refused(e),
     }
 }

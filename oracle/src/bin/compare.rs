@@ -6,7 +6,7 @@ use std::fs;
 use std::io::{self, Write};
 use std::process::ExitCode;
 
-use oracle::{describe_answer, describe_frame};
+use oracle::{describe_answer_to, describe_frame};
 
 const SHOWN: usize = 50;
 
@@ -72,7 +72,7 @@ fn compare(
         writeln!(out, "  line {line}, {times} times: {}", describe_frame(frame))?;
         for (name, answer) in names.iter().zip(pair) {
             match answer {
-                Some(answer) => writeln!(out, "  {name}: {}", describe_answer(answer))?,
+                Some(answer) => writeln!(out, "  {name}: {}", describe_answer_to(frame, answer))?,
                 None => writeln!(out, "  {name}: no answer")?,
             }
         }

@@ -6,14 +6,16 @@ use std::io::{self, BufWriter, Write};
 use std::process::ExitCode;
 
 use oracle::make::{hex, list, normal, one, piece, sized, spread, three, Piece, MONTH_NAMES};
-use oracle::{PORTED, STRICT, STRICT_TOO};
+use oracle::{LEVEL, PORTED, STRICT, STRICT_TOO};
 
 const USAGE: &str = "usage: gen list
        gen many N SEED
+       gen level N SEED
        gen import N SEED
 
 list   the fixed list; its last line has no line feed
 many   N frames by a seed, most of them odd, for comparing
+level  N frames by a seed, most of them the level-one reader's
 import N frames by a seed as an import file has them, for measuring";
 
 fn main() -> ExitCode {
@@ -25,8 +27,12 @@ fn main() -> ExitCode {
             (Ok(n), Ok(seed)) => many(n, seed, out),
             _ => return fail(USAGE),
         },
+        ["level", n, seed] => match (n.parse(), seed.parse()) {
+            (Ok(n), Ok(seed)) => drawn(n, seed, leveled, out),
+            _ => return fail(USAGE),
+        },
         ["import", n, seed] => match (n.parse(), seed.parse()) {
-            (Ok(n), Ok(seed)) => import(n, seed, out),
+            (Ok(n), Ok(seed)) => drawn(n, seed, import_line, out),
             _ => return fail(USAGE),
         },
         _ => return fail(USAGE),
@@ -190,6 +196,55 @@ const ODD: &[char] = &[
     '\u{2013}', '\u{2028}', '\u{202f}', '\u{205f}', '\u{206f}', '\u{2070}',
 ];
 
+/// Texts of the level-one reader, and what is nearly one.
+#[rustfmt::skip]
+const LEVELS: &[&str] = &[
+    // Strict texts, and what is none.
+    "2000", "0000", "-0000", "-0044", "9999", "-9999", "2000-02", "2000-12", "2000-02-29",
+    "-0004-02-29", "2000-12-31T23:59:59", "2000-12-31T23:59:59Z", "2000-01-01T00:00:00+23:59",
+    "2000-01-01T00:00:00-00:00", "19XX", "199X", "2000-XX", "2000-XX-XX", "2000-02-XX",
+    "1900-02-XX", "2000-04-XX", "2000-01-XX", "2000/2001", "2001/2000", "2000/..", "../2000",
+    "2000-01/2001-02-03", "", " ", "?", "/", "..", "../..", "../", "/..", "2000/", "/2000",
+    "2000//2001", "2000/2001/2002", "49", "200", "+2000", "--2000", " 2000", "2000 ", "2000-2",
+    "2000-00", "2000-13", "1900-02-29", "2000-04-31", "2000-01-00", "2000-01-32", "2000T10:20:30",
+    "2000-01T10:20:30", "2000-01-01T24:00:00", "2000-01-01T10:60:00", "2000-01-01T10:20:60",
+    "2000-01-01T10:20", "2000-01-01t10:20:30", "2000-01-01T10:20:30z", "2000-01-01T10:20:30+24:00",
+    "2000-01-01T10:20:30+02:60", "2000-01-01T10:20:30+02", "19xx", "-19XX", "1XXX", "XXXX",
+    "19XX/2005", "19XX/..", "2000/20XX", "2000-XX-01", "2000-13-XX", "2000-00-XX", "2000-1-XX",
+    "2000-X1", "2000??", "2000?~", "2000~%", "2000?/2001", "../2000?", "2000/..~", "2000%/..",
+    "..?/2000", "19XX%", "2000-02-XX~", "é", "2000é", "½000",
+    // Seasons.
+    "2000-19", "2000-20", "2000-21", "2000-22", "2000-23", "2000-24", "2000-25", "2000-31",
+    "2000-33", "2000-41", "2000-42", "2000-99", "-0044-21", "-9999-24", "0000-21", "-0000-21",
+    "-0000-24", "9999-23", "+2000-21", "2000-21?", "2000-22~", "2000-23%", "2000-24??", "2000-21-",
+    "2000-21-01", "2000-21-21", "2000-21-XX", "2000-XX-21", "2000-01-21", "2000-2", "2000-021",
+    "2000-210", "2000-2X", "200X-21", "20XX-21", "49-21", "200-21", "20000-21", "2000-21T10:20:30",
+    "2000-21-01T10:20:30", "2000-21Z", "2000-21+01:00", "2000 -21", "2000-21 ", "2000- 21",
+    "2000--21", "2000 21", "200021", "2000/21", "2000.21", "2000-S1", "2000-spring", "spring 2000",
+    "2000-21/2000-24", "2000-24/2000-21", "2000-21/..", "../2000-21", "2000-21/2001",
+    "2000/2001-24", "2000-21/2001-02-03", "2000-02-29T10:20:30Z/2000-22", "-0044-21/0044-22?",
+    "../-0044-24~", "2000-24/..%", "2000-21/", "/2000-21", "2000-21/22", "2000-21?/2001-21",
+    "2000-21/2001-21?", "2000-21/2001-25", "2000-25/2001-21", "2000-20/..", "../2000-25",
+    "2000-21/20XX", "20XX/2000-21",
+    // Long years.
+    "Y12345", "Y-12345", "Y10000", "Y-10000", "Y99999", "Y123456", "Y1234567", "Y12345678",
+    "Y123456789", "Y-123456789", "Y999999999", "Y-999999999", "Y1000000000", "Y2147483647",
+    "Y2147483648", "Y-2147483648", "Y4294967295", "Y99999999999999999999", "Y1234", "Y-1234",
+    "Y9999", "Y0", "Y", "Y-", "Y01234", "Y-01234", "Y012345", "Y00000", "Y000000001", "Y+12345",
+    "Y--12345", "-Y12345", "+Y12345", "y12345", "YY12345", "12345", "-12345", "Y 12345", " Y12345",
+    "Y12345 ", "Y12 345", "Y12345Y", "Y1234X", "Y12XXX", "Y12345X", "Y1234é", "Y1234½", "Y12345½",
+    "Y12345-", "Y12345-01", "Y12345-21", "Y12345-XX", "Y12345-01-01", "Y12345T10:20:30", "Y12345Z",
+    "Y12345E3", "Y1e5", "Y2000-21", "Y2000", "Y12345?", "Y-12345~", "Y123456789%", "Y12345??",
+    "Y12345?~", "Y12345/Y23456", "Y-23456/Y-12345", "Y12345/..", "../Y12345", "Y-12345/..?",
+    "../Y-999999999%", "Y12345/2000-24%", "2000-21/Y12345", "-9999/Y-10000", "9999/Y10000",
+    "Y-10000/-9999", "Y12345/2000-01-01T10:20:30Z", "Y12345/", "/Y12345", "Y12345/12345",
+    "12345/Y12345", "Y12345?/..", "Y12345/Y1234", "Y1234/Y12345", "Y12345/Y1234567890",
+    "Y12345/19XX", "19XX/Y12345", "Y-999999999/Y-999999999%", "Y-99999/-9999-24?",
+];
+
+/// Good ones, to be damaged.
+const LEVELS_GOOD: &[&str] = &["-0044-24/Y-12345%", "Y987654321/..", "../2000-21?", "2000-23"];
+
 const NOON: &str = "2000-01-01T12:00:00Z";
 
 /// Byte sequences: ill-formed ones, and well-formed ones at the ends of the set and beyond it.
@@ -242,6 +297,10 @@ impl Lines {
         self.frame(&one(STRICT, pieces));
     }
 
+    fn level(&mut self, pieces: &[Piece]) {
+        self.frame(&one(LEVEL, pieces));
+    }
+
     fn fields(&mut self, year: &str, month: Option<&str>, day: Option<&str>) {
         let list = |start, text: &str| vec![normal(start, text)];
         let month = month.map(|text| list(200, text));
@@ -269,6 +328,7 @@ fn fixed(out: &mut impl Write) -> io::Result<()> {
     sequences(&mut l);
     limits(&mut l);
     bad_frames(&mut l);
+    levels(&mut l);
     // The last line is a frame and has no line feed.
     l.lines.retain(|line| line != b"04010003000000000000000334393F");
     l.lines.push(b"04010003000000000000000334393F".to_vec());
@@ -785,6 +845,94 @@ fn bad_frames(l: &mut Lines) {
     l.raw("040100020000000000000003C3a9");
 }
 
+/// The level-one reader's frames; every eighth text is asked of the two others too.
+fn levels(l: &mut Lines) {
+    for (i, text) in LEVELS.iter().enumerate() {
+        l.level(&[normal(100, text)]);
+        if i % 8 == 0 {
+            l.date(text);
+            l.strict(&[normal(100, text)]);
+        }
+    }
+    let pool: Vec<char> = "0-2Y 1/4X.?é".chars().collect();
+    let mut turn = 0;
+    for good in LEVELS_GOOD {
+        let chars: Vec<char> = good.chars().collect();
+        for i in 0..chars.len() {
+            turn += 1;
+            let c = pool[turn % pool.len()];
+            let (before, after) = (&chars[..i], &chars[i + 1..]);
+            for middle in [vec![], vec![c], vec![chars[i], c]] {
+                let text: String = before.iter().chain(&middle).chain(after).collect();
+                l.level(&[normal(100, text)]);
+            }
+        }
+    }
+    // Several chunks, of each kind, cut anywhere; line breaks; spans that fit no text.
+    for text in ["2000-21/Y-12345~", "Y123456789"] {
+        for cut in 0..=text.len() {
+            let (a, b) = text.split_at(cut);
+            l.level(&[normal(5, a), piece((cut % 2) as u8, 90, b)]);
+        }
+        for kind in 0..4 {
+            l.level(&[piece(kind, 5, text)]);
+            l.level(&[normal(5, text), piece(kind, 90, "")]);
+            l.level(&[piece(kind, 5, &text[..4]), normal(7, &text[4..])]);
+        }
+        for (before, after) in
+            [("\n", ""), ("", "\n"), ("", "\r\n"), ("", "\u{a0}"), ("", "€"), ("", "\u{2013}")]
+        {
+            l.level(&[normal(5, format!("{before}{text}{after}"))]);
+            l.level(&[piece(1, 5, format!("{before}{text}{after}"))]);
+        }
+        let letters: Vec<Piece> = text
+            .bytes()
+            .enumerate()
+            .map(|(i, b)| piece((i % 2) as u8, 10 * i as u32, [b]))
+            .collect();
+        l.level(&letters);
+        for (start, end) in [(0, 0), (9, 5), (u32::MAX, u32::MAX)] {
+            l.level(&[Piece { kind: 0, start, end, text: text.into() }]);
+        }
+    }
+    // The list is checked as any other.
+    l.level(&[]);
+    l.level(&[normal(9, [0xff]), piece(3, 9, "2000-21")]);
+    l.level(&[normal(9, "é"), normal(9, [b'5', 0xff])]);
+    l.level(&[normal(9, "é"), normal(9, "1€")]);
+    for n in [63, 64, 65] {
+        let mut pieces = vec![piece(1, 5, ""); n];
+        pieces[n - 1] = normal(6, "2000-24");
+        l.level(&pieces);
+    }
+    for n in [4096, 4097] {
+        l.level(&spread(0, &format!("Y{}", "1".repeat(n - 1))));
+        l.level(&spread(0, &format!("2000-21{}", "\n".repeat(n - 7))));
+    }
+    // Damaged frames.
+    let good = one(LEVEL, &[normal(0, "2000-21/"), piece(1, 8, "Y-12345?")]);
+    for n in 1..good.len() {
+        l.frame(&good[..n]);
+    }
+    for more in [&[0][..], &[1], &[0, 0]] {
+        l.frame(&[&good, more].concat());
+    }
+    for at in [0, 1, 3] {
+        for add in [1, 2, 0x80, 0xff] {
+            let mut other = good.clone();
+            other[at] = other[at].wrapping_add(add);
+            l.frame(&other);
+        }
+    }
+    let line = hex(&good);
+    l.raw(line.to_uppercase());
+    l.raw(&line[1..]);
+    l.raw(format!("{line}\r"));
+    for line in ["0501", "0502", "05ff", "050000", "0500000000"] {
+        l.raw(line);
+    }
+}
+
 // Many frames by a seed.
 
 /// Numbers by SplitMix64.
@@ -891,13 +1039,18 @@ fn seeded(rng: &mut Rng) -> String {
             three(&year, month.as_deref(), day.as_deref())
         }
     };
-    let mut line = hex(&frame);
+    line_of(rng, &frame)
+}
+
+/// The line of a frame, rarely a damaged one.
+fn line_of(rng: &mut Rng, frame: &[u8]) -> String {
+    let mut line = hex(frame);
     match rng.below(400) {
         0 => line.truncate(rng.below(line.len())),
         1 => line += "00",
         2 => line.insert(rng.below(line.len()), 'g'),
         3 => line.push('\r'),
-        4 => line.replace_range(..2, rng.pick(&["00", "06", "1f", "02", "03", "05"])),
+        4 => line.replace_range(..2, rng.pick(&["00", "06", "1f", "02", "03", "ff"])),
         5..15 => line = line.to_uppercase(),
         _ => {}
     }
@@ -1013,6 +1166,10 @@ fn date_field(rng: &mut Rng) -> String {
 
 /// Changes no, one or a few characters.
 fn mutated(rng: &mut Rng, text: String) -> String {
+    mutated_by(rng, text, POOL)
+}
+
+fn mutated_by(rng: &mut Rng, text: String, pool: &[char]) -> String {
     let times = rng.pick(&[0, 0, 0, 0, 0, 0, 1, 1, 2, 4]);
     if times == 0 {
         return text;
@@ -1020,7 +1177,7 @@ fn mutated(rng: &mut Rng, text: String) -> String {
     let mut chars: Vec<char> = text.chars().collect();
     for _ in 0..times {
         let at = rng.below(chars.len() + 1);
-        let c = rng.pick(POOL);
+        let c = rng.pick(pool);
         match rng.below(3) {
             0 => chars.insert(at, c),
             1 if at < chars.len() => chars[at] = c,
@@ -1187,17 +1344,95 @@ fn day_field(rng: &mut Rng) -> String {
     }
 }
 
+// Frames of the level-one reader.
+
+/// Characters that mutations put in there.
+#[rustfmt::skip]
+const LEVEL_POOL: &[char] = &[
+    '0', '1', '2', '3', '4', '5', '9', '0', '1', '2', '-', '-', '/', '.', ' ', 'X', 'Y', 'Y', 'y',
+    'T', 'Z', ':', '+', '?', '~', '%', '\n', '\u{a0}', '½', 'é', '$',
+];
+
+/// One frame; of twenty one asks the ported reader and one the strict one.
+fn leveled(rng: &mut Rng) -> String {
+    let operation = match rng.below(20) {
+        0 => PORTED,
+        1 => STRICT,
+        _ => LEVEL,
+    };
+    let text = level_field(rng);
+    let frame = one(operation, &pieces(rng, &text));
+    line_of(rng, &frame)
+}
+
+fn level_field(rng: &mut Rng) -> String {
+    let mut text = match rng.below(100) {
+        0..40 => level_point(rng),
+        40..65 => format!("{}/{}", level_point(rng), level_point(rng)),
+        65..80 => {
+            let open = rng.pick(&["..", "..", "..", "..", "..", "..", "", ".", "..."]);
+            match rng.below(9) {
+                0..4 => format!("{}/{open}", level_point(rng)),
+                4..8 => format!("{open}/{}", level_point(rng)),
+                _ => format!("{open}/{}", rng.pick(&["..", ""])),
+            }
+        }
+        80..90 => x_range(rng),
+        90..95 => date_field(rng),
+        _ => (0..rng.below(9)).map(|_| rng.pick(LEVEL_POOL)).collect(),
+    };
+    if rng.percent(30) {
+        text.push(rng.pick(&['?', '~', '%']));
+    }
+    mutated_by(rng, text, LEVEL_POOL)
+}
+
+/// A season, a long year or a strict point, each mostly a good one.
+fn level_point(rng: &mut Rng) -> String {
+    let sign = if rng.percent(25) { "-" } else { "" };
+    let year = rng.below(10000);
+    let kind = rng.below(10);
+    if kind < 3 {
+        let season = if rng.percent(85) { 21 + rng.below(4) } else { 18 + rng.below(25) };
+        return format!("{sign}{year:04}-{season}");
+    }
+    if kind < 6 {
+        let count = if rng.percent(85) { 5 + rng.below(5) } else { rng.below(13) };
+        let digits: String = (0..count).map(|_| rng.pick(&LEVEL_POOL[..10])).collect();
+        // Most begin with no zero.
+        let first = if rng.percent(90) { digits.replacen('0', "7", 1) } else { digits };
+        return format!("Y{sign}{first}");
+    }
+    // Now and then a part may be past its end.
+    let more = if rng.percent(15) { 6 } else { 0 };
+    let whole = format!(
+        "{sign}{year:04}-{:02}-{:02}T{:02}:{:02}:{:02}{}",
+        1 + rng.below(12 + 2 * more),
+        1 + rng.below(28 + more),
+        rng.below(24 + more),
+        rng.below(60 + more),
+        rng.below(60 + more),
+        rng.pick(&["", "Z", "+02:00", "-00:00", "-11:30", "+23:59", "+24:00", "-01:60"]),
+    );
+    let depth = rng.pick(&[4, 7, 10, 19, 99]);
+    whole[..whole.len().min(sign.len() + depth)].to_string()
+}
+
 // Frames as an import file has them.
 
-fn import(n: u64, seed: u64, out: &mut impl Write) -> io::Result<()> {
+/// That many frames, drawn one after the other.
+fn drawn(n: u64, seed: u64, draw: fn(&mut Rng) -> String, out: &mut impl Write) -> io::Result<()> {
     let mut rng = Rng(seed);
     for _ in 0..n {
-        let start = rng.below(1 << 20) as u32;
-        let line = hex(&imported(&mut rng, start));
-        out.write_all(line.as_bytes())?;
+        out.write_all(draw(&mut rng).as_bytes())?;
         out.write_all(b"\n")?;
     }
     Ok(())
+}
+
+fn import_line(rng: &mut Rng) -> String {
+    let start = rng.below(1 << 20) as u32;
+    hex(&imported(rng, start))
 }
 
 /// Of a hundred frames seventy ask the ported reader, five the strict one, and twenty-five have three fields.

@@ -4,17 +4,11 @@ use mathlib.Core.List.{List}
 use Prim.Native.Nat.{ℕ}
 use lib.Seq.{length-take-le}
 use lib.ListN.{length}
-use Rattle.writer.specs.declared.Written.{Written}
 use Rattle.writer.specs.Answers.{answer, afterwards}
-use Rattle.answers.proofs.Lines.{text-in, date-line, panic-line}
+use Rattle.answers.proofs.Lines.{date-line, no-date-line}
 use borrow.Author.Needs.{needs}
 use Rattle.answers.proofs.write_with_text.Statement.{statement}
 use Rattle.answers.proofs.write_with_text.Tie as tie
-use Rattle.answers.proofs.write_with_text.Reads as reads
-use Rattle.answers.proofs.write_with_text.Lts as lts
-use Rattle.answers.proofs.write_accepted.Reads as write-accepted-reads
-use Rattle.answers.proofs.write_refused.Reads as write-refused-reads
-use Rattle.writer.proofs.write_text.Reads as write-text-reads
 
 slice-aggregate-write-text : tie.Need-slice-aggregate-write-text
 slice-aggregate-write-text c = search needs
@@ -27,17 +21,17 @@ enum-known-n c = search needs
 
 array-share-prefix-text : tie.Need-array-share-prefix-text
 array-share-prefix-text c =
-    let b1 = c .before in
-    let b4 = b1 .before .before .before in
-    let s = b4 .before .before .before in
-    text-in (s .args .d) (b4 .write-text .ensures .1 .1) _ refl (b4 .write-text .ensures .0) (b4 .write-text .ensures .1 .0) (b1 .n .given .1)
+    let k = c .before in
+    let w = k .before .before .before in
+    let s = w .before .before .before in
+    date-line (s .args .d) (w .write-text .ensures .1 .1) _ refl (w .write-text .ensures .0) (w .write-text .ensures .1 .0) (k .n .given .1) .0
 
 slice-aggregate-write-accepted : tie.Need-slice-aggregate-write-accepted
 slice-aggregate-write-accepted c =
-    let b2 = c .before .before in
-    let b5 = b2 .before .before .before in
-    let s = b5 .before .before .before in
-    sym (length-take-le _ _ (text-in (s .args .d) (b5 .write-text .ensures .1 .1) _ refl (b5 .write-text .ensures .0) (b5 .write-text .ensures .1 .0) (b2 .n .given .1)))
+    let k = c .before .before in
+    let w = k .before .before .before in
+    let s = w .before .before .before in
+    sym (length-take-le _ _ (date-line (s .args .d) (w .write-text .ensures .1 .1) _ refl (w .write-text .ensures .0) (w .write-text .ensures .1 .0) (k .n .given .1) .0))
 
 write-accepted-requires : tie.Need-write-accepted-requires
 write-accepted-requires c κs = search needs
@@ -53,12 +47,12 @@ same-length c = search needs
 
 returns : tie.Need-returns
 returns c =
-    let b2 = c .before .before in
-    let b6 = b2 .before .before .before .before in
-    let b9 = b6 .before .before .before in
-    let s = b9 .before .before .before in
-    let l = date-line (s .args .d) (b9 .write-text .ensures .1 .1) _ refl (b9 .write-text .ensures .0) (b9 .write-text .ensures .1 .0) (b6 .n .given .1) in
-    let q = b2 .write-accepted .ensures in
+    let r = c .before .before in
+    let k = r .before .before .before .before in
+    let w = k .before .before .before in
+    let s = w .before .before .before in
+    let l = date-line (s .args .d) (w .write-text .ensures .1 .1) _ refl (w .write-text .ensures .0) (w .write-text .ensures .1 .0) (k .n .given .1) .1 in
+    let q = r .write-accepted .ensures in
     (q .0 ∙ ap (λ (t : List ℕ). answer false t (length (s .args .out .now))) l, q .1 ∙ ap (λ (t : List ℕ). afterwards false t (s .args .out .now)) l)
 
 same-length-2 : tie.Need-same-length-2
@@ -66,12 +60,12 @@ same-length-2 c = search needs
 
 returns-2 : tie.Need-returns-2
 returns-2 c =
-    let b2 = c .before .before in
-    let b5 = b2 .before .before .before in
-    let b8 = b5 .before .before .before in
-    let s = b8 .before .before .before in
-    let l = panic-line (s .args .d) (b8 .write-text .ensures .1 .1) _ refl (b8 .write-text .ensures .0) (b8 .write-text .ensures .1 .0) (b5 .e .given .1) in
-    let q = b2 .write-refused .ensures in
+    let r = c .before .before in
+    let k = r .before .before .before in
+    let w = k .before .before .before in
+    let s = w .before .before .before in
+    let l = no-date-line (s .args .d) (w .write-text .ensures .1 .1) _ refl (w .write-text .ensures .0) (w .write-text .ensures .1 .0) (k .e .given .1) in
+    let q = r .write-refused .ensures in
     (q .0 ∙ ap (λ (t : List ℕ). answer false t (length (s .args .out .now))) l, q .1 ∙ ap (λ (t : List ℕ). afterwards false t (s .args .out .now)) l)
 
 pub write-with-text-spec : {M : Type 1} → statement M

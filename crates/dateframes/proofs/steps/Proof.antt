@@ -5,7 +5,7 @@ use mathlib.Core.List.{[]}
 use lib.ListN.{length, drop}
 use borrow.Author.Needs.{needs}
 use Rattle.lines.specs.Runs.{Onward}
-use Rattle.lines.specs.Frames.{lineAnswer}
+use Rattle.frames.specs.Frame.{lineAnswer}
 use Rattle.lines.proofs.Unique.{goes-on}
 use Rattle.lines.proofs.Ways.{frames-way}
 use Rattle.lines.proofs.Onwards.{onward-none, onward-step, onward-over, stays-in}
@@ -48,7 +48,7 @@ loop-less c =
     let f = c .before .before in
     let x = f .before .before .before .before .before in
     let m = x .before .before .before in
-    let fit : 139 ≤ length (m .loop .out) = omega arith in
+    let fit : 147 ≤ length (m .loop .out) = omega arith in
     let some = goes-on frames-way fit (x .step .ensures) (went-on (x .step .result .full) (f .flush .result) (c .if1 .taken)) .0 in
     omega (arith, stays-in (m .before .before .before .args .block .now) (m .loop .at) (x .step .ensures) (m .loop .inv .0))
 

@@ -1,10 +1,10 @@
 use mathlib.Core.Path.{sym, ap, _∙_}
 use mathlib.Core.Bool.{false}
+use mathlib.Core.List.{List}
+use Prim.Native.Nat.{ℕ}
 use lib.ListN.{length}
 use lib.Seq.{length-take-le}
-use Rattle.datefield.specs.declared.ReadDate.{ReadDate}
 use Rattle.writer.specs.Answers.{answer, afterwards}
-use Rattle.answers.specs.Answer.{answerLine}
 use Rattle.frames.proofs.Parts.{bytes-in, frame-small, line-is, line-bad}
 use borrow.Author.Needs.{needs}
 use Rattle.frames.proofs.answer_line.Statement.{statement}
@@ -52,7 +52,7 @@ returns c =
     let d = c .before .before .before .before .before .before .before .before .before .before .decode .ensures in
     let e = line-is (a .args .line .now) (a .args .frame .now) (a .pre .0) (a .pre .1) (d .0) (d .1) (c .before .before .before .before .before .before .n .given .1) in
     let q = c .before .before .answer-frame .ensures in
-    (q .0 ∙ ap (λ (x : ReadDate). answer false (answerLine x) (length (a .args .out .now))) e, q .1 ∙ ap (λ (x : ReadDate). afterwards false (answerLine x) (a .args .out .now)) e)
+    (q .0 ∙ ap (λ (x : List ℕ). answer false x (length (a .args .out .now))) e, q .1 ∙ ap (λ (x : List ℕ). afterwards false x (a .args .out .now)) e)
 
 same-length-3 : tie.Need-same-length-3
 same-length-3 c = search needs
@@ -66,7 +66,7 @@ returns-2 c =
     let d = c .before .before .before .before .before .before .before .before .decode .ensures in
     let e = line-bad (a .args .line .now) (a .args .frame .now) (a .pre .0) (a .pre .1) (d .0) (d .1) (c .before .before .before .before .enum-told .given .1) in
     let q = c .before .before .answer-long .ensures in
-    (q .0 ∙ ap (λ (x : ReadDate). answer false (answerLine x) (length (a .args .out .now))) e, q .1 ∙ ap (λ (x : ReadDate). afterwards false (answerLine x) (a .args .out .now)) e)
+    (q .0 ∙ ap (λ (x : List ℕ). answer false x (length (a .args .out .now))) e, q .1 ∙ ap (λ (x : List ℕ). afterwards false x (a .args .out .now)) e)
 
 pub answer-line-spec : {M : Type 1} → statement M
 answer-line-spec =

@@ -18,11 +18,17 @@ one-fills-requires-2 c κs = search needs
 enum-told-3 : tie.Need-enum-told-3
 enum-told-3 c = search needs
 
-three-fill-requires : tie.Need-three-fill-requires
-three-fill-requires c κs = search needs
+one-fills-requires-3 : tie.Need-one-fills-requires-3
+one-fills-requires-3 c κs = search needs
 
 enum-told-4 : tie.Need-enum-told-4
 enum-told-4 c = search needs
+
+three-fill-requires : tie.Need-three-fill-requires
+three-fill-requires c κs = search needs
+
+enum-told-5 : tie.Need-enum-told-5
+enum-told-5 c = search needs
 
 returns : tie.Need-returns
 unfolding formed
@@ -40,11 +46,17 @@ returns-3 : tie.Need-returns-3
 unfolding formed
 returns-3 c =
     let b1 = c .before in
-    simp (b1 .enum-told3 .given .1, ← c .three-fill .ensures)
+    simp (b1 .enum-told3 .given .1, ← c .one-fills3 .ensures)
 
 returns-4 : tie.Need-returns-4
 unfolding formed
-returns-4 c = simp (c .enum-told4 .given .1)
+returns-4 c =
+    let b1 = c .before in
+    simp (b1 .enum-told4 .given .1, ← c .three-fill .ensures)
+
+returns-5 : tie.Need-returns-5
+unfolding formed
+returns-5 c = simp (c .enum-told5 .given .1)
 
 pub is-formed-spec : {M : Type 1} → statement M
 is-formed-spec =
@@ -55,9 +67,12 @@ is-formed-spec =
     enum-told-2
     one-fills-requires-2
     enum-told-3
-    three-fill-requires
+    one-fills-requires-3
     enum-told-4
+    three-fill-requires
+    enum-told-5
     returns
     returns-2
     returns-3
-    returns-4)
+    returns-4
+    returns-5)

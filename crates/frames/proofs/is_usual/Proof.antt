@@ -51,8 +51,8 @@ shared-slice-read-asked c = search needs
 asked-requires : tie.Need-asked-requires
 asked-requires c κs = search needs
 
-reads-list-requires : tie.Need-reads-list-requires
-reads-list-requires c κs = search needs
+reads-usual-requires : tie.Need-reads-usual-requires
+reads-usual-requires c κs = search needs
 
 returns-5 : tie.Need-returns-5
 unfolding isUsual
@@ -63,7 +63,7 @@ returns-5 c =
     let b5 = b4 .before in
     let b7 = b5 .before .before in
     let b9 = b7 .before .before in
-    simp (le-leb _ _ (b9 .if1 .left), eq-eqb _ _ (b7 .if2 .left), eq-eqb _ _ (b5 .if3 .left), ← b4 .byte-at .ensures, eq-eqb _ _ (b3 .if4 .left), ← b1 .asked .ensures, ← c .reads-list .ensures)
+    simp (le-leb _ _ (b9 .if1 .left), eq-eqb _ _ (b7 .if2 .left), eq-eqb _ _ (b5 .if3 .left), ← b4 .byte-at .ensures, eq-eqb _ _ (b3 .if4 .left), ← b1 .asked .ensures, ← c .reads-usual .ensures)
 
 pub is-usual-spec : {M : Type 1} → statement M
 is-usual-spec =
@@ -80,5 +80,5 @@ is-usual-spec =
     returns-4
     shared-slice-read-asked
     asked-requires
-    reads-list-requires
+    reads-usual-requires
     returns-5)

@@ -1,5 +1,7 @@
-use mathlib.Core.Path.{_∙_}
+use mathlib.Core.Path.{sym, ap, _∙_}
 use native.Mathlib.Omega.{arith}
+use Rattle.frames.specs.declared.Operation.{Operation}
+use Rattle.frames.specs.Frame.{formed, readOf}
 use Rattle.frames.proofs.Parts.{single, list-formed, list-by}
 use borrow.Author.Needs.{needs}
 use Rattle.frames.proofs.read_list.Statement.{statement}
@@ -59,12 +61,14 @@ returns-2 c = search needs
 read-large-requires : tie.Need-read-large-requires
 read-large-requires c κs =
     let s = c .before .before .before .before in
-    (s .pre .0, list-formed (s .args .f .now) (s .args .strict) (s .pre .1) (s .pre .2))
+    let f = s .args .f .now in
+    (s .pre .0, ap (λ (x : Operation). formed x f) (s .pre .3) ∙ list-formed f (s .args .op) (s .pre .2) ∙ s .pre .1)
 
 returns-3 : tie.Need-returns-3
 returns-3 c =
     let s = c .before .before .before .before .before in
-    c .read-large .ensures ∙ list-by (s .args .f .now) (s .args .strict) (s .pre .2)
+    let f = s .args .f .now in
+    c .read-large .ensures ∙ ap (λ (x : Operation). readOf x f) (s .pre .3) ∙ sym (list-by f (s .args .op) (s .pre .2))
 
 pub read-list-spec : {M : Type 1} → statement M
 read-list-spec =

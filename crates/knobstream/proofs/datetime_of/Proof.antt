@@ -14,18 +14,19 @@ day-of-requires c κs = search needs
 time-of-requires : tie.Need-time-of-requires
 time-of-requires c κs = search needs
 
-new-requires : tie.Need-new-requires
-new-requires c κs = search needs
+season-of-requires : tie.Need-season-of-requires
+season-of-requires c κs = search needs
 
 returns : tie.Need-returns
 unfolding datetimeOf
 returns c =
-    let b2 = c .before .before in
+    let b1 = c .before in
+    let b2 = b1 .before in
     let b3 = b2 .before in
     let b4 = b3 .before in
-    let e = rw (toZ-ofZ w32 (b4 .before .args .p .year) (record { sfits = c .before .struct-told .given .0 .1 })) at (c .new .ensures) in
-    simp (← b4 .month-of .ensures, ← b3 .day-of .ensures, ← b2 .time-of .ensures, ← e)
+    let y = toZ-ofZ w32 (b4 .before .args .p .year) (record { sfits = c .struct-told .given .0 .1 }) in
+    rw (y, b4 .month-of .ensures, b3 .day-of .ensures, b2 .time-of .ensures, b1 .season-of .ensures)
 
 pub datetime-of-spec : {M : Type 1} → statement M
 datetime-of-spec =
-    tie.close (tie.spec month-of-requires day-of-requires time-of-requires new-requires returns)
+    tie.close (tie.spec month-of-requires day-of-requires time-of-requires season-of-requires returns)

@@ -11,8 +11,8 @@ month-of-requires c κs = search needs
 day-of-requires : tie.Need-day-of-requires
 day-of-requires c κs = search needs
 
-new-requires : tie.Need-new-requires
-new-requires c κs = search needs
+season-of-requires : tie.Need-season-of-requires
+season-of-requires c κs = search needs
 
 returns : tie.Need-returns
 unfolding dayOnly
@@ -20,9 +20,8 @@ returns c =
     let b1 = c .before in
     let b2 = b1 .before in
     let b3 = b2 .before in
-    let b4 = b3 .before in
-    let e = rw (toZ-ofZ w32 (b4 .args .p .year) (record { sfits = b1 .struct-told .given .0 .1 })) at (c .new .ensures) in
-    simp (← b3 .month-of .ensures, ← b2 .day-of .ensures, ← e)
+    let y = toZ-ofZ w32 (b3 .before .args .p .year) (record { sfits = c .struct-told .given .0 .1 }) in
+    rw (y, b3 .month-of .ensures, b2 .day-of .ensures, b1 .season-of .ensures)
 
 pub day-only-spec : {M : Type 1} → statement M
-day-only-spec = tie.close (tie.spec month-of-requires day-of-requires new-requires returns)
+day-only-spec = tie.close (tie.spec month-of-requires day-of-requires season-of-requires returns)

@@ -1,4 +1,4 @@
-use Rattle.knobstream.proofs.Made.{made-order}
+use Rattle.knobstream.proofs.Made.{made-compared}
 use borrow.Author.Needs.{needs}
 use Rattle.knobstream.proofs.knobstream_compare.Statement.{statement}
 use Rattle.knobstream.proofs.knobstream_compare.Tie as tie
@@ -12,15 +12,15 @@ datetime-of-requires-2 c κs = search needs
 partial-cmp-requires : tie.Need-partial-cmp-requires
 partial-cmp-requires c κs = search needs
 
-plain-order-requires : tie.Need-plain-order-requires
-plain-order-requires c κs = search needs
+plain-compared-requires : tie.Need-plain-compared-requires
+plain-compared-requires c κs = search needs
 
 returns : tie.Need-returns
 returns c =
     let b1 = c .before in
     let b2 = b1 .before in
     let b3 = b2 .before in
-    made-order (b3 .datetime-of .ensures) (b2 .datetime-of2 .ensures) (b1 .partial-cmp .ensures) (c .plain-order .ensures)
+    made-compared (b3 .datetime-of .ensures) (b2 .datetime-of2 .ensures) (b1 .partial-cmp .ensures) (c .plain-compared .ensures)
 
 pub knobstream-compare-spec : {M : Type 1} → statement M
 knobstream-compare-spec =
@@ -29,5 +29,5 @@ knobstream-compare-spec =
     datetime-of-requires
     datetime-of-requires-2
     partial-cmp-requires
-    plain-order-requires
+    plain-compared-requires
     returns)

@@ -1,8 +1,10 @@
 use mathlib.Core.Path.{ap, _∙_}
+use Rattle.dates.specs.declared.Date.{Date}
+use Rattle.dates.specs.Value.{anySeason}
 use Rattle.writer.specs.Texts.{panics, dateText}
 use Rattle.knobstream.specs.Plain.{parts}
 use Rattle.knobstream.specs.Back.{dateOf}
-use Rattle.knobstream.proofs.Made.{made-measure, same-panics, same-text}
+use Rattle.knobstream.proofs.Made.{made-measure, same-season, same-panics, same-text}
 use borrow.Author.Needs.{needs}
 use Rattle.knobstream.proofs.knobstream_measure_date.Statement.{statement}
 use Rattle.knobstream.proofs.knobstream_measure_date.Tie as tie
@@ -23,7 +25,7 @@ returns c =
     let a = b2 .before .args in
     let p = parts (a .shape) (a .uncertain) (a .approximate) (a .first) (a .second) in
     let e = b2 .date-of .ensures in
-    made-measure (b2 .date-of .result) (dateOf p) (ap panics e ∙ same-panics p) (ap dateText e ∙ same-text p) (b1 .date-length .ensures .0) (c .plain-measured .ensures)
+    made-measure (b2 .date-of .result) (dateOf p) (ap (λ (d : Date). anySeason (d .value)) e ∙ same-season p) (ap panics e ∙ same-panics p) (ap dateText e ∙ same-text p) (b1 .date-length .ensures .0) (c .plain-measured .ensures)
 
 pub knobstream-measure-date-spec : {M : Type 1} → statement M
 knobstream-measure-date-spec =

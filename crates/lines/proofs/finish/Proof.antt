@@ -1,4 +1,4 @@
-use Rattle.lines.specs.Frames.{lineAnswer}
+use Rattle.frames.specs.Frame.{lineAnswer}
 use Rattle.lines.proofs.Ways.{frames-long}
 use Rattle.lines.proofs.Moves.{finished, nothing-left}
 use borrow.Author.Needs.{needs}

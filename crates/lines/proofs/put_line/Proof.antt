@@ -1,6 +1,7 @@
 use native.Mathlib.Omega.{arith}
 use Rattle.lines.specs.Steps.{nextAnswer}
-use Rattle.lines.specs.Frames.{lineAnswer, longAnswer}
+use Rattle.frames.specs.Frame.{lineAnswer}
+use Rattle.lines.specs.Frames.{longAnswer}
 use Rattle.lines.proofs.Replies.{in-range, put-done, put-none}
 use borrow.Author.Needs.{needs}
 use Rattle.lines.proofs.put_line.Statement.{statement}

@@ -1,5 +1,5 @@
 use Rattle.lines.specs.Steps.{nextAnswer}
-use Rattle.lines.specs.Frames.{lineAnswer}
+use Rattle.frames.specs.Frame.{lineAnswer}
 use borrow.Author.Needs.{needs}
 use Rattle.lines.proofs.reply.Statement.{statement}
 use Rattle.lines.proofs.reply.Tie as tie
@@ -11,7 +11,7 @@ same-length : tie.Need-same-length
 same-length c = search needs
 
 returns : tie.Need-returns
-unfolding nextAnswer lineAnswer
+unfolding nextAnswer
 returns c = rw (c .before .before .before .before .if1 .taken) (c .before .before .answer-long .ensures)
 
 answer-requires : tie.Need-answer-requires
@@ -21,7 +21,7 @@ same-length-2 : tie.Need-same-length-2
 same-length-2 c = search needs
 
 returns-2 : tie.Need-returns-2
-unfolding nextAnswer lineAnswer
+unfolding nextAnswer
 returns-2 c = rw (c .before .before .before .before .if1 .left) (c .before .before .answer .ensures)
 
 pub reply-spec : {M : Type 1} → statement M

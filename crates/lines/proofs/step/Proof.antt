@@ -2,7 +2,7 @@ use mathlib.Core.Path.{sym, ap, _∙_, subst}
 use Prim.Native.Nat.{ℕ, _-_}
 use Rattle.lines.specs.declared.Taken.{Taken}
 use Rattle.lines.specs.Steps.{takenAt, Stepped}
-use Rattle.lines.specs.Frames.{lineAnswer}
+use Rattle.frames.specs.Frame.{lineAnswer}
 use native.Mathlib.Omega.{arith}
 use lib.ListN.{length}
 use borrow.Author.Needs.{needs}

@@ -1,71 +1,58 @@
-use mathlib.Core.Path.{_≡_}
-use mir.Syntax.{w32}
-use mir.ValLaws.{toZ-ofZ}
-use Rattle.order.specs.Order.{order, inTurn, number}
+use Rattle.chars.specs.Pick.{pick}
+use Rattle.order.specs.Order.{partialCmp}
 use borrow.Author.Needs.{needs}
 use Rattle.order.proofs.partial_cmp.Statement.{statement}
 use Rattle.order.proofs.partial_cmp.Tie as tie
 
--- the comparison of the years is of the years themselves
-years : (c : tie.After-cmp-year) → c .cmp-year .result ≡ number (c .before .before .before .args .a .year) (c .before .before .before .args .b .year)
-years c =
-    let s = c .before .before .before in
-    rw (toZ-ofZ w32 (s .args .a .year) (record { sfits = c .before .before .struct-told .given .0 .1 }), toZ-ofZ w32 (s .args .b .year) (record { sfits = c .before .struct-told2 .given .0 .1 })) at (c .cmp-year .ensures)
+has-season-requires : tie.Need-has-season-requires
+has-season-requires c κs = search needs
 
-cmp-year-requires : tie.Need-cmp-year-requires
-cmp-year-requires c κs = search needs
-
-enum-told : tie.Need-enum-told
-enum-told c = search needs
-
-enum-told-2 : tie.Need-enum-told-2
-enum-told-2 c = search needs
-
-from-month-requires : tie.Need-from-month-requires
-from-month-requires c κs = search needs
-
-enum-told-3 : tie.Need-enum-told-3
-enum-told-3 c = search needs
-
-enum-told-4 : tie.Need-enum-told-4
-enum-told-4 c = search needs
+has-season-requires-2 : tie.Need-has-season-requires-2
+has-season-requires-2 c κs = search needs
 
 returns : tie.Need-returns
-unfolding order inTurn
+unfolding partialCmp pick
 returns c =
-    let b2 = c .before .before in
-    simp (← years b2, c .enum-told .given .1)
+    let b1 = c .before in
+    let b2 = b1 .before in
+    simp (← b2 .has-season .ensures, b1 .if1 .taken, ← c .has-season2 .ensures)
+
+has-season-requires-3 : tie.Need-has-season-requires-3
+has-season-requires-3 c κs = search needs
+
+has-season-requires-4 : tie.Need-has-season-requires-4
+has-season-requires-4 c κs = search needs
 
 returns-2 : tie.Need-returns-2
-unfolding order inTurn
+unfolding partialCmp pick
 returns-2 c =
     let b1 = c .before in
-    let b3 = b1 .before .before in
-    simp (← years b3, b1 .enum-told2 .given .1, ← c .from-month .ensures)
+    let b2 = b1 .before in
+    let b3 = b2 .before in
+    let b4 = b3 .before in
+    simp (← b4 .has-season .ensures, b3 .if1 .left, ← b2 .has-season3 .ensures, b1 .if2 .taken, ← c .has-season4 .ensures)
+
+from-year-requires : tie.Need-from-year-requires
+from-year-requires c κs = search needs
 
 returns-3 : tie.Need-returns-3
-unfolding order inTurn
+unfolding partialCmp pick
 returns-3 c =
-    let b2 = c .before .before in
-    simp (← years b2, c .enum-told3 .given .1)
-
-returns-4 : tie.Need-returns-4
-unfolding order inTurn
-returns-4 c =
-    let b2 = c .before .before in
-    simp (← years b2, c .enum-told4 .given .1)
+    let b1 = c .before in
+    let b2 = b1 .before in
+    let b3 = b2 .before in
+    let b4 = b3 .before in
+    simp (← b4 .has-season .ensures, b3 .if1 .left, ← b2 .has-season3 .ensures, b1 .if2 .left, ← c .from-year .ensures)
 
 pub partial-cmp-spec : {M : Type 1} → statement M
 partial-cmp-spec =
     tie.close
     (tie.spec
-    cmp-year-requires
-    enum-told
-    enum-told-2
-    from-month-requires
-    enum-told-3
-    enum-told-4
+    has-season-requires
+    has-season-requires-2
     returns
+    has-season-requires-3
+    has-season-requires-4
     returns-2
-    returns-3
-    returns-4)
+    from-year-requires
+    returns-3)

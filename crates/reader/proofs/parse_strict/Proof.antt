@@ -1,33 +1,15 @@
-use Rattle.reader.proofs.Entries.{large-room, small-room}
+use Rattle.reader.specs.Field.{parsedStrict}
+use Rattle.reader.specs.Readable.{matchBy, parsedBy}
 use borrow.Author.Needs.{needs}
 use Rattle.reader.proofs.parse_strict.Statement.{statement}
 use Rattle.reader.proofs.parse_strict.Tie as tie
 
-slice-aggregate-parse-strict-in : tie.Need-slice-aggregate-parse-strict-in
-slice-aggregate-parse-strict-in c = search needs
-
-parse-strict-in-requires : tie.Need-parse-strict-in-requires
-parse-strict-in-requires c κs = let a = c .before .before .before .before .before .args in small-room (a .bytes .now) (a .table .now) (c .before .before .if1 .taken) (c .before .if2 .taken)
+parse-by-requires : tie.Need-parse-by-requires
+parse-by-requires c κs = search needs
 
 returns : tie.Need-returns
-returns c = search needs
-
-slice-aggregate-parse-strict-in-2 : tie.Need-slice-aggregate-parse-strict-in-2
-slice-aggregate-parse-strict-in-2 c = search needs
-
-parse-strict-in-requires-2 : tie.Need-parse-strict-in-requires-2
-parse-strict-in-requires-2 c κs = large-room (c .before .before .before .before .args .bytes .now) (c .before .before .before .before .args .table .now)
-
-returns-2 : tie.Need-returns-2
-returns-2 c = search needs
+unfolding parsedBy matchBy parsedStrict
+returns c = c .parse-by .ensures
 
 pub parse-strict-spec : {M : Type 1} → statement M
-parse-strict-spec =
-    tie.close
-    (tie.spec
-    slice-aggregate-parse-strict-in
-    parse-strict-in-requires
-    returns
-    slice-aggregate-parse-strict-in-2
-    parse-strict-in-requires-2
-    returns-2)
+parse-strict-spec = tie.close (tie.spec parse-by-requires returns)

@@ -74,6 +74,12 @@ enum-told-23 c = c .match .keys23
 enum-told-24 : tie.Need-enum-told-24
 enum-told-24 c = c .match .keys24
 
+enum-told-25 : tie.Need-enum-told-25
+enum-told-25 c = c .match .keys25
+
+enum-told-26 : tie.Need-enum-told-26
+enum-told-26 c = c .match .keys26
+
 returns : tie.Need-returns
 returns c = simp (c .enum-told .given .1)
 
@@ -146,6 +152,12 @@ returns-23 c = simp (c .enum-told23 .given .1)
 returns-24 : tie.Need-returns-24
 returns-24 c = simp (c .enum-told24 .given .1)
 
+returns-25 : tie.Need-returns-25
+returns-25 c = simp (c .enum-told25 .given .1)
+
+returns-26 : tie.Need-returns-26
+returns-26 c = simp (c .enum-told26 .given .1)
+
 pub number-spec : {M : Type 1} → statement M
 number-spec =
     tie.close
@@ -174,6 +186,8 @@ number-spec =
     enum-told-22
     enum-told-23
     enum-told-24
+    enum-told-25
+    enum-told-26
     returns
     returns-2
     returns-3
@@ -197,4 +211,6 @@ number-spec =
     returns-21
     returns-22
     returns-23
-    returns-24)
+    returns-24
+    returns-25
+    returns-26)

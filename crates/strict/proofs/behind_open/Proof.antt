@@ -3,8 +3,8 @@ use borrow.Author.Needs.{needs}
 use Rattle.strict.proofs.behind_open.Statement.{statement}
 use Rattle.strict.proofs.behind_open.Tie as tie
 
-point-requires : tie.Need-point-requires
-point-requires c κs = search needs
+point-of-requires : tie.Need-point-of-requires
+point-of-requires c κs = search needs
 
 enum-told : tie.Need-enum-told
 enum-told c = c .match .keys1
@@ -19,16 +19,16 @@ returns : tie.Need-returns
 unfolding behindOpen onPoint
 returns c =
     let b2 = c .before .before in
-    simp (← b2 .point .ensures, c .enum-told .given .1)
+    simp (← b2 .point-of .ensures, c .enum-told .given .1)
 
 returns-2 : tie.Need-returns-2
 unfolding behindOpen onPoint
 returns-2 c =
     let b2 = c .before .before in
     let b4 = b2 .before .before in
-    simp (← b4 .point .ensures, b2 .value .given .1, ← c .ending .ensures)
+    simp (← b4 .point-of .ensures, b2 .value .given .1, ← c .ending .ensures)
 
 pub behind-open-spec : {M : Type 1} → statement M
 behind-open-spec =
     tie.close
-    (tie.spec point-requires enum-told enum-known-value ending-requires returns returns-2)
+    (tie.spec point-of-requires enum-told enum-known-value ending-requires returns returns-2)

@@ -17,8 +17,8 @@ returns c =
     let b2 = b1 .before in
     simp (← b2 .is-open .ensures, b1 .if1 .taken, ← c .ending .ensures)
 
-point-requires : tie.Need-point-requires
-point-requires c κs = search needs
+point-of-requires : tie.Need-point-of-requires
+point-of-requires c κs = search needs
 
 enum-told : tie.Need-enum-told
 enum-told c = c .match .keys1
@@ -35,7 +35,7 @@ returns-2 c =
     let b2 = c .before .before in
     let b3 = b2 .before in
     let b4 = b3 .before in
-    simp (← b4 .is-open .ensures, b3 .if1 .left, ← b2 .point .ensures, c .enum-told .given .1)
+    simp (← b4 .is-open .ensures, b3 .if1 .left, ← b2 .point-of .ensures, c .enum-told .given .1)
 
 returns-3 : tie.Need-returns-3
 unfolding behindSlash onPoint pick
@@ -44,7 +44,7 @@ returns-3 c =
     let b4 = b2 .before .before in
     let b5 = b4 .before in
     let b6 = b5 .before in
-    simp (← b6 .is-open .ensures, b5 .if1 .left, ← b4 .point .ensures, b2 .value .given .1, ← c .ending2 .ensures)
+    simp (← b6 .is-open .ensures, b5 .if1 .left, ← b4 .point-of .ensures, b2 .value .given .1, ← c .ending2 .ensures)
 
 pub behind-slash-spec : {M : Type 1} → statement M
 behind-slash-spec =
@@ -53,7 +53,7 @@ behind-slash-spec =
     is-open-requires
     ending-requires
     returns
-    point-requires
+    point-of-requires
     enum-told
     enum-known-value
     ending-requires-2

@@ -15,8 +15,8 @@ use Rattle.strict.proofs.from_point.Tie as tie
 within-text : (c : tie.Then1) → c .before .before .before .value .given .0 .1 .0 < length (c .before .before .before .before .before .before .before .args .s .now)
 within-text c = inside (c .before .before .before .before .before .before .before .args .s .now) _ (sym (c .before .byte-at .ensures) ∙ c .if1 .taken) (lit< tt)
 
-point-requires : tie.Need-point-requires
-point-requires c κs = search needs
+point-of-requires : tie.Need-point-of-requires
+point-of-requires c κs = search needs
 
 enum-told : tie.Need-enum-told
 enum-told c = c .match .keys1
@@ -50,7 +50,7 @@ returns c =
     let b5 = b3 .before .before in
     let b7 = b5 .before .before in
     let e = rw (rest (b7 .before .before .args .s .now) (b5 .value .given .0 .1 .0 + 1)) at (c .behind-slash .ensures) in
-    simp (← b7 .point .ensures, b5 .value .given .1, ← b3 .byte-at .ensures, eq-eqb _ _ (b2 .if1 .taken), ← e)
+    simp (← b7 .point-of .ensures, b5 .value .given .1, ← b3 .byte-at .ensures, eq-eqb _ _ (b2 .if1 .taken), ← e)
 
 ending-requires : tie.Need-ending-requires
 ending-requires c κs = search needs
@@ -59,7 +59,7 @@ returns-2 : tie.Need-returns-2
 unfolding fromPoint onPoint pick
 returns-2 c =
     let b2 = c .before .before in
-    simp (← b2 .point .ensures, c .enum-told .given .1)
+    simp (← b2 .point-of .ensures, c .enum-told .given .1)
 
 returns-3 : tie.Need-returns-3
 unfolding fromPoint onPoint pick
@@ -68,13 +68,13 @@ returns-3 c =
     let b2 = b1 .before in
     let b4 = b2 .before .before in
     let b6 = b4 .before .before in
-    simp (← b6 .point .ensures, b4 .value .given .1, ← b2 .byte-at .ensures, ne-eqb _ _ (b1 .if1 .left), ← c .ending .ensures)
+    simp (← b6 .point-of .ensures, b4 .value .given .1, ← b2 .byte-at .ensures, ne-eqb _ _ (b1 .if1 .left), ← c .ending .ensures)
 
 pub from-point-spec : {M : Type 1} → statement M
 from-point-spec =
     tie.close
     (tie.spec
-    point-requires
+    point-of-requires
     enum-told
     enum-known-value
     byte-at-requires

@@ -10,14 +10,14 @@ put-value-requires : tie.Need-put-value-requires
 unfolding timedText panics
 put-value-requires c κs =
     let s = c .before .before in
-    (s .pre .0, omega (arith, first-fits (valueText (s .args .d .value)) (markText (s .args .d .uncertain) (s .args .d .approximate)) (s .args .out .now) 0 (front (timedText (s .args .d)) (s .args .out .now) (s .pre .1))))
+    (s .pre .0, s .pre .1, omega (arith, first-fits (valueText (s .args .d .value)) (markText (s .args .d .uncertain) (s .args .d .approximate)) (s .args .out .now) 0 (front (timedText (s .args .d)) (s .args .out .now) (s .pre .2))))
 
 put-mark-requires : tie.Need-put-mark-requires
 unfolding timedText
 put-mark-requires c κs =
     let b3 = c .before .before .before in
     let s = b3 .before .before .before in
-    room (b3 .put-value .ensures) (markText (s .args .d .uncertain) (s .args .d .approximate)) (front (timedText (s .args .d)) (s .args .out .now) (s .pre .1))
+    room (b3 .put-value .ensures) (markText (s .args .d .uncertain) (s .args .d .approximate)) (front (timedText (s .args .d)) (s .args .out .now) (s .pre .2))
 
 same-length : tie.Need-same-length
 same-length c = search needs

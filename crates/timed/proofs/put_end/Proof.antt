@@ -9,14 +9,14 @@ put-datetime-requires : tie.Need-put-datetime-requires
 unfolding endText
 put-datetime-requires c κs =
     let s = c .before .before in
-    (s .pre .0, first-fits (datetimeText (s .args .d)) (timeText (s .args .d .time)) (s .args .out .now) (s .args .at) (s .pre .1))
+    (s .pre .0, s .pre .1, first-fits (datetimeText (s .args .d)) (timeText (s .args .d .time)) (s .args .out .now) (s .args .at) (s .pre .2))
 
 put-time-requires : tie.Need-put-time-requires
 unfolding endText
 put-time-requires c κs =
     let b3 = c .before .before .before in
     let s = b3 .before .before .before in
-    room (b3 .put-datetime .ensures) (timeText (s .args .d .time)) (s .pre .1)
+    room (b3 .put-datetime .ensures) (timeText (s .args .d .time)) (s .pre .2)
 
 same-length : tie.Need-same-length
 same-length c = search needs

@@ -1,8 +1,9 @@
+use Rattle.dates.specs.Value.{hasSeason, anySeason}
 use Rattle.writer.specs.Texts.{endPanics, valuePanics}
 use Rattle.chars.specs.Ascii.{ascii}
 use mathlib.Core.List.{_++_}
 use mathlib.Core.Path.{sym, ap, _∙_}
-use Rattle.timed.proofs.Pieces.{first-false, second-false}
+use Rattle.writer.proofs.Pieces.{first-false, second-false}
 use Rattle.writer.proofs.Puts.{room, front-as, first-fits, as-text, both}
 use Rattle.timed.specs.Texts.{endText, valueText}
 use borrow.Author.Needs.{needs}
@@ -17,7 +18,7 @@ unfolding valueText valuePanics
 put-end-requires c κs =
     let b2 = c .before .before in
     let s = b2 .before .before .before in
-    ((sym (ap valuePanics (b2 .v .given .1)) ∙ s .pre .0), (front-as (s .args .out .now) (ap valueText (b2 .v .given .1)) (s .pre .1)))
+    (sym (ap anySeason (b2 .v .given .1)) ∙ s .pre .0, (sym (ap valuePanics (b2 .v .given .1)) ∙ s .pre .1), (front-as (s .args .out .now) (ap valueText (b2 .v .given .1)) (s .pre .2)))
 
 enum-known-v-2 : tie.Need-enum-known-v-2
 enum-known-v-2 c = c .match .keys2
@@ -27,7 +28,7 @@ unfolding valueText valuePanics
 put-end-requires-2 c κs =
     let b2 = c .before .before in
     let s = b2 .before .before .before in
-    ((sym (ap valuePanics (b2 .v2 .given .1)) ∙ s .pre .0), first-fits (endText (b2 .v2 .given .0 .0)) (ascii "/..") (s .args .out .now) 0 (front-as (s .args .out .now) (ap valueText (b2 .v2 .given .1)) (s .pre .1)))
+    (sym (ap anySeason (b2 .v2 .given .1)) ∙ s .pre .0, (sym (ap valuePanics (b2 .v2 .given .1)) ∙ s .pre .1), first-fits (endText (b2 .v2 .given .0 .0)) (ascii "/..") (s .args .out .now) 0 (front-as (s .args .out .now) (ap valueText (b2 .v2 .given .1)) (s .pre .2)))
 
 slice-aggregate-put-bytes : tie.Need-slice-aggregate-put-bytes
 slice-aggregate-put-bytes c = search needs
@@ -38,7 +39,7 @@ put-bytes-requires c κs =
     let b4 = c .before .before .before .before in
     let b7 = b4 .before .before .before in
     let s = b7 .before .before .before in
-    room (b4 .put-end2 .ensures) (ascii "/..") (front-as (s .args .out .now) (ap valueText (b7 .v2 .given .1)) (s .pre .1))
+    room (b4 .put-end2 .ensures) (ascii "/..") (front-as (s .args .out .now) (ap valueText (b7 .v2 .given .1)) (s .pre .2))
 
 enum-known-v-3 : tie.Need-enum-known-v-3
 enum-known-v-3 c = c .match .keys3
@@ -51,7 +52,7 @@ unfolding valueText
 put-bytes-requires-2 c κs =
     let b3 = c .before .before .before in
     let s = b3 .before .before .before in
-    first-fits (ascii "../") (endText (b3 .v3 .given .0 .0)) (s .args .out .now) 0 (front-as (s .args .out .now) (ap valueText (b3 .v3 .given .1)) (s .pre .1))
+    first-fits (ascii "../") (endText (b3 .v3 .given .0 .0)) (s .args .out .now) 0 (front-as (s .args .out .now) (ap valueText (b3 .v3 .given .1)) (s .pre .2))
 
 put-end-requires-3 : tie.Need-put-end-requires-3
 unfolding valueText valuePanics
@@ -59,7 +60,7 @@ put-end-requires-3 c κs =
     let b3 = c .before .before .before in
     let b7 = b3 .before .before .before .before in
     let s = b7 .before .before .before in
-    ((sym (ap valuePanics (b7 .v3 .given .1)) ∙ s .pre .0), room (b3 .put-bytes2 .ensures) (endText (b7 .v3 .given .0 .0)) (front-as (s .args .out .now) (ap valueText (b7 .v3 .given .1)) (s .pre .1)))
+    (sym (ap anySeason (b7 .v3 .given .1)) ∙ s .pre .0, (sym (ap valuePanics (b7 .v3 .given .1)) ∙ s .pre .1), room (b3 .put-bytes2 .ensures) (endText (b7 .v3 .given .0 .0)) (front-as (s .args .out .now) (ap valueText (b7 .v3 .given .1)) (s .pre .2)))
 
 enum-known-v-4 : tie.Need-enum-known-v-4
 enum-known-v-4 c = c .match .keys4
@@ -69,7 +70,7 @@ unfolding valueText valuePanics
 put-end-requires-4 c κs =
     let b2 = c .before .before in
     let s = b2 .before .before .before in
-    (first-false (endPanics (b2 .v4 .given .0 .0)) (endPanics (b2 .v4 .given .0 .1 .0)) (sym (ap valuePanics (b2 .v4 .given .1)) ∙ s .pre .0), first-fits (endText (b2 .v4 .given .0 .0)) (ascii "/") (s .args .out .now) 0 (first-fits ((endText (b2 .v4 .given .0 .0)) ++ (ascii "/")) (endText (b2 .v4 .given .0 .1 .0)) (s .args .out .now) 0 (front-as (s .args .out .now) (ap valueText (b2 .v4 .given .1)) (s .pre .1))))
+    (first-false (hasSeason (b2 .v4 .given .0 .0)) (hasSeason (b2 .v4 .given .0 .1 .0)) (sym (ap anySeason (b2 .v4 .given .1)) ∙ s .pre .0), first-false (endPanics (b2 .v4 .given .0 .0)) (endPanics (b2 .v4 .given .0 .1 .0)) (sym (ap valuePanics (b2 .v4 .given .1)) ∙ s .pre .1), first-fits (endText (b2 .v4 .given .0 .0)) (ascii "/") (s .args .out .now) 0 (first-fits ((endText (b2 .v4 .given .0 .0)) ++ (ascii "/")) (endText (b2 .v4 .given .0 .1 .0)) (s .args .out .now) 0 (front-as (s .args .out .now) (ap valueText (b2 .v4 .given .1)) (s .pre .2))))
 
 put-byte-requires : tie.Need-put-byte-requires
 unfolding valueText
@@ -77,7 +78,7 @@ put-byte-requires c κs =
     let b3 = c .before .before .before in
     let b6 = b3 .before .before .before in
     let s = b6 .before .before .before in
-    room (b3 .put-end4 .ensures) (ascii "/") (first-fits ((endText (b6 .v4 .given .0 .0)) ++ (ascii "/")) (endText (b6 .v4 .given .0 .1 .0)) (s .args .out .now) 0 (front-as (s .args .out .now) (ap valueText (b6 .v4 .given .1)) (s .pre .1)))
+    room (b3 .put-end4 .ensures) (ascii "/") (first-fits ((endText (b6 .v4 .given .0 .0)) ++ (ascii "/")) (endText (b6 .v4 .given .0 .1 .0)) (s .args .out .now) 0 (front-as (s .args .out .now) (ap valueText (b6 .v4 .given .1)) (s .pre .2)))
 
 put-end-requires-5 : tie.Need-put-end-requires-5
 unfolding valueText valuePanics
@@ -86,7 +87,7 @@ put-end-requires-5 c κs =
     let b7 = b3 .before .before .before .before in
     let b10 = b7 .before .before .before in
     let s = b10 .before .before .before in
-    (second-false (endPanics (b10 .v4 .given .0 .0)) (endPanics (b10 .v4 .given .0 .1 .0)) (sym (ap valuePanics (b10 .v4 .given .1)) ∙ s .pre .0), room (both (b7 .put-end4 .ensures) (b3 .put-byte .ensures)) (endText (b10 .v4 .given .0 .1 .0)) (front-as (s .args .out .now) (ap valueText (b10 .v4 .given .1)) (s .pre .1)))
+    (second-false (hasSeason (b10 .v4 .given .0 .0)) (hasSeason (b10 .v4 .given .0 .1 .0)) (sym (ap anySeason (b10 .v4 .given .1)) ∙ s .pre .0), second-false (endPanics (b10 .v4 .given .0 .0)) (endPanics (b10 .v4 .given .0 .1 .0)) (sym (ap valuePanics (b10 .v4 .given .1)) ∙ s .pre .1), room (both (b7 .put-end4 .ensures) (b3 .put-byte .ensures)) (endText (b10 .v4 .given .0 .1 .0)) (front-as (s .args .out .now) (ap valueText (b10 .v4 .given .1)) (s .pre .2)))
 
 same-length : tie.Need-same-length
 same-length c = search needs

@@ -33,7 +33,7 @@ add-t11 c =
     let b4 = c .before .before .before .before in
     let b6 = b4 .before .before in
     let s = b6 .before in
-    let q = no-panic (s .args .d) (b6 .date-length .ensures .0) (b4 .n .given .1) in omega (arith, q .1, b6 .date-length .ensures .1 (q .0), c .times-length .ensures .1)
+    let q = no-panic (s .args .d) (b6 .date-length .ensures .0) (b4 .n .given .1) in omega (arith, q .2, b6 .date-length .ensures .1 (q .1), c .times-length .ensures .1)
 
 enum-known-e : tie.Need-enum-known-e
 enum-known-e c = c .match .keys2

@@ -1,6 +1,5 @@
 use Rattle.writer.specs.Fields.{fieldsText}
-use Rattle.writer.specs.Texts.{panics}
-use Rattle.writer.proofs.Answered.{fits, refuses, done}
+use Rattle.writer.proofs.Answered.{date-fits, date-refuses, date-done}
 use borrow.Author.Needs.{needs}
 use Rattle.writer.proofs.write_fields.Statement.{statement}
 use Rattle.writer.proofs.write_fields.Tie as tie
@@ -21,7 +20,7 @@ put-value-lines-requires c κs =
     let b3 = b1 .before .before in
     let b4 = b3 .before in
     let s = b4 .before .before in
-    fits (panics (s .args .d)) (fieldsText (s .args .d)) (s .args .out .now) (b4 .fields-length .ensures) (b3 .decide .ensures) (b1 .enum-told .given .1)
+    date-fits (s .args .d) (fieldsText (s .args .d)) (s .args .out .now) (b4 .fields-length .ensures) (b3 .decide .ensures) (b1 .enum-told .given .1)
 
 enum-known-e : tie.Need-enum-known-e
 enum-known-e c = c .match .keys2
@@ -37,7 +36,7 @@ returns c =
     let b6 = b4 .before .before in
     let b7 = b6 .before in
     let s = b7 .before .before in
-    done (panics (s .args .d)) (fieldsText (s .args .d)) (s .args .out .now) (b7 .fields-length .ensures) (b6 .decide .ensures) (b4 .enum-told .given .1) (b2 .put-value-lines .ensures)
+    date-done (s .args .d) (fieldsText (s .args .d)) (s .args .out .now) (b7 .fields-length .ensures) (b6 .decide .ensures) (b4 .enum-told .given .1) (b2 .put-value-lines .ensures)
 
 returns-2 : tie.Need-returns-2
 returns-2 c =
@@ -45,7 +44,7 @@ returns-2 c =
     let b3 = b1 .before .before in
     let b4 = b3 .before in
     let s = b4 .before .before in
-    refuses (panics (s .args .d)) (fieldsText (s .args .d)) (s .args .out .now) (b4 .fields-length .ensures) (b3 .decide .ensures) (b1 .e .given .1)
+    date-refuses (s .args .d) (fieldsText (s .args .d)) (s .args .out .now) (b4 .fields-length .ensures) (b3 .decide .ensures) (b1 .e .given .1)
 
 pub write-fields-spec : {M : Type 1} → statement M
 write-fields-spec =

@@ -1,5 +1,5 @@
-use Rattle.writer.specs.Texts.{panics, dateText}
-use Rattle.writer.proofs.Answered.{fits, refuses, done}
+use Rattle.writer.specs.Texts.{dateText}
+use Rattle.writer.proofs.Answered.{date-fits, date-refuses, date-done}
 use borrow.Author.Needs.{needs}
 use Rattle.writer.proofs.write_text.Statement.{statement}
 use Rattle.writer.proofs.write_text.Tie as tie
@@ -19,7 +19,7 @@ put-date-requires c κs =
     let b3 = b1 .before .before in
     let b4 = b3 .before in
     let s = b4 .before .before in
-    fits (panics (s .args .d)) (dateText (s .args .d)) (s .args .out .now) (b4 .date-length .ensures .0) (b3 .decide .ensures) (b1 .enum-told .given .1)
+    date-fits (s .args .d) (dateText (s .args .d)) (s .args .out .now) (b4 .date-length .ensures .0) (b3 .decide .ensures) (b1 .enum-told .given .1)
 
 enum-known-e : tie.Need-enum-known-e
 enum-known-e c = c .match .keys2
@@ -34,7 +34,7 @@ returns c =
     let b6 = b4 .before .before in
     let b7 = b6 .before in
     let s = b7 .before .before in
-    let q = done (panics (s .args .d)) (dateText (s .args .d)) (s .args .out .now) (b7 .date-length .ensures .0) (b6 .decide .ensures) (b4 .enum-told .given .1) (b2 .put-date .ensures) in
+    let q = date-done (s .args .d) (dateText (s .args .d)) (s .args .out .now) (b7 .date-length .ensures .0) (b6 .decide .ensures) (b4 .enum-told .given .1) (b2 .put-date .ensures) in
     (q .0, (q .1, b7 .date-length .ensures .1))
 
 returns-2 : tie.Need-returns-2
@@ -43,7 +43,7 @@ returns-2 c =
     let b3 = b1 .before .before in
     let b4 = b3 .before in
     let s = b4 .before .before in
-    let q = refuses (panics (s .args .d)) (dateText (s .args .d)) (s .args .out .now) (b4 .date-length .ensures .0) (b3 .decide .ensures) (b1 .e .given .1) in
+    let q = date-refuses (s .args .d) (dateText (s .args .d)) (s .args .out .now) (b4 .date-length .ensures .0) (b3 .decide .ensures) (b1 .e .given .1) in
     (q .0, (q .1, b4 .date-length .ensures .1))
 
 pub write-text-spec : {M : Type 1} → statement M

@@ -1,10 +1,10 @@
-use Rattle.reader.proofs.Entries.{strict-clean, strict-faulty, is-text, is-fault}
+use Rattle.reader.proofs.Entries.{exact-clean, exact-faulty, is-text, is-fault}
 use mathlib.Core.Bool.{false}
 use lib.Seq.{length-take-le}
 use mathlib.Core.Path.{sym, _∙_}
 use borrow.Author.Needs.{needs}
-use Rattle.reader.proofs.parse_strict_in.Statement.{statement}
-use Rattle.reader.proofs.parse_strict_in.Tie as tie
+use Rattle.reader.proofs.parse_by_in.Statement.{statement}
+use Rattle.reader.proofs.parse_by_in.Tie as tie
 
 format-verbatim-requires : tie.Need-format-verbatim-requires
 format-verbatim-requires c κs = search needs
@@ -12,25 +12,22 @@ format-verbatim-requires c κs = search needs
 enum-known-n : tie.Need-enum-known-n
 enum-known-n c = c .match .keys1
 
-slice-reshare-prefix-match-text : tie.Need-slice-reshare-prefix-match-text
-slice-reshare-prefix-match-text c =
+slice-reshare-prefix-match-by : tie.Need-slice-reshare-prefix-match-by
+slice-reshare-prefix-match-by c =
     let a = c .before .before .before .before .before .before .before .before .before .before .args in
     let e = c .before .before .before .before .before .format-verbatim .ensures in
     let t = is-text false (a .bytes .now) (a .table .now) (a .buf .now) (e .0) (e .1) (c .before .n .given .1) in
     t .within
 
-slice-aggregate-match-text : tie.Need-slice-aggregate-match-text
-slice-aggregate-match-text c =
+slice-aggregate-match-by : tie.Need-slice-aggregate-match-by
+slice-aggregate-match-by c =
     let a = c .before .before .before .before .before .before .before .before .before .before .before .args in
     let e = c .before .before .before .before .before .before .format-verbatim .ensures in
     let t = is-text false (a .bytes .now) (a .table .now) (a .buf .now) (e .0) (e .1) (c .before .before .n .given .1) in
     sym (length-take-le _ _ (t .within))
 
-match-text-requires : tie.Need-match-text-requires
-match-text-requires c κs = search needs
-
-strictly-requires : tie.Need-strictly-requires
-strictly-requires c κs = search needs
+match-by-requires : tie.Need-match-by-requires
+match-by-requires c κs = search needs
 
 enum-known-e : tie.Need-enum-known-e
 enum-known-e c = c .match .keys2
@@ -40,10 +37,10 @@ same-length c = search needs
 
 returns : tie.Need-returns
 returns c =
-    let a = c .before .before .before .before .before .before .before .before .before .before .before .before .before .args in
-    let e = c .before .before .before .before .before .before .before .before .format-verbatim .ensures in
-    let t = is-text false (a .bytes .now) (a .table .now) (a .buf .now) (e .0) (e .1) (c .before .before .before .before .n .given .1) in
-    c .strictly .ensures ∙ rw (c .before .match-text .ensures) (strict-clean (a .bytes .now) (a .table .now) (t .clean) (t .front))
+    let a = c .before .before .before .before .before .before .before .before .before .before .before .before .args in
+    let e = c .before .before .before .before .before .before .before .format-verbatim .ensures in
+    let t = is-text false (a .bytes .now) (a .table .now) (a .buf .now) (e .0) (e .1) (c .before .before .before .n .given .1) in
+    c .match-by .ensures ∙ exact-clean (a .bytes .now) (a .table .now) (a .level) (t .clean) (t .front)
 
 same-length-2 : tie.Need-same-length-2
 same-length-2 c = search needs
@@ -52,18 +49,17 @@ returns-2 : tie.Need-returns-2
 returns-2 c =
     let a = c .before .before .before .before .before .before .before .before .before .before .args in
     let e = c .before .before .before .before .before .format-verbatim .ensures in
-    strict-faulty (a .bytes .now) (a .table .now) (is-fault false (a .bytes .now) (a .table .now) (a .buf .now) (e .0) (e .1) (c .before .e .given .1) (c .before .before .before .before .before .before .before .before .before .before .pre))
+    exact-faulty (a .bytes .now) (a .table .now) (a .level) (is-fault false (a .bytes .now) (a .table .now) (a .buf .now) (e .0) (e .1) (c .before .e .given .1) (c .before .before .before .before .before .before .before .before .before .before .pre))
 
-pub parse-strict-in-spec : {M : Type 1} → statement M
-parse-strict-in-spec =
+pub parse-by-in-spec : {M : Type 1} → statement M
+parse-by-in-spec =
     tie.close
     (tie.spec
     format-verbatim-requires
     enum-known-n
-    slice-reshare-prefix-match-text
-    slice-aggregate-match-text
-    match-text-requires
-    strictly-requires
+    slice-reshare-prefix-match-by
+    slice-aggregate-match-by
+    match-by-requires
     enum-known-e
     same-length
     returns

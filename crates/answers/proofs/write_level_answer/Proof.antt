@@ -1,0 +1,63 @@
+use mathlib.Core.Path.{_≡_, refl, sym, ap, _∙_}
+use mathlib.Core.Bool.{false}
+use lib.ListN.{length}
+use Rattle.datefield.specs.declared.ReadDate.{ReadDate}
+use Rattle.writer.specs.Answers.{answer, afterwards}
+use Rattle.answers.specs.Answer.{levelLine}
+use borrow.Author.Needs.{needs}
+use Rattle.answers.proofs.write_level_answer.Statement.{statement}
+use Rattle.answers.proofs.write_level_answer.Tie as tie
+use Rattle.answers.proofs.write_level_answer.Reads as reads
+use Rattle.answers.proofs.write_level_answer.Lts as lts
+use Rattle.answers.proofs.write_level_date.Reads as write-level-date-reads
+use Rattle.answers.proofs.write_refused.Reads as write-refused-reads
+
+enum-known-r : tie.Need-enum-known-r
+enum-known-r c = search needs
+
+write-level-date-requires : tie.Need-write-level-date-requires
+write-level-date-requires c κs = search needs
+
+enum-known-r-2 : tie.Need-enum-known-r-2
+enum-known-r-2 c = search needs
+
+write-refused-requires : tie.Need-write-refused-requires
+write-refused-requires c κs = search needs
+
+same-length : tie.Need-same-length
+same-length c = search needs
+
+returns : tie.Need-returns
+returns c =
+    let b2 = c .before .before in
+    let b5 = b2 .before .before .before in
+    let s = b5 .before .before .before in
+    let e = sym (b5 .r .given .1) in
+    let q = b2 .write-level-date .ensures in
+    (q .0 ∙ ap (λ (x : ReadDate). answer false (levelLine x) (length (s .args .out .now))) e, q .1 ∙ ap (λ (x : ReadDate). afterwards false (levelLine x) (s .args .out .now)) e)
+
+same-length-2 : tie.Need-same-length-2
+same-length-2 c = search needs
+
+returns-2 : tie.Need-returns-2
+unfolding levelLine
+returns-2 c =
+    let b2 = c .before .before in
+    let b5 = b2 .before .before .before in
+    let s = b5 .before .before .before in
+    let e = sym (b5 .r2 .given .1) in
+    let q = b2 .write-refused .ensures in
+    (q .0 ∙ ap (λ (x : ReadDate). answer false (levelLine x) (length (s .args .out .now))) e, q .1 ∙ ap (λ (x : ReadDate). afterwards false (levelLine x) (s .args .out .now)) e)
+
+pub write-level-answer-spec : {M : Type 1} → statement M
+write-level-answer-spec =
+    tie.close
+    (tie.spec
+    enum-known-r
+    write-level-date-requires
+    enum-known-r-2
+    write-refused-requires
+    same-length
+    returns
+    same-length-2
+    returns-2)
