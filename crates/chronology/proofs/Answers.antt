@@ -17,31 +17,30 @@ use Rattle.chronology.specs.declared.Entry.{Entry}
 use Rattle.chronology.specs.declared.Answer.{Answer}
 use Rattle.chronology.specs.declared.Answer.the-variants.{Entries, Refused}
 use Rattle.chronology.specs.Entries.{goodPeriod, entryOf, idsOf, among, has, wellKept, listed}
-use Rattle.chronology.specs.Store.{Store, store, contents, inRoom, sound, placeOf, rank, inserted, removed}
-use Rattle.chronology.specs.Calls.{refused, accepted, countOf, countAnswer, addAnswer, removeAnswer, listAnswer, withEntry, withoutAt, afterAdd, afterRemove, afterList}
+use Rattle.chronology.specs.Store.{Store, store, Wide, contents, sound, placeOf, rank, inserted, removed}
+use Rattle.chronology.specs.Calls.{refused, accepted, countAnswer, addAnswer, removeAnswer, listAnswer, withEntry, withoutAt, afterAdd, afterRemove, afterList}
 use Rattle.chronology.proofs.Tests.{both}
 use Rattle.chronology.proofs.Columns.{Room, room, contents-ids, below-test, Place, place, in-it, past-it, listed-front}
 
 -- a chronology
-pub sound-narrow : (s : Store) → inRoom s ≡ false → false ≡ sound s
+pub sound-above : (s : Store) → 512 < s .count → false ≡ sound s
 unfolding sound pick
-sound-narrow s t = rw t
+sound-above s h = rw (lt-leb (s .count) 512 h)
 
-pub sound-kept : (s : Store) → inRoom s ≡ true → wellKept (contents s) ≡ sound s
+pub sound-kept : (s : Store) → s .count ≤ 512 → wellKept (contents s) ≡ sound s
 unfolding sound pick
-sound-kept s t = rw t
+sound-kept s h = rw (le-leb (s .count) 512 h)
 
-pub sound-room : (s : Store) → sound s ≡ true → Room s
+pub sound-few : (s : Store) → sound s ≡ true → s .count ≤ 512
 unfolding sound
-sound-room s t = room s (both (inRoom s) _ t .0)
-
-pub sound-in : (s : Store) → sound s ≡ true → inRoom s ≡ true
-unfolding sound
-sound-in s t = both (inRoom s) _ t .0
+sound-few s t = leb-true (s .count) 512 (both (leb (s .count) 512) _ t .0)
 
 pub sound-well : (s : Store) → sound s ≡ true → wellKept (contents s) ≡ true
 unfolding sound
-sound-well s t = both (inRoom s) _ t .1
+sound-well s t = both (leb (s .count) 512) _ t .1
+
+pub sound-room : (s : Store) → Wide s → sound s ≡ true → Room s
+sound-room s w t = room s w (sound-few s t)
 
 -- a search of all identifiers
 search-test : (s : Store) (d k : ℕ) → Room s → k ≡ 0 + placeOf d (take (s .count) (s .ids)) → ltb k (s .count) ≡ has d (contents s)
@@ -115,8 +114,14 @@ pub record Added (s : Store) (p : Period) (d m : ℕ) : Type 0 where
   pub not-full : s .count < 512
   pub one-more : s .count + 1 ≡ m
 
+-- how many an answer says, or else n
+many : ℕ → Answer → ℕ
+many n (Entries m) = m
+many n (Refused e) = n
+
 entries-same : {m n : ℕ} → Entries m ≡ Entries n → m ≡ n
-entries-same {m} q = ap (λ (a : Answer). countOf a m) q
+unfolding many
+entries-same {m} q = ap (λ (a : Answer). many m a) q
 
 pub add-says : (s : Store) (p : Period) (d m : ℕ) → addAnswer s p d ≡ Entries m → Added s p d m
 unfolding addAnswer refused pick
@@ -126,7 +131,7 @@ add-says s p d m q = first (sound s) refl q
     last true a b c e z = absurd (apart z)
     last false a b c e z =
         let n : s .count ≡ 512 → ⊥ = eqb-false (s .count) 512 e in
-        record { was-sound = a; period-good = b; id-new = c; not-full = omega (arith, sound-room s a .few, n); one-more = entries-same z }
+        record { was-sound = a; period-good = b; id-new = c; not-full = omega (arith, sound-few s a, n); one-more = entries-same z }
 
     third : (t : Bool) → sound s ≡ true → goodPeriod p ≡ true → has d (contents s) ≡ t → pick t (refused DuplicateEntry) (pick (eqb (s .count) 512) (refused ChronologyFull) (Entries (s .count + 1))) ≡ Entries m → Added s p d m
     third true a b e z = absurd (apart z)
@@ -141,7 +146,7 @@ add-says s p d m q = first (sound s) refl q
     first false e z = absurd (apart z)
 
 -- the store after an add
-pub add-leaves : (s : Store) (p : Period) (d : ℕ) {m i : ℕ} {e : Entry} {fs ls ds : List ℕ} → addAnswer s p d ≡ Entries m → e ≡ entryOf p d → i ≡ rank e (contents s)
+pub add-leaves : (s : Store) (p : Period) (d : ℕ) {m i : ℕ} {e : Entry} {fs ls : List ℤ} {ds : List ℕ} → addAnswer s p d ≡ Entries m → e ≡ entryOf p d → i ≡ rank e (contents s)
     → fs ≡ inserted (s .firsts) (s .count) i (e .first) → ls ≡ inserted (s .lasts) (s .count) i (e .last) → ds ≡ inserted (s .ids) (s .count) i (e .id)
     → store m fs ls ds ≡ afterAdd s p d
 unfolding afterAdd withEntry accepted pick
@@ -149,7 +154,11 @@ add-leaves s p d {m} {i} {e} {fs} {ls} {ds} q a b f g h =
     let n = s .count in
     let w = add-says s p d m q in
     let t : accepted (addAnswer s p d) ≡ true = ap accepted q in
-    rw (t, ← a, ← b, f, g, h, w .one-more)
+    let k : i ≡ rank (entryOf p d) (contents s) = b ∙ ap (λ (x : Entry). rank x (contents s)) a in
+    let u = f ∙ ap (λ (x : Entry). inserted (s .firsts) n i (x .first)) a in
+    let v = g ∙ ap (λ (x : Entry). inserted (s .lasts) n i (x .last)) a in
+    let x = h ∙ ap (λ (x : Entry). inserted (s .ids) n i (x .id)) a in
+    rw (t, ← k, u, v, x, w .one-more)
 
 pub add-keeps : (s : Store) (p : Period) (d : ℕ) {x : Refusal} → addAnswer s p d ≡ Refused x → s ≡ afterAdd s p d
 unfolding afterAdd accepted pick
@@ -188,13 +197,13 @@ remove-says s d m q = first (sound s) refl q
     first false e z = absurd (apart z)
 
 -- the store after a removal
-pub remove-leaves : (s : Store) (d : ℕ) {m i : ℕ} {fs ls ds : List ℕ} → removeAnswer s d ≡ Entries m → i ≡ 0 + placeOf d (take (s .count) (s .ids))
+pub remove-leaves : (s : Store) (d : ℕ) {m i : ℕ} {fs ls : List ℤ} {ds : List ℕ} → Wide s → removeAnswer s d ≡ Entries m → i ≡ 0 + placeOf d (take (s .count) (s .ids))
     → fs ≡ removed (s .firsts) (s .count) i → ls ≡ removed (s .lasts) (s .count) i → ds ≡ removed (s .ids) (s .count) i → store m fs ls ds ≡ afterRemove s d
 unfolding afterRemove withoutAt accepted pick
-remove-leaves s d {m} {i} {fs} {ls} {ds} q b f g h =
+remove-leaves s d {m} {i} {fs} {ls} {ds} x q b f g h =
     let w = remove-says s d m q in
     let t : accepted (removeAnswer s d) ≡ true = ap accepted q in
-    let k : i ≡ placeOf d (idsOf (contents s)) = b ∙ (let z : 0 + placeOf d (take (s .count) (s .ids)) ≡ placeOf d (take (s .count) (s .ids)) = omega arith in z) ∙ ap (placeOf d) (sym (contents-ids s (sound-room s (w .was-sound)))) in
+    let k : i ≡ placeOf d (idsOf (contents s)) = b ∙ (let z : 0 + placeOf d (take (s .count) (s .ids)) ≡ placeOf d (take (s .count) (s .ids)) = omega arith in z) ∙ ap (placeOf d) (sym (contents-ids s (sound-room s x (w .was-sound)))) in
     rw (t, ← k, f, g, h, w .one-less)
 
 pub remove-keeps : (s : Store) (d : ℕ) {x : Refusal} → removeAnswer s d ≡ Refused x → s ≡ afterRemove s d
@@ -229,12 +238,12 @@ list-says s k m q = first (sound s) refl q
     first false e z = absurd (apart z)
 
 -- the lent numbers after a listing
-pub list-leaves : (s : Store) (out : List ℤ) {m : ℕ} {after : List ℤ} → listAnswer s (length out) ≡ Entries m → after ≡ sets out 0 (listed (contents s)) → after ≡ afterList s out
+pub list-leaves : (s : Store) (out : List ℤ) {m : ℕ} {after : List ℤ} → Wide s → listAnswer s (length out) ≡ Entries m → after ≡ sets out 0 (listed (contents s)) → after ≡ afterList s out
 unfolding afterList accepted pick
-list-leaves s out {m} {after} q e =
+list-leaves s out {m} {after} x q e =
     let w = list-says s (length out) m q in
     let t : accepted (listAnswer s (length out)) ≡ true = ap accepted q in
-    rw t (e ∙ listed-front s (sound-room s (w .0)) out (w .1))
+    rw t (e ∙ listed-front s (sound-room s x (w .0)) out (w .1))
 
 pub list-keeps : (s : Store) (out : List ℤ) {x : Refusal} → listAnswer s (length out) ≡ Refused x → out ≡ afterList s out
 unfolding afterList accepted pick

@@ -1,93 +1,38 @@
 -- Is anything dated in a period: the walk's answer is that of a reading of all entries, since they stand in order. Assumes nothing.
 use mathlib.Core.Path.{_≡_, refl, sym, ap, _∙_}
-use mathlib.Core.Bool.{Bool, true, false, not, _||_, false≢true}
+use mathlib.Core.Bool.{Bool, true, false, _||_, false≢true}
 use mathlib.Core.List.{List, [], _∷_}
-use Prim.Native.Nat.{ℕ, suc, _+_, _≤_, _<_}
+use Prim.Native.Nat.{ℕ, zero, suc, _+_, _-_, _≤_, _<_}
 use native.Mathlib.Omega.{arith}
-use borrow.Author.Tests.{lt-ltb, le-ltb, ltb-true, ltb-false, lt-leb, le-leb}
-use lib.Dec.{leb, ltb}
+use borrow.Author.Tests.{lt-ltb, le-ltb, ltb-true, ltb-false}
+use lib.Dec.{ltb}
 use lib.ListN.{length, drop}
-use lib.Signed.{ltZ}
 use Rattle.chars.specs.Pick.{pick}
 use Rattle.days.specs.declared.Period.{Period}
-use Rattle.days.specs.Counts.{numbered}
-use Rattle.days.proofs.Numbers.{numbered-less}
+use Rattle.dates.proofs.Less.{lt-not-le}
 use Rattle.refusals.specs.declared.Kind.the-variants.{BadPeriod, BadChronology}
 use Rattle.chronology.specs.declared.Entry.{Entry}
-use Rattle.chronology.specs.declared.Reply.{Reply}
 use Rattle.chronology.specs.declared.Reply.the-variants.{Told}
-use Rattle.chronology.specs.Entries.{goodPeriod, entryOf, periodOf, beforeNext, wellKept}
-use Rattle.chronology.specs.Store.{Store, contents, sound, firstWhere, entryAt}
-use Rattle.chronology.specs.Asked.{beginsAfter, touches, anyTouches, stops, stopAt, entriesRead, untold, reply, shares, halts, haltAt, walked}
-use Rattle.chronology.proofs.Days.{period-back}
-use Rattle.chronology.proofs.Order.{Before, by-first, by-last, by-id, before-yes, kept}
+use Rattle.chronology.specs.Entries.{goodPeriod, beforeNext, wellKept}
+use Rattle.chronology.specs.Store.{Store, Wide, contents, sound, firstWhere}
+use Rattle.chronology.specs.Asked.{beginsAfter, touches, anyTouches, stops, stopAt, entriesRead, untold, reply}
+use Rattle.chronology.specs.Inside.{rowAt, walked}
+use Rattle.chronology.proofs.Order.{first-after, before-yes, kept}
 use Rattle.chronology.proofs.Columns.{contents-cons, contents-length}
 use Rattle.chronology.proofs.Answers.{sound-room, sound-well}
 
--- two sorts that are the same
-where-same : (is was : Entry → Bool) → ((e : Entry) → is e ≡ was e) → (l : List Entry) → firstWhere is l ≡ firstWhere was l
-unfolding firstWhere
-where-same is was f [] = refl
-where-same is was f (x ∷ l) = rw (f x, where-same is was f l)
-
--- ---- the tests over counted days
-
-module _ (p : Period) (g : goodPeriod p ≡ true) where
-  -- the entry that the walk goes by
-  abbrev q : Entry
-  q = entryOf p 0
-
-  after-same : (e : Entry) → beginsAfter p e ≡ ltb (q .last) (e .first)
-  unfolding beginsAfter periodOf
-  after-same e = ap (λ (t : Period). ltZ (t .last) (numbered (e .first))) (sym (period-back p 0 g)) ∙ numbered-less (q .last) (e .first)
-
-  touch-same : (e : Entry) → touches p e ≡ shares q e
-  unfolding touches shares pick periodOf
-  touch-same e = rw (after-same e) (ap (λ (t : Bool). pick (ltb (q .last) (e .first)) false t) (ends-same e))
-    where
-      not-less : (a b : ℕ) → not (ltb a b) ≡ leb b a
-      not-less a b = go (ltb a b) refl
-        where
-          go : (t : Bool) → ltb a b ≡ t → not t ≡ leb b a
-          go true e = sym (lt-leb b a (ltb-true a b e))
-          go false e = sym (le-leb b a (ltb-false a b e))
-
-      ends-same : (e : Entry) → not (ltZ (numbered (e .last)) (p .first)) ≡ leb (q .first) (e .last)
-      ends-same e =
-          ap (λ (t : Period). not (ltZ (numbered (e .last)) (t .first))) (sym (period-back p 0 g))
-          ∙ ap not (numbered-less (e .last) (q .first)) ∙ not-less (e .last) (q .first)
-
-  stop-same : (e : Entry) → stops p e ≡ halts q e
-  unfolding stops halts shares pick
-  stop-same e = rw (touch-same e, after-same e) (go (ltb (q .last) (e .first)) (leb (q .first) (e .last)))
-    where
-      go : (a b : Bool) → pick a false b || a ≡ pick a true b
-      go true b = refl
-      go false true = refl
-      go false false = refl
-
-  place-same : (l : List Entry) → stopAt p l ≡ haltAt q l
-  unfolding stopAt haltAt
-  place-same l = where-same (stops p) (halts q) stop-same l
-
-  -- behind an entry that begins after the period none touches it
-  first-least : {a b : Entry} → Before a b → a .first ≤ b .first
-  first-least (by-first h) = omega arith
-  first-least (by-last e h) = omega (arith, e)
-  first-least (by-id e f h) = omega (arith, e)
-
+-- behind an entry that begins after the period none touches it
+module _ (p : Period) where
   after-none : (e : Entry) → beginsAfter p e ≡ true → touches p e ≡ false
-  unfolding touches pick
-  after-none e b = rw b
+  unfolding touches beginsAfter
+  after-none e b = rw (lt-not-le (p .last) (e .first) b)
 
   later : (e : Entry) (l : List Entry) → wellKept (e ∷ l) ≡ true → beginsAfter p e ≡ true → anyTouches p l ≡ false
-  unfolding anyTouches beforeNext
+  unfolding anyTouches beforeNext beginsAfter
   later e [] w b = refl
   later e (x ∷ l) w b =
       let k = kept e (x ∷ l) w in
-      let f = first-least (before-yes e x (k .next)) in
-      let h = ltb-true (q .last) (e .first) (sym (after-same e) ∙ b) in
-      let c : beginsAfter p x ≡ true = after-same x ∙ lt-ltb (q .last) (x .first) (omega arith) in
+      let c : beginsAfter p x ≡ true = first-after (p .last) e x (before-yes e x (k .next)) b in
       rw (after-none x c) (later x l (k .rest) c)
 
   -- so the entry at which the walk stops decides
@@ -123,12 +68,12 @@ module _ (p : Period) (g : goodPeriod p ≡ true) where
 
 -- ---- the walk's reply, in the columns
 
-module _ (q : Entry) (s : Store) {i : ℕ} (e : i ≡ haltAt q (contents s)) where
-  pub walk-stops : {b : Bool} → i < s .count → b ≡ shares q (entryAt (s .firsts) (s .lasts) (s .ids) i) → Told b (i + 1) ≡ walked q s
+module _ (s : Store) (p : Period) {i : ℕ} (e : i ≡ stopAt p (contents s)) where
+  pub walk-stops : {b : Bool} → i < s .count → b ≡ touches p (rowAt s i) → Told b (i + 1) ≡ walked s p
   unfolding walked pick
   walk-stops h f = rw (sym e, lt-ltb i (s .count) h, f)
 
-  pub walk-ends : s .count ≤ i → Told false (s .count) ≡ walked q s
+  pub walk-ends : s .count ≤ i → Told false (s .count) ≡ walked s p
   unfolding walked pick
   walk-ends h = rw (sym e, le-ltb i (s .count) h)
 
@@ -143,33 +88,23 @@ module _ (s : Store) (p : Period) where
   unfolding reply pick
   reply-period e f = rw (e, f)
 
-  module _ (e : sound s ≡ true) (g : goodPeriod p ≡ true) where
+  module _ (wide : Wide s) (e : sound s ≡ true) (g : goodPeriod p ≡ true) where
     abbrev place : ℕ
     place = firstWhere (stops p) (contents s)
 
-    halted : haltAt (entryOf p 0) (contents s) ≡ place
-    unfolding stopAt
-    halted = sym (place-same p g (contents s))
-
     told : (t : Bool) → ltb place (s .count) ≡ t
-        → pick t (Told (shares (entryOf p 0) (entryAt (s .firsts) (s .lasts) (s .ids) place)) (place + 1)) (Told false (s .count))
-        ≡ Told (anyTouches p (contents s)) (pick t (place + 1) (s .count))
+        → pick t (Told (touches p (rowAt s place)) (place + 1)) (Told false (s .count)) ≡ Told (anyTouches p (contents s)) (pick t (place + 1) (s .count))
     unfolding pick
     told true h =
-        let r = sound-room s e in
-        let x = entryAt (s .firsts) (s .lasts) (s .ids) place in
-        let c = contents-cons s r place (ltb-true place (s .count) h) in
-        ap (λ (b : Bool). Told b (place + 1)) (sym (touch-same p g x) ∙ sym (touched p g (contents s) x (drop (suc place) (contents s)) (sound-well s e) c))
+        let c = contents-cons s (sound-room s wide e) place (ltb-true place (s .count) h) in
+        ap (λ (b : Bool). Told b (place + 1)) (sym (touched p (contents s) (rowAt s place) (drop (suc place) (contents s)) (sound-well s e) c))
     told false h =
-        let n = contents-length s (sound-room s e) in
-        ap (λ (b : Bool). Told b (s .count)) (sym (untouched p g (contents s) (omega (arith, n, ltb-false place (s .count) h))))
+        let n = contents-length s (sound-room s wide e) in
+        ap (λ (b : Bool). Told b (s .count)) (sym (untouched p (contents s) (omega (arith, n, ltb-false place (s .count) h))))
 
-    reply-told : walked (entryOf p 0) s ≡ reply s p
+    pub reply-walked : walked s p ≡ reply s p
     unfolding walked reply entriesRead stopAt pick
-    reply-told = rw (e, g, halted, contents-length s (sound-room s e)) (told (ltb place (s .count)) refl)
-
-    pub reply-walked : {q : Entry} {r : Reply} → q ≡ entryOf p 0 → r ≡ walked q s → r ≡ reply s p
-    reply-walked f h = h ∙ ap (λ (x : Entry). walked x s) f ∙ reply-told
+    reply-walked = rw (e, g, contents-length s (sound-room s wide e)) (told (ltb place (s .count)) refl)
 
 -- the number that is read is never above the live count
 read-most : (p : Period) (l : List Entry) → entriesRead p l ≤ length l
@@ -181,5 +116,46 @@ read-most p l = go (ltb (firstWhere (stops p) l) (length l)) refl
     go false h = omega arith
 
 -- of a store: never above its count
-pub read-live : (s : Store) (p : Period) → sound s ≡ true → entriesRead p (contents s) ≤ s .count
-read-live s p e = let n = contents-length s (sound-room s e) in omega (arith, read-most p (contents s))
+pub read-live : (s : Store) (p : Period) → Wide s → sound s ≡ true → entriesRead p (contents s) ≤ s .count
+read-live s p w e = let n = contents-length s (sound-room s w e) in omega (arith, read-most p (contents s))
+
+-- no entry before the first of a sort is of that sort
+before-first : (is : Entry → Bool) (l : List Entry) (i : ℕ) {e : Entry} {r : List Entry} → drop i l ≡ e ∷ r → i < firstWhere is l → is e ≡ false
+unfolding firstWhere pick
+before-first is [] i d h = absurd (omega arith)
+before-first is (x ∷ l) i {e} {r} d h = go (is x) refl i d h (λ (j : ℕ). before-first is l j)
+  where
+    go : (t : Bool) → is x ≡ t → (i : ℕ) → drop i (x ∷ l) ≡ e ∷ r → i < pick t 0 (suc (firstWhere is l))
+        → ((j : ℕ) → drop j l ≡ e ∷ r → j < firstWhere is l → is e ≡ false) → is e ≡ false
+    go true q i d h again = absurd (omega arith)
+    go false q zero d h again = let y : x ≡ e = cc in ap is (sym y) ∙ q
+    go false q (suc i) d h again = again i d (omega arith)
+
+-- and the first is
+at-first : (is : Entry → Bool) (l : List Entry) {e : Entry} {r : List Entry} → drop (firstWhere is l) l ≡ e ∷ r → is e ≡ true
+unfolding firstWhere pick
+at-first is [] d = let z : _≡_ {A = ℕ} 0 1 = cc in absurd (omega arith)
+at-first is (x ∷ l) {e} {r} d = go (is x) refl d (at-first is l)
+  where
+    go : (t : Bool) → is x ≡ t → drop (pick t 0 (suc (firstWhere is l))) (x ∷ l) ≡ e ∷ r → (drop (firstWhere is l) l ≡ e ∷ r → is e ≡ true) → is e ≡ true
+    go true q d again = let y : x ≡ e = cc in ap is (sym y) ∙ q
+    go false q d again = again d
+
+-- K9's number, from the list: no entry before the last one read stops the walk,
+pub read-before : (p : Period) (l : List Entry) (i : ℕ) {e : Entry} {r : List Entry} → drop i l ≡ e ∷ r → i + 1 < entriesRead p l → stops p e ≡ false
+unfolding entriesRead stopAt pick
+read-before p l i {e} {r} d h = before-first (stops p) l i d (go (ltb (firstWhere (stops p) l) (length l)) refl h)
+  where
+    go : (t : Bool) → ltb (firstWhere (stops p) l) (length l) ≡ t → i + 1 < pick t (firstWhere (stops p) l + 1) (length l) → i < firstWhere (stops p) l
+    go true q h = omega arith
+    go false q h = omega (arith, ltb-false (firstWhere (stops p) l) (length l) q)
+
+-- and the last one read does, if any is left unread
+pub read-last : (p : Period) (l : List Entry) {e : Entry} {r : List Entry} → entriesRead p l < length l → drop (entriesRead p l - 1) l ≡ e ∷ r → stops p e ≡ true
+unfolding entriesRead stopAt pick
+read-last p l {e} {r} h d = go (ltb (firstWhere (stops p) l) (length l)) refl h d
+  where
+    go : (t : Bool) → ltb (firstWhere (stops p) l) (length l) ≡ t → pick t (firstWhere (stops p) l + 1) (length l) < length l
+        → drop (pick t (firstWhere (stops p) l + 1) (length l) - 1) l ≡ e ∷ r → stops p e ≡ true
+    go true q h d = let k : firstWhere (stops p) l + 1 - 1 ≡ firstWhere (stops p) l = omega arith in at-first (stops p) l (rw k at d)
+    go false q h d = absurd (omega arith)

@@ -6,39 +6,29 @@ use Prim.Native.Nat.{ℕ, zero, suc, _+_, _*_, _≤_, _<_}
 use native.Mathlib.Nat.{le-of-suc-le-suc, not-suc-le-zero, add-zero}
 use native.Mathlib.Numerals.{add-one}
 use native.Mathlib.Omega.{arith}
-use lib.Dec.{eqb, leb, ltb}
+use lib.Dec.{eqb, ltb}
 use lib.IntN.{ℤ}
 use lib.ListN.{length, getD, take, drop, set, length-drop, drop-of-length-le}
 use lib.Seq.{drop-cons, sets, sets-eq, getD-take, length-take-le}
-use borrow.Author.Tests.{leb-true, lt-ltb, le-ltb, eq-eqb, ne-eqb}
+use borrow.Author.Tests.{lt-ltb, le-ltb, eq-eqb, ne-eqb}
 use Rattle.chars.specs.Pick.{pick}
 use Rattle.chronology.specs.declared.Entry.{Entry}
 use Rattle.chronology.specs.Entries.{precedes, goodDays, idsOf, among, has, beforeNext, keptFirst, wellKept, listed}
-use Rattle.chronology.specs.Store.{Store, rows, contents, inRoom, placeOf, firstWhere, rank, entryAt, beforeAt, keptAt}
-use Rattle.chronology.proofs.Tests.{both}
+use Rattle.chronology.specs.Store.{Store, Wide, rows, contents, placeOf, firstWhere, rank}
+use Rattle.chronology.specs.Inside.{entryAt, rowAt, beforeAt, keptAt}
 
--- what a store that is in room has
+-- what a store that is lent has, if its count is not above 512
 pub record Room (s : Store) : Type 0 where
   pub few : s .count ≤ 512
-  pub of-firsts : 512 ≤ length (s .firsts)
-  pub of-lasts : 512 ≤ length (s .lasts)
-  pub of-ids : 512 ≤ length (s .ids)
+  pub of-firsts : length (s .firsts) ≡ 512
+  pub of-lasts : length (s .lasts) ≡ 512
+  pub of-ids : length (s .ids) ≡ 512
 
-pub room : (s : Store) → inRoom s ≡ true → Room s
-unfolding inRoom
-room s t =
-    let a = both (leb (s .count) 512) _ t in
-    let b = both (leb 512 (length (s .firsts))) _ (a .1) in
-    let d = both (leb 512 (length (s .lasts))) _ (b .1) in
-    record {
-      few = leb-true (s .count) 512 (a .0);
-      of-firsts = leb-true 512 (length (s .firsts)) (b .0);
-      of-lasts = leb-true 512 (length (s .lasts)) (d .0);
-      of-ids = leb-true 512 (length (s .ids)) (d .1);
-    }
+pub room : (s : Store) → Wide s → s .count ≤ 512 → Room s
+room s w h = record { few = h; of-firsts = w .of-firsts; of-lasts = w .of-lasts; of-ids = w .of-ids }
 
 -- of three columns with at least n numbers
-rows-cons : (n i : ℕ) (fs ls ds : List ℕ) → i < n → n ≤ length fs → n ≤ length ls → n ≤ length ds
+rows-cons : (n i : ℕ) (fs ls : List ℤ) (ds : List ℕ) → i < n → n ≤ length fs → n ≤ length ls → n ≤ length ds
     → drop i (take n (rows fs ls ds)) ≡ entryAt fs ls ds i ∷ drop (suc i) (take n (rows fs ls ds))
 unfolding rows
 rows-cons zero i fs ls ds h a b c = absurd (not-suc-le-zero h)
@@ -49,7 +39,7 @@ rows-cons (suc n) zero (f ∷ fs) (e ∷ ls) (d ∷ ds) h a b c = refl
 rows-cons (suc n) (suc i) (f ∷ fs) (e ∷ ls) (d ∷ ds) h a b c =
     rows-cons n i fs ls ds (le-of-suc-le-suc h) (le-of-suc-le-suc a) (le-of-suc-le-suc b) (le-of-suc-le-suc c)
 
-rows-length : (n : ℕ) (fs ls ds : List ℕ) → n ≤ length fs → n ≤ length ls → n ≤ length ds → length (take n (rows fs ls ds)) ≡ n
+rows-length : (n : ℕ) (fs ls : List ℤ) (ds : List ℕ) → n ≤ length fs → n ≤ length ls → n ≤ length ds → length (take n (rows fs ls ds)) ≡ n
 unfolding rows
 rows-length zero fs ls ds a b c = refl
 rows-length (suc n) [] ls ds a b c = absurd (not-suc-le-zero a)
@@ -58,7 +48,7 @@ rows-length (suc n) (f ∷ fs) (e ∷ ls) [] a b c = absurd (not-suc-le-zero c)
 rows-length (suc n) (f ∷ fs) (e ∷ ls) (d ∷ ds) a b c =
     ap suc (rows-length n fs ls ds (le-of-suc-le-suc a) (le-of-suc-le-suc b) (le-of-suc-le-suc c))
 
-rows-ids : (n : ℕ) (fs ls ds : List ℕ) → n ≤ length fs → n ≤ length ls → n ≤ length ds → idsOf (take n (rows fs ls ds)) ≡ take n ds
+rows-ids : (n : ℕ) (fs ls : List ℤ) (ds : List ℕ) → n ≤ length fs → n ≤ length ls → n ≤ length ds → idsOf (take n (rows fs ls ds)) ≡ take n ds
 unfolding rows idsOf
 rows-ids zero fs ls ds a b c = refl
 rows-ids (suc n) [] ls ds a b c = absurd (not-suc-le-zero a)
@@ -76,7 +66,7 @@ ids-drop (suc i) (e ∷ l) = ids-drop i l
 -- of a store in room
 module _ (s : Store) (r : Room s) where
   -- its entries from a place on
-  pub contents-cons : (i : ℕ) → i < s .count → drop i (contents s) ≡ entryAt (s .firsts) (s .lasts) (s .ids) i ∷ drop (suc i) (contents s)
+  pub contents-cons : (i : ℕ) → i < s .count → drop i (contents s) ≡ rowAt s i ∷ drop (suc i) (contents s)
   unfolding contents
   contents-cons i h =
       rows-cons (s .count) i (s .firsts) (s .lasts) (s .ids) h (omega (arith, r .few, r .of-firsts)) (omega (arith, r .few, r .of-lasts))
@@ -199,11 +189,11 @@ kept-not e l t = rw t
 
 -- its place in the columns, from a place on
 module _ (s : Store) (r : Room s) (i : ℕ) (is : Entry → Bool) where
-  pub where-found : {x : Entry} → i < s .count → x ≡ entryAt (s .firsts) (s .lasts) (s .ids) i → is x ≡ true → i ≡ i + firstWhere is (drop i (contents s))
+  pub where-found : {x : Entry} → i < s .count → x ≡ rowAt s i → is x ≡ true → i ≡ i + firstWhere is (drop i (contents s))
   where-found {x} h e t =
       rw (contents-cons s r i h) (sym (ap (λ (k : ℕ). i + k) (where-here is _ (drop (suc i) (contents s)) (ap is (sym e) ∙ t)) ∙ add-zero i))
 
-  pub where-passed : {x : Entry} → i < s .count → x ≡ entryAt (s .firsts) (s .lasts) (s .ids) i → is x ≡ false
+  pub where-passed : {x : Entry} → i < s .count → x ≡ rowAt s i → is x ≡ false
       → i + firstWhere is (drop i (contents s)) ≡ i + 1 + firstWhere is (drop (i + 1) (contents s))
   where-passed {x} h e t =
       let n : suc i ≡ i + 1 = omega arith in
@@ -219,13 +209,13 @@ module _ (s : Store) (r : Room s) (i : ℕ) (is : Entry → Bool) where
 -- loops over the entries of a store in room
 module _ (s : Store) (r : Room s) (i : ℕ) where
   -- whether the entry at i stands before the next one
-  pub before-one : {x y : Entry} → i + 1 < s .count → x ≡ entryAt (s .firsts) (s .lasts) (s .ids) i → y ≡ entryAt (s .firsts) (s .lasts) (s .ids) (i + 1)
+  pub before-one : {x y : Entry} → i + 1 < s .count → x ≡ rowAt s i → y ≡ rowAt s (i + 1)
       → precedes x y ≡ beforeAt s i
   unfolding beforeAt beforeNext
   before-one {x} {y} h q p =
       ap (λ (a : Entry). precedes a y) q
-      ∙ ap (λ (a : Entry). precedes (entryAt (s .firsts) (s .lasts) (s .ids) i) a) p
-      ∙ ap (beforeNext (entryAt (s .firsts) (s .lasts) (s .ids) i))
+      ∙ ap (λ (a : Entry). precedes (rowAt s i) a) p
+      ∙ ap (beforeNext (rowAt s i))
       (sym (ap (λ (k : ℕ). drop k (contents s)) (sym (add-one i)) ∙ contents-cons s r (i + 1) h))
 
   pub before-none : s .count ≤ i + 1 → true ≡ beforeAt s i
@@ -233,28 +223,13 @@ module _ (s : Store) (r : Room s) (i : ℕ) where
   before-none h = rw (contents-end s r (suc i) (omega arith))
 
   -- whether it is kept
-  pub kept-good : {x : Entry} → x ≡ entryAt (s .firsts) (s .lasts) (s .ids) i → goodDays x ≡ false → false ≡ keptAt s i
+  pub kept-good : {x : Entry} → x ≡ rowAt s i → goodDays x ≡ false → false ≡ keptAt s i
   unfolding keptAt keptFirst pick
   kept-good {x} q t = let u = sym (ap goodDays q) ∙ t in rw u
 
-  pub kept-before : {x : Entry} → x ≡ entryAt (s .firsts) (s .lasts) (s .ids) i → goodDays x ≡ true → beforeAt s i ≡ false → false ≡ keptAt s i
+  pub kept-before : {x : Entry} → x ≡ rowAt s i → goodDays x ≡ true → beforeAt s i ≡ false → false ≡ keptAt s i
   unfolding keptAt keptFirst beforeAt pick
   kept-before {x} q t b = let u = sym (ap goodDays q) ∙ t in rw (u, b)
-
-  pub kept-id : {x : Entry} {k : ℕ} → i < s .count → x ≡ entryAt (s .firsts) (s .lasts) (s .ids) i → goodDays x ≡ true → beforeAt s i ≡ true
-      → k ≡ i + 1 + placeOf (x .id) (drop (i + 1) (take (s .count) (s .ids))) → eqb k (s .count) ≡ keptAt s i
-  unfolding keptAt keptFirst beforeAt has pick
-  kept-id {x} {k} h q t b e =
-      let u = sym (ap goodDays q) ∙ t in
-      let n = s .count in
-      let rest = drop (i + 1) (take n (s .ids)) in
-      let g : i + 1 + length rest ≡ n =
-      rw (length-drop (i + 1) (take n (s .ids)), length-take-le n (s .ids) (omega (arith, r .few, r .of-ids))) (omega arith) in
-      rw (u, b)
-      (ap (λ (m : ℕ). eqb m n) e
-      ∙ end-test (x .id) rest (i + 1) n g
-      ∙ ap (λ (d : ℕ). not (among d rest)) (ap (λ (y : Entry). y .id) q)
-      ∙ ap (λ (l : List ℕ). not (among (getD (s .ids) i 0) l)) (ap (λ (m : ℕ). drop m (take n (s .ids))) (add-one i) ∙ sym (ids-from s r (suc i))))
 
   pub kept-next : i < s .count → keptAt s i ≡ true → wellKept (drop i (contents s)) ≡ wellKept (drop (i + 1) (contents s))
   unfolding keptAt
@@ -287,7 +262,7 @@ listed-length (e ∷ l) = let h = listed-length l in omega arith
 
 -- a loop that lists the entries: one is put, and what is still to come
 module _ (s : Store) (r : Room s) (i : ℕ) where
-  pub listed-next : {x : Entry} (out : List ℤ) → i < s .count → x ≡ entryAt (s .firsts) (s .lasts) (s .ids) i
+  pub listed-next : {x : Entry} (out : List ℤ) → i < s .count → x ≡ rowAt s i
       → sets (sets out (3 * i) (listed (x ∷ []))) (3 * (i + 1)) (listed (drop (i + 1) (contents s))) ≡ sets out (3 * i) (listed (drop i (contents s)))
   listed-next {x} out h q =
       next-entry out i x (drop (i + 1) (contents s))

@@ -7,13 +7,14 @@ use native.Mathlib.Nat.{le-of-suc-le-suc, not-suc-le-zero}
 use native.Mathlib.Numerals.{add-one}
 use native.Mathlib.Omega.{arith}
 use lib.Dec.{eqb}
+use lib.IntN.{ℤ}
 use lib.ListN.{length, take, drop, length-append, length-drop}
 use lib.Seq.{take-at, length-take-le}
-use borrow.Author.Tests.{le-leb, eqb-true, eqb-false}
+use borrow.Author.Tests.{eqb-true, eqb-false}
 use Rattle.chars.specs.Pick.{pick}
 use Rattle.chronology.specs.declared.Entry.{Entry}
 use Rattle.chronology.specs.Entries.{entry, precedes, idsOf, insert, without}
-use Rattle.chronology.specs.Store.{Store, rows, contents, inRoom, placeOf, firstWhere, rank, inserted, removed}
+use Rattle.chronology.specs.Store.{Store, rows, contents, placeOf, firstWhere, rank, inserted, removed}
 use Rattle.chronology.specs.Calls.{withEntry, withoutAt}
 use Rattle.chronology.proofs.Columns.{Room, contents-length, here, on, where-in, rank-here, rank-on}
 use Rattle.chronology.proofs.Order.{insert-on, insert-here, without-here, without-on}
@@ -30,18 +31,18 @@ cutAt zero (x ∷ l) = l
 cutAt (suc i) (x ∷ l) = x ∷ cutAt i l
 
 -- the first of a column after an insertion, or after a removal
-take-inserted : (l : List ℕ) (n i v : ℕ) → i ≤ n → n < length l → take (suc n) (inserted l n i v) ≡ putAt i v (take n l)
+take-inserted : {A : Type 0} (l : List A) (n i : ℕ) (v : A) → i ≤ n → n < length l → take (suc n) (inserted l n i v) ≡ putAt i v (take n l)
 unfolding inserted putAt
 take-inserted [] n i v h g = absurd (not-suc-le-zero g)
 take-inserted (x ∷ l) n zero v h g =
     let e : n - 0 ≡ n = omega arith in
-    rw e (ap {B = List ℕ} (λ (m : List ℕ). v ∷ m) (take-at (take n (x ∷ l)) (drop n l) n (length-take-le n (x ∷ l) (omega arith))))
+    rw e (ap (λ m. v ∷ m) (take-at (take n (x ∷ l)) (drop n l) n (length-take-le n (x ∷ l) (omega arith))))
 take-inserted (x ∷ l) zero (suc i) v h g = absurd (not-suc-le-zero h)
 take-inserted (x ∷ l) (suc n) (suc i) v h g =
     let e : suc n - suc i ≡ n - i = omega arith in
-    rw e (ap {B = List ℕ} (λ (m : List ℕ). x ∷ m) (take-inserted l n i v (le-of-suc-le-suc h) (le-of-suc-le-suc g)))
+    rw e (ap (λ m. x ∷ m) (take-inserted l n i v (le-of-suc-le-suc h) (le-of-suc-le-suc g)))
 
-take-removed : (l : List ℕ) (n i : ℕ) → i ≤ n → n < length l → take n (removed l (suc n) i) ≡ cutAt i (take (suc n) l)
+take-removed : {A : Type 0} (l : List A) (n i : ℕ) → i ≤ n → n < length l → take n (removed l (suc n) i) ≡ cutAt i (take (suc n) l)
 unfolding removed cutAt
 take-removed [] n i h g = absurd (not-suc-le-zero g)
 take-removed (x ∷ l) n zero h g =
@@ -52,10 +53,10 @@ take-removed (x ∷ l) (suc n) (suc i) h g =
     let a : suc (suc n) - suc (suc i) ≡ suc n - suc i = omega arith in
     let b : suc (suc n) - 1 ≡ suc n = omega arith in
     let d : suc n - 1 ≡ n = omega arith in
-    rw (a, b) (ap {B = List ℕ} (λ (m : List ℕ). x ∷ m) ((rw d refl) ∙ take-removed l n i (le-of-suc-le-suc h) (le-of-suc-le-suc g)))
+    rw (a, b) (ap (λ m. x ∷ m) ((rw d refl) ∙ take-removed l n i (le-of-suc-le-suc h) (le-of-suc-le-suc g)))
 
 -- columns keep their lengths
-inserted-length : (l : List ℕ) (n i v : ℕ) → i ≤ n → n < length l → length (inserted l n i v) ≡ length l
+inserted-length : {A : Type 0} (l : List A) (n i : ℕ) (v : A) → i ≤ n → n < length l → length (inserted l n i v) ≡ length l
 unfolding inserted
 inserted-length l n i v h g =
     let a = length-append (take i l) (v ∷ (take (n - i) (drop i l) ++ drop (suc n) l)) in
@@ -65,7 +66,7 @@ inserted-length l n i v h g =
     let r = length-drop (suc n) l in
     omega arith
 
-removed-length : (l : List ℕ) (n i : ℕ) → i < n → n ≤ length l → length (removed l n i) ≡ length l
+removed-length : {A : Type 0} (l : List A) (n i : ℕ) → i < n → n ≤ length l → length (removed l n i) ≡ length l
 unfolding removed
 removed-length l n i h g =
     let a = length-append (take i l) (take (n - suc i) (drop (suc i) l) ++ drop (n - 1) l) in
@@ -76,7 +77,7 @@ removed-length l n i h g =
     omega arith
 
 -- three columns, cut at a place, or changed at it
-rows-take : (n : ℕ) (fs ls ds : List ℕ) → take n (rows fs ls ds) ≡ rows (take n fs) (take n ls) (take n ds)
+rows-take : (n : ℕ) (fs ls : List ℤ) (ds : List ℕ) → take n (rows fs ls ds) ≡ rows (take n fs) (take n ls) (take n ds)
 unfolding rows
 rows-take zero fs ls ds = refl
 rows-take (suc n) [] ls ds = refl
@@ -84,7 +85,7 @@ rows-take (suc n) (f ∷ fs) [] ds = refl
 rows-take (suc n) (f ∷ fs) (e ∷ ls) [] = refl
 rows-take (suc n) (f ∷ fs) (e ∷ ls) (d ∷ ds) = ap {B = List Entry} (λ (l : List Entry). entry f e d ∷ l) (rows-take n fs ls ds)
 
-rows-put : (i : ℕ) (fs ls ds : List ℕ) (x : Entry) → length fs ≡ length ls → length fs ≡ length ds
+rows-put : (i : ℕ) (fs ls : List ℤ) (ds : List ℕ) (x : Entry) → length fs ≡ length ls → length fs ≡ length ds
     → rows (putAt i (x .first) fs) (putAt i (x .last) ls) (putAt i (x .id) ds) ≡ putAt i x (rows fs ls ds)
 unfolding rows putAt
 rows-put zero fs ls ds x p q = refl
@@ -98,18 +99,18 @@ rows-put (suc i) (f ∷ fs) (e ∷ ls) (d ∷ ds) x p q =
     let b : length fs ≡ length ds = (let z : suc (length fs) ≡ suc (length ds) = q in omega arith) in
     ap {B = List Entry} (λ (l : List Entry). entry f e d ∷ l) (rows-put i fs ls ds x a b)
 
-rows-cut : (i : ℕ) (fs ls ds : List ℕ) → rows (cutAt i fs) (cutAt i ls) (cutAt i ds) ≡ cutAt i (rows fs ls ds)
+rows-cut : (i : ℕ) (fs ls : List ℤ) (ds : List ℕ) → rows (cutAt i fs) (cutAt i ls) (cutAt i ds) ≡ cutAt i (rows fs ls ds)
 unfolding rows cutAt
 rows-cut i [] ls ds = refl
 rows-cut zero (f ∷ fs) [] ds = no-lasts fs ds
   where
-    no-lasts : (fs ds : List ℕ) → rows fs [] (cutAt zero ds) ≡ []
+    no-lasts : (fs : List ℤ) (ds : List ℕ) → rows fs [] (cutAt zero ds) ≡ []
     no-lasts [] ds = refl
     no-lasts (f ∷ fs) ds = refl
 rows-cut (suc i) (f ∷ fs) [] ds = refl
 rows-cut zero (f ∷ fs) (e ∷ ls) [] = no-ids fs ls
   where
-    no-ids : (fs ls : List ℕ) → rows fs ls [] ≡ []
+    no-ids : (fs ls : List ℤ) → rows fs ls [] ≡ []
     no-ids [] ls = refl
     no-ids (f ∷ fs) [] = refl
     no-ids (f ∷ fs) (e ∷ ls) = refl
@@ -144,12 +145,6 @@ cut-found d (x ∷ l) = go (eqb (x .id) d) refl (cut-found d l)
 rank-in : (e : Entry) (l : List Entry) → rank e l ≤ length l
 unfolding rank
 rank-in e l = where-in (λ x. not (precedes x e)) l
-
--- a store in room
-pub in-room : (s : Store) → Room s → inRoom s ≡ true
-unfolding inRoom pick
-in-room s r =
-    rw (le-leb (s .count) 512 (r .few), le-leb 512 (length (s .firsts)) (r .of-firsts), le-leb 512 (length (s .lasts)) (r .of-lasts), le-leb 512 (length (s .ids)) (r .of-ids))
 
 -- an entry more
 module _ (s : Store) (r : Room s) (e : Entry) (less : s .count < 512) where
@@ -207,7 +202,7 @@ module _ (s : Store) (r : Room s) (d : ℕ) (there : placeOf d (idsOf (contents 
       let c = removed-length (s .ids) n i there (omega arith) in
       record { few = omega arith; of-firsts = omega arith; of-lasts = omega arith; of-ids = omega arith }
 
-  cut-column : (l : List ℕ) (n i : ℕ) → i < n → n ≤ length l → take (n - 1) (removed l n i) ≡ cutAt i (take n l)
+  cut-column : {A : Type 0} (l : List A) (n i : ℕ) → i < n → n ≤ length l → take (n - 1) (removed l n i) ≡ cutAt i (take n l)
   cut-column l zero i h g = absurd (not-suc-le-zero h)
   cut-column l (suc n) i h g = let e : suc n - 1 ≡ n = omega arith in rw e (take-removed l n i (le-of-suc-le-suc h) g)
 

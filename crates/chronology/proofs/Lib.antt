@@ -1,10 +1,12 @@
 pub mod Tests
 pub mod Days
 pub mod Columns
+pub mod Marks
 pub mod Shift
-pub mod Answers
+pub mod Signs
 pub mod Order
 pub mod Contents
+pub mod Answers
 pub mod Theorems
-pub mod Examples
 pub mod Asked
+pub mod Examples

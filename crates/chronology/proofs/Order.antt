@@ -1,78 +1,141 @@
 -- List order, and entries that are well kept: one more in its place, or one less. Assumes nothing.
-use mathlib.Core.Path.{_≡_, refl, sym, ap, _∙_}
+use mathlib.Core.Path.{_≡_, refl, sym, ap, _∙_, subst}
 use mathlib.Core.Bool.{Bool, true, false, false≢true}
 use mathlib.Core.List.{List, [], _∷_}
 use Prim.Native.Nat.{ℕ, suc, _<_}
 use native.Mathlib.Omega.{arith}
 use lib.Dec.{eqb, ltb}
+use lib.IntN.{ℤ}
+use lib.Signed.{ltZ}
 use lib.ListN.{length}
 use borrow.Author.Tests.{lt-ltb, ltb-true, ltb-false, eq-eqb, ne-eqb, eqb-true, eqb-false, not-true}
 use Rattle.chars.specs.Pick.{pick}
+use Rattle.dates.proofs.Less.{lt-trans, lt-same, irrefl}
 use Rattle.chronology.specs.declared.Entry.{Entry}
-use Rattle.chronology.specs.Entries.{precedes, goodDays, idsOf, among, has, beforeNext, keptFirst, wellKept, insert, without}
+use Rattle.chronology.specs.Entries.{sooner, precedes, goodDays, idsOf, among, has, beforeNext, keptFirst, wellKept, insert, without}
 use Rattle.chronology.proofs.Tests.{both}
+
+-- one day before another, or the same day
+data Sooner (a b : ℤ) (yes no : Bool) : Type 0 where
+  earlier : ltZ a b ≡ true → Sooner a b yes no
+  tied : a ≡ b → yes ≡ no → Sooner a b yes no
+
+sooner-yes : (a b : ℤ) (o : Bool) → sooner a b o ≡ true → Sooner a b o true
+unfolding sooner pick
+sooner-yes a b o t = go (ltZ a b) (ltZ b a) refl refl t
+  where
+    go : (x y : Bool) → ltZ a b ≡ x → ltZ b a ≡ y → pick x true (pick y false o) ≡ true → Sooner a b o true
+    go true y p q z = earlier p
+    go false true p q z = absurd (false≢true z)
+    go false false p q z = tied (lt-same a b p q) z
+
+sooner-no : (a b : ℤ) (o : Bool) → sooner a b o ≡ false → Sooner b a o false
+unfolding sooner pick
+sooner-no a b o t = go (ltZ a b) (ltZ b a) refl refl t
+  where
+    go : (x y : Bool) → ltZ a b ≡ x → ltZ b a ≡ y → pick x true (pick y false o) ≡ false → Sooner b a o false
+    go true y p q z = absurd (false≢true (sym z))
+    go false true p q z = earlier q
+    go false false p q z = tied (sym (lt-same a b p q)) z
+
+pub sooner-first : (a b : ℤ) (o : Bool) → ltZ a b ≡ true → sooner a b o ≡ true
+unfolding sooner pick
+sooner-first a b o h = rw h
+
+pub sooner-later : (a b : ℤ) (o : Bool) → ltZ a b ≡ false → ltZ b a ≡ true → sooner a b o ≡ false
+unfolding sooner pick
+sooner-later a b o h k = rw (h, k)
+
+pub sooner-neither : (a b : ℤ) (o : Bool) → ltZ a b ≡ false → ltZ b a ≡ false → sooner a b o ≡ o
+unfolding sooner pick
+sooner-neither a b o h k = rw (h, k)
+
+sooner-tie : (a b : ℤ) (o : Bool) → a ≡ b → sooner a b o ≡ o
+unfolding sooner pick
+sooner-tie a b o e = rw (e, irrefl b)
 
 -- one entry stands before another: by its first day, its last day or its identifier
 pub data Before (a b : Entry) : Type 0 where
-  by-first : a .first < b .first → Before a b
-  by-last : a .first ≡ b .first → a .last < b .last → Before a b
+  by-first : ltZ (a .first) (b .first) ≡ true → Before a b
+  by-last : a .first ≡ b .first → ltZ (a .last) (b .last) ≡ true → Before a b
   by-id : a .first ≡ b .first → a .last ≡ b .last → a .id < b .id → Before a b
 
 -- this is what the test says
 pub before-yes : (a b : Entry) → precedes a b ≡ true → Before a b
-unfolding precedes pick
-before-yes a b t = go (eqb (a .first) (b .first)) (eqb (a .last) (b .last)) refl refl t
+unfolding precedes
+before-yes a b t = go (sooner-yes (a .first) (b .first) _ t)
   where
-    go : (x y : Bool) → eqb (a .first) (b .first) ≡ x → eqb (a .last) (b .last) ≡ y
-        → pick x (pick y (ltb (a .id) (b .id)) (ltb (a .last) (b .last))) (ltb (a .first) (b .first)) ≡ true → Before a b
-    go true true p q z = by-id (eqb-true (a .first) (b .first) p) (eqb-true (a .last) (b .last) q) (ltb-true (a .id) (b .id) z)
-    go true false p q z = by-last (eqb-true (a .first) (b .first) p) (ltb-true (a .last) (b .last) z)
-    go false y p q z = by-first (ltb-true (a .first) (b .first) z)
+    on : a .first ≡ b .first → Sooner (a .last) (b .last) (ltb (a .id) (b .id)) true → Before a b
+    on e (earlier h) = by-last e h
+    on e (tied f v) = by-id e f (ltb-true (a .id) (b .id) v)
+
+    go : Sooner (a .first) (b .first) (sooner (a .last) (b .last) (ltb (a .id) (b .id))) true → Before a b
+    go (earlier h) = by-first h
+    go (tied e u) = on e (sooner-yes (a .last) (b .last) _ u)
 
 pub before-test : (a b : Entry) → Before a b → precedes a b ≡ true
-unfolding precedes pick
-before-test a b (by-first h) = rw (ne-eqb (a .first) (b .first) (λ (q : a .first ≡ b .first). omega arith), lt-ltb (a .first) (b .first) h)
-before-test a b (by-last p h) =
-    rw (eq-eqb (a .first) (b .first) p, ne-eqb (a .last) (b .last) (λ (q : a .last ≡ b .last). omega arith), lt-ltb (a .last) (b .last) h)
-before-test a b (by-id p q h) = rw (eq-eqb (a .first) (b .first) p, eq-eqb (a .last) (b .last) q, lt-ltb (a .id) (b .id) h)
+unfolding precedes
+before-test a b (by-first h) = sooner-first (a .first) (b .first) _ h
+before-test a b (by-last p h) = sooner-tie (a .first) (b .first) _ p ∙ sooner-first (a .last) (b .last) _ h
+before-test a b (by-id p q h) =
+    sooner-tie (a .first) (b .first) _ p ∙ sooner-tie (a .last) (b .last) _ q ∙ lt-ltb (a .id) (b .id) h
 
 -- of two entries with different identifiers one stands before the other
 pub before-no : (a b : Entry) → (a .id ≡ b .id → ⊥) → precedes a b ≡ false → Before b a
-unfolding precedes pick
-before-no a b n t = go (eqb (a .first) (b .first)) (eqb (a .last) (b .last)) refl refl t
+unfolding precedes
+before-no a b n t = go (sooner-no (a .first) (b .first) _ t)
   where
-    go : (x y : Bool) → eqb (a .first) (b .first) ≡ x → eqb (a .last) (b .last) ≡ y
-        → pick x (pick y (ltb (a .id) (b .id)) (ltb (a .last) (b .last))) (ltb (a .first) (b .first)) ≡ false → Before b a
-    go true true p q z =
-        let h = ltb-false (a .id) (b .id) z in
-        by-id (sym (eqb-true (a .first) (b .first) p)) (sym (eqb-true (a .last) (b .last) q)) (omega (arith, n))
-    go true false p q z =
-        let h = ltb-false (a .last) (b .last) z in
-        let m = eqb-false (a .last) (b .last) q in
-        by-last (sym (eqb-true (a .first) (b .first) p)) (omega (arith, m))
-    go false y p q z =
-        let h = ltb-false (a .first) (b .first) z in
-        let m = eqb-false (a .first) (b .first) p in
-        by-first (omega (arith, m))
+    on : b .first ≡ a .first → Sooner (b .last) (a .last) (ltb (a .id) (b .id)) false → Before b a
+    on e (earlier h) = by-last e h
+    on e (tied f v) = let h = ltb-false (a .id) (b .id) v in by-id e f (omega (arith, n))
+
+    go : Sooner (b .first) (a .first) (sooner (a .last) (b .last) (ltb (a .id) (b .id))) false → Before b a
+    go (earlier h) = by-first h
+    go (tied e u) = on e (sooner-no (a .last) (b .last) _ u)
+
+-- a day that is before another is before the same
+on-right : (a b c : ℤ) → ltZ a b ≡ true → b ≡ c → ltZ a c ≡ true
+on-right a b c h e = subst (λ (z : ℤ). ltZ a z ≡ true) e h
+
+on-left : (a b c : ℤ) → a ≡ b → ltZ b c ≡ true → ltZ a c ≡ true
+on-left a b c e h = subst (λ (z : ℤ). ltZ z c ≡ true) (sym e) h
 
 pub before-then : {a b c : Entry} → Before a b → Before b c → Before a c
-before-then (by-first h) (by-first g) = by-first (omega arith)
-before-then (by-first h) (by-last p g) = by-first (omega arith)
-before-then (by-first h) (by-id p q g) = by-first (omega arith)
-before-then (by-last p h) (by-first g) = by-first (omega arith)
-before-then (by-last p h) (by-last q g) = by-last (omega arith) (omega arith)
-before-then (by-last p h) (by-id q r g) = by-last (omega arith) (omega arith)
-before-then (by-id p q h) (by-first g) = by-first (omega arith)
-before-then (by-id p q h) (by-last r g) = by-last (omega arith) (omega arith)
-before-then (by-id p q h) (by-id r s g) = by-id (omega arith) (omega arith) (omega arith)
+before-then {a} {b} {c} f g = go f g
+  where
+    first : ltZ (a .first) (b .first) ≡ true → Before b c → Before a c
+    first h (by-first g) = by-first (lt-trans (a .first) (b .first) (c .first) h g)
+    first h (by-last p g) = by-first (on-right (a .first) (b .first) (c .first) h p)
+    first h (by-id p q g) = by-first (on-right (a .first) (b .first) (c .first) h p)
+
+    last : a .first ≡ b .first → ltZ (a .last) (b .last) ≡ true → Before b c → Before a c
+    last p h (by-first g) = by-first (on-left (a .first) (b .first) (c .first) p g)
+    last p h (by-last q g) = by-last (p ∙ q) (lt-trans (a .last) (b .last) (c .last) h g)
+    last p h (by-id q r g) = by-last (p ∙ q) (on-right (a .last) (b .last) (c .last) h r)
+
+    id : a .first ≡ b .first → a .last ≡ b .last → a .id < b .id → Before b c → Before a c
+    id p q h (by-first g) = by-first (on-left (a .first) (b .first) (c .first) p g)
+    id p q h (by-last r g) = by-last (p ∙ r) (on-left (a .last) (b .last) (c .last) q g)
+    id p q h (by-id r s g) = by-id (p ∙ r) (q ∙ s) (omega arith)
+
+    go : Before a b → Before b c → Before a c
+    go (by-first h) g = first h g
+    go (by-last p h) g = last p h g
+    go (by-id p q h) g = id p q h g
+
+-- what is before the first day of one is before that of the next
+pub first-after : (z : ℤ) (a b : Entry) → Before a b → ltZ z (a .first) ≡ true → ltZ z (b .first) ≡ true
+first-after z a b (by-first h) k = lt-trans z (a .first) (b .first) k h
+first-after z a b (by-last p h) k = on-right z (a .first) (b .first) k p
+first-after z a b (by-id p q h) k = on-right z (a .first) (b .first) k p
 
 -- not both ways
 pub before-once : (a b : Entry) → Before a b → precedes b a ≡ false
 before-once a b f = go (precedes b a) refl
   where
     never : {x : Entry} → Before x x → ⊥
-    never (by-first h) = omega arith
-    never (by-last p h) = omega arith
+    never {x} (by-first h) = false≢true (sym (irrefl (x .first)) ∙ h)
+    never {x} (by-last p h) = false≢true (sym (irrefl (x .last)) ∙ h)
     never (by-id p q h) = omega arith
 
     go : (t : Bool) → precedes b a ≡ t → t ≡ false

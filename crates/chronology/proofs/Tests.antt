@@ -8,9 +8,3 @@ pub both : (a b : Bool) → pick a b false ≡ true → (a ≡ true) × (b ≡ t
 unfolding pick
 both true b e = (refl, e)
 both false b e = absurd (false≢true e)
-
--- by cases on a test
-pub by-test {ℓ} : {A : Type 0} (P : A → Type ℓ) (t : Bool) {x y : A} → (t ≡ true → P x) → (t ≡ false → P y) → P (pick t x y)
-unfolding pick
-by-test P true f g = f refl
-by-test P false f g = g refl

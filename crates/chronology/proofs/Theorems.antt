@@ -1,35 +1,40 @@
 -- What a chronology holds: after each call, and after any calls from an empty start. Assumes nothing.
 use mathlib.Core.Path.{_≡_, refl, sym, ap, _∙_, subst}
 use mathlib.Core.Bool.{Bool, true, false, false≢true}
-use mathlib.Core.List.{List, [], _∷_}
-use Prim.Native.Nat.{ℕ, suc, _+_, _-_}
+use mathlib.Core.List.{List, [], _∷_, _++_}
+use Prim.Native.Nat.{ℕ, suc, _+_, _-_, _*_, _≤_}
 use native.Mathlib.Omega.{arith}
 use lib.Dec.{eqb}
-use lib.IntN.{pos}
-use lib.ListN.{length}
+use lib.IntN.{ℤ}
+use lib.ListN.{length, drop}
 use borrow.Author.Tests.{eqb-true, eqb-false, ne-eqb}
 use Rattle.chars.specs.Pick.{pick}
 use Rattle.refusals.specs.declared.Refusal.{Refusal}
+use Rattle.refusals.specs.declared.Kind.the-variants.{BadPeriod, DuplicateEntry, ChronologyFull, UnknownEntry}
 use Rattle.days.specs.declared.Period.{Period}
 use Rattle.chronology.specs.declared.Entry.{Entry}
 use Rattle.chronology.specs.declared.Answer.{Answer}
 use Rattle.chronology.specs.declared.Answer.the-variants.{Entries, Refused}
 use Rattle.chronology.specs.Entries.{precedes, beforeNext, goodPeriod, entryOf, goodDays, idsOf, among, has, wellKept, insert, without, listed}
-use Rattle.chronology.specs.Store.{Store, contents, inRoom, sound, placeOf}
-use Rattle.chronology.specs.Calls.{accepted, addAnswer, removeAnswer, withEntry, withoutAt, afterAdd, afterRemove}
-use Rattle.chronology.specs.History.{Call, adds, removes, counts, lists, answerTo, afterCall, afterCalls, told, history, same, times, idTimes, sorted}
-use Rattle.chronology.proofs.Days.{good-entry, numbered-counted, period-says}
+use Rattle.chronology.specs.Store.{Store, Wide, contents, sound, placeOf}
+use Rattle.chronology.specs.Calls.{refused, accepted, countAnswer, addAnswer, removeAnswer, listAnswer, withEntry, withoutAt, afterAdd, afterRemove, afterList}
+use Rattle.chronology.specs.Asked.{anyTouches, entriesRead, reply}
+use Rattle.chronology.specs.declared.Reply.the-variants.{Told as told-it}
+use Rattle.chronology.specs.History.{Call, adds, removes, counts, lists, asks, accepts, afterCall, afterCalls, told, history, Empty, sorted, idTimes}
 use Rattle.chronology.proofs.Columns.{Room, contents-length}
-use Rattle.chronology.proofs.Answers.{sound-room, sound-well, sound-kept, place-below, add-says, remove-says, add-done}
+use Rattle.chronology.proofs.Answers.{sound-room, sound-few, sound-well, sound-kept, place-below, add-says, remove-says, add-done, list-done}
 use Rattle.chronology.proofs.Order.{insert-on, insert-here, Before, before-yes, before-then, Kept, kept, has-here, has-on, has-none, has-insert, has-without, insert-keeps, without-keeps, without-here, without-on, without-insert, without-other, insert-length}
-use Rattle.chronology.proofs.Contents.{in-room, more-room, contents-more, less-room, contents-less}
+use Rattle.chronology.proofs.Contents.{more-room, contents-more, less-room, contents-less}
 
--- a store in room whose entries are well kept is a chronology
+-- a lent store whose entries are well kept is a chronology
 sound-if : (s : Store) → Room s → wellKept (contents s) ≡ true → sound s ≡ true
-sound-if s r w = sym (sound-kept s (in-room s r)) ∙ w
+sound-if s r w = sym (sound-kept s (r .few)) ∙ w
+
+wide-of : (s : Store) → Room s → Wide s
+wide-of s r = record { of-firsts = r .of-firsts; of-lasts = r .of-lasts; of-ids = r .of-ids }
 
 -- an accepted add: the entries are those that were and the new one, in its place
-module _ (s : Store) (p : Period) (d m : ℕ) (yes : addAnswer s p d ≡ Entries m) where
+module _ (s : Store) (wide : Wide s) (p : Period) (d m : ℕ) (yes : addAnswer s p d ≡ Entries m) where
   added-is : afterAdd s p d ≡ withEntry s (entryOf p d)
   unfolding afterAdd accepted pick
   added-is = let t : accepted (addAnswer s p d) ≡ true = ap accepted yes in rw t
@@ -37,24 +42,30 @@ module _ (s : Store) (p : Period) (d m : ℕ) (yes : addAnswer s p d ≡ Entries
   pub added-contents : contents (afterAdd s p d) ≡ insert (entryOf p d) (contents s)
   added-contents =
       let w = add-says s p d m yes in
-      ap contents added-is ∙ contents-more s (sound-room s (w .was-sound)) (entryOf p d) (w .not-full)
+      ap contents added-is ∙ contents-more s (sound-room s wide (w .was-sound)) (entryOf p d) (w .not-full)
 
   pub added-sound : sound (afterAdd s p d) ≡ true
-  unfolding entryOf
+  unfolding goodDays
   added-sound =
       let w = add-says s p d m yes in
-      let r = sound-room s (w .was-sound) in
+      let r = sound-room s wide (w .was-sound) in
       let e = entryOf p d in
       ap sound added-is
       ∙ sound-if (withEntry s e) (more-room s r e (w .not-full))
-      (ap wellKept (contents-more s r e (w .not-full)) ∙ insert-keeps e (contents s) (sound-well s (w .was-sound)) (good-entry p d (w .period-good)) (w .id-new))
+      (ap wellKept (contents-more s r e (w .not-full)) ∙ insert-keeps e (contents s) (sound-well s (w .was-sound)) (w .period-good) (w .id-new))
+
+  pub added-wide : Wide (afterAdd s p d)
+  added-wide =
+      let w = add-says s p d m yes in
+      let e = entryOf p d in
+      subst Wide (sym added-is) (wide-of (withEntry s e) (more-room s (sound-room s wide (w .was-sound)) e (w .not-full)))
 
   pub added-count : afterAdd s p d .count ≡ m
   unfolding withEntry
   added-count = ap (λ (t : Store). t .count) added-is ∙ add-says s p d m yes .one-more
 
 -- an accepted removal: the entries are those that were without the one of the identifier
-module _ (s : Store) (d m : ℕ) (yes : removeAnswer s d ≡ Entries m) where
+module _ (s : Store) (wide : Wide s) (d m : ℕ) (yes : removeAnswer s d ≡ Entries m) where
   removed-is : afterRemove s d ≡ withoutAt s (placeOf d (idsOf (contents s)))
   unfolding afterRemove accepted pick
   removed-is = let t : accepted (removeAnswer s d) ≡ true = ap accepted yes in rw t
@@ -62,17 +73,24 @@ module _ (s : Store) (d m : ℕ) (yes : removeAnswer s d ≡ Entries m) where
   pub removed-contents : contents (afterRemove s d) ≡ without d (contents s)
   removed-contents =
       let w = remove-says s d m yes in
-      let r = sound-room s (w .was-sound) in
+      let r = sound-room s wide (w .was-sound) in
       ap contents removed-is ∙ contents-less s r d (place-below s d r (w .id-there))
 
   pub removed-sound : sound (afterRemove s d) ≡ true
   removed-sound =
       let w = remove-says s d m yes in
-      let r = sound-room s (w .was-sound) in
+      let r = sound-room s wide (w .was-sound) in
       let h = place-below s d r (w .id-there) in
       ap sound removed-is
       ∙ sound-if (withoutAt s (placeOf d (idsOf (contents s)))) (less-room s r d h)
       (ap wellKept (contents-less s r d h) ∙ without-keeps d (contents s) (sound-well s (w .was-sound)))
+
+  pub removed-wide : Wide (afterRemove s d)
+  removed-wide =
+      let w = remove-says s d m yes in
+      let r = sound-room s wide (w .was-sound) in
+      let i = placeOf d (idsOf (contents s)) in
+      subst Wide (sym removed-is) (wide-of (withoutAt s i) (less-room s r d (place-below s d r (w .id-there))))
 
   pub removed-count : afterRemove s d .count ≡ m
   unfolding withoutAt
@@ -82,7 +100,7 @@ module _ (s : Store) (d m : ℕ) (yes : removeAnswer s d ≡ Entries m) where
   pub room-again : (p : Period) (c : ℕ) → goodPeriod p ≡ true → has c (contents (afterRemove s d)) ≡ false → addAnswer (afterRemove s d) p c ≡ Entries (s .count)
   room-again p c g n =
       let w = remove-says s d m yes in
-      let r = sound-room s (w .was-sound) in
+      let r = sound-room s wide (w .was-sound) in
       let h = place-below s d r (w .id-there) in
       let k : afterRemove s d .count ≡ s .count - 1 = removed-count ∙ sym (w .one-less) in
       let f = r .few in
@@ -91,12 +109,13 @@ module _ (s : Store) (d m : ℕ) (yes : removeAnswer s d ≡ Entries m) where
       sym (add-done (afterRemove s d) p c removed-sound g n below) ∙ ap Entries one
 
 -- a refused call changes nothing
-pub refused-keeps : (c : Call) (s : Store) → accepted (answerTo c s) ≡ false → afterCall c s ≡ s
-unfolding answerTo afterCall afterAdd afterRemove pick
+pub refused-keeps : (c : Call) (s : Store) → accepts c s ≡ false → afterCall c s ≡ s
+unfolding accepts afterCall afterAdd afterRemove pick
 refused-keeps (adds p d) s t = rw t
 refused-keeps (removes d) s t = rw t
 refused-keeps counts s t = refl
 refused-keeps (lists k) s t = refl
+refused-keeps (asks p) s t = refl
 
 -- entries with good days, no identifier twice
 data Fine : List Entry → Type 0 where
@@ -143,33 +162,34 @@ sorted-without d (more {e} {l} g n f) = go (eqb (e .id) d) refl (sorted-without 
 
 -- what holds after calls
 record Told (h : List Call) (s : Store) : Type 0 where
+  wide : Wide (afterCalls h s)
   keeps : sound (afterCalls h s) ≡ true
   holds : contents (afterCalls h s) ≡ sorted (history h s)
   fine : Fine (history h s)
 
 -- one call more
 module _ (c : Call) (h : List Call) (s : Store) (i : Told h s) where
-  still : accepted (answerTo c (afterCalls h s)) ≡ false → Told (c ∷ h) s
+  still : accepts c (afterCalls h s) ≡ false → Told (c ∷ h) s
   unfolding afterCalls history pick
   still t =
       let k = refused-keeps c (afterCalls h s) t in
       let u : history (c ∷ h) s ≡ history h s = rw t in
-      record { keeps = ap sound k ∙ i .keeps; holds = ap contents k ∙ i .holds ∙ ap sorted (sym u); fine = subst Fine (sym u) (i .fine) }
+      record { wide = subst Wide (sym k) (i .wide); keeps = ap sound k ∙ i .keeps; holds = ap contents k ∙ i .holds ∙ ap sorted (sym u); fine = subst Fine (sym u) (i .fine) }
 
-  more-told : accepted (answerTo c (afterCalls h s)) ≡ true → history (c ∷ h) s ≡ told c (history h s)
+  more-told : accepts c (afterCalls h s) ≡ true → history (c ∷ h) s ≡ told c (history h s)
   unfolding history pick
   more-told t = rw t
 
 -- one that changes nothing
 asked : (c : Call) (h : List Call) (s : Store) → Told h s → afterCall c (afterCalls h s) ≡ afterCalls h s → told c (history h s) ≡ history h s → Told (c ∷ h) s
 unfolding afterCalls
-asked c h s i k t = go (accepted (answerTo c (afterCalls h s))) refl
+asked c h s i k t = go (accepts c (afterCalls h s)) refl
   where
-    go : (b : Bool) → accepted (answerTo c (afterCalls h s)) ≡ b → Told (c ∷ h) s
+    go : (b : Bool) → accepts c (afterCalls h s) ≡ b → Told (c ∷ h) s
     go false q = still c h s i q
     go true q =
         let u = more-told c h s i q ∙ t in
-        record { keeps = ap sound k ∙ i .keeps; holds = ap contents k ∙ i .holds ∙ ap sorted (sym u); fine = subst Fine (sym u) (i .fine) }
+        record { wide = subst Wide (sym k) (i .wide); keeps = ap sound k ∙ i .keeps; holds = ap contents k ∙ i .holds ∙ ap sorted (sym u); fine = subst Fine (sym u) (i .fine) }
 
 is-yes : {a : Answer} {m : ℕ} → a ≡ Entries m → accepted a ≡ true
 unfolding accepted
@@ -179,12 +199,8 @@ is-no : {a : Answer} {x : Refusal} → a ≡ Refused x → accepted a ≡ false
 unfolding accepted
 is-no q = ap accepted q
 
-new-id : (p : Period) (d : ℕ) (l : List Entry) → has d l ≡ false → has (entryOf p d .id) l ≡ false
-unfolding entryOf
-new-id p d l n = n
-
 one-call : (c : Call) (h : List Call) (s : Store) → Told h s → Told (c ∷ h) s
-unfolding afterCalls afterCall answerTo told sorted
+unfolding afterCalls afterCall accepts told sorted goodDays
 one-call (adds p d) h s i = go (addAnswer (afterCalls h s) p d) refl
   where
     go : (a : Answer) → addAnswer (afterCalls h s) p d ≡ a → Told (adds p d ∷ h) s
@@ -195,9 +211,10 @@ one-call (adds p d) h s i = go (addAnswer (afterCalls h s) p d) refl
         let u = more-told (adds p d) h s i (is-yes q) in
         let n : has d (history h s) ≡ false = sym (has-sorted d (history h s)) ∙ ap (has d) (sym (i .holds)) ∙ w .id-new in
         record {
-          keeps = added-sound t p d m q;
-          holds = added-contents t p d m q ∙ ap (insert (entryOf p d)) (i .holds) ∙ ap sorted (sym u);
-          fine = subst Fine (sym u) (more (good-entry p d (w .period-good)) (new-id p d (history h s) n) (i .fine));
+          wide = added-wide t (i .wide) p d m q;
+          keeps = added-sound t (i .wide) p d m q;
+          holds = added-contents t (i .wide) p d m q ∙ ap (insert (entryOf p d)) (i .holds) ∙ ap sorted (sym u);
+          fine = subst Fine (sym u) (more (w .period-good) n (i .fine));
         }
 one-call (removes d) h s i = go (removeAnswer (afterCalls h s) d) refl
   where
@@ -207,17 +224,14 @@ one-call (removes d) h s i = go (removeAnswer (afterCalls h s) d) refl
         let t = afterCalls h s in
         let u = more-told (removes d) h s i (is-yes q) in
         record {
-          keeps = removed-sound t d m q;
-          holds = removed-contents t d m q ∙ ap (without d) (i .holds) ∙ sym (sorted-without d (i .fine)) ∙ ap sorted (sym u);
+          wide = removed-wide t (i .wide) d m q;
+          keeps = removed-sound t (i .wide) d m q;
+          holds = removed-contents t (i .wide) d m q ∙ ap (without d) (i .holds) ∙ sym (sorted-without d (i .fine)) ∙ ap sorted (sym u);
           fine = subst Fine (sym u) (fine-without d (i .fine));
         }
 one-call counts h s i = asked counts h s i refl refl
 one-call (lists k) h s i = asked (lists k) h s i refl refl
-
--- a store with no entry
-pub record Empty (s : Store) : Type 0 where
-  pub nothing : s .count ≡ 0
-  pub wide : inRoom s ≡ true
+one-call (asks p) h s i = asked (asks p) h s i refl refl
 
 empty-contents : (s : Store) → s .count ≡ 0 → contents s ≡ []
 unfolding contents
@@ -227,7 +241,7 @@ told-all : (h : List Call) (s : Store) → Empty s → Told h s
 unfolding afterCalls history sorted wellKept
 told-all [] s e =
     let z = empty-contents s (e .nothing) in
-    record { keeps = sym (sound-kept s (e .wide)) ∙ ap wellKept z; holds = z; fine = none }
+    record { wide = e .wide; keeps = sym (sound-kept s (omega (arith, e .nothing))) ∙ ap wellKept z; holds = z; fine = none }
 told-all (c ∷ h) s e = one-call c h s (told-all h s e)
 
 -- after any calls from an empty start a store is a chronology, and its entries are those that the history says, in list order
@@ -246,35 +260,49 @@ sorted-length (e ∷ l) = insert-length e (sorted l) ∙ ap suc (sorted-length l
 pub always-counted : (h : List Call) (s : Store) → Empty s → afterCalls h s .count ≡ length (history h s)
 always-counted h s e =
     let i = told-all h s e in
-    sym (contents-length (afterCalls h s) (sound-room (afterCalls h s) (i .keeps))) ∙ ap length (i .holds) ∙ sorted-length (history h s)
+    sym (contents-length (afterCalls h s) (sound-room (afterCalls h s) (i .wide) (i .keeps))) ∙ ap length (i .holds) ∙ sorted-length (history h s)
 
 -- an identifier is there exactly if the history has it
-pub always-has : (h : List Call) (s : Store) → Empty s → (d : ℕ) → has d (contents (afterCalls h s)) ≡ has d (history h s)
+always-has : (h : List Call) (s : Store) → Empty s → (d : ℕ) → has d (contents (afterCalls h s)) ≡ has d (history h s)
 always-has h s w d = ap (has d) (always-told h s w) ∙ has-sorted d (history h s)
 
--- each entry is there as often as the history says
-times-insert : (e x : Entry) (l : List Entry) → times e (insert x l) ≡ times e (x ∷ l)
-unfolding times insert pick
-times-insert e x [] = refl
-times-insert e x (y ∷ l) = go (precedes y x) refl (times-insert e x l)
-  where
-    on : (a b : Bool) (n m : ℕ) → n ≡ pick b (suc m) m → pick a (suc n) n ≡ pick b (suc (pick a (suc m) m)) (pick a (suc m) m)
-    on true true n m q = ap suc q
-    on true false n m q = ap suc q
-    on false true n m q = q
-    on false false n m q = q
+-- an accepted listing
+list-is : (s : Store) (out : List ℤ) {m : ℕ} → listAnswer s (length out) ≡ Entries m → afterList s out ≡ listed (contents s) ++ drop (3 * s .count) out
+unfolding afterList accepted pick
+list-is s out q = let t : accepted (listAnswer s (length out)) ≡ true = ap accepted q in rw t
 
-    go : (t : Bool) → precedes y x ≡ t → times e (insert x l) ≡ times e (x ∷ l) → times e (insert x (y ∷ l)) ≡ times e (x ∷ y ∷ l)
-    go true p i = ap (times e) (insert-on x y l p) ∙ on (same y e) (same x e) (times e (insert x l)) (times e l) i
-    go false p i = ap (times e) (insert-here x y l p)
+-- what is answered after any calls, by their history alone
+module _ (h : List Call) (s : Store) (e : Empty s) where
+  pub add-by-history : (p : Period) (d : ℕ)
+      → addAnswer (afterCalls h s) p d
+      ≡ pick (goodPeriod p)
+      (pick (has d (history h s)) (refused DuplicateEntry)
+      (pick (eqb (length (history h s)) 512) (refused ChronologyFull) (Entries (length (history h s) + 1))))
+      (refused BadPeriod)
+  unfolding addAnswer pick
+  add-by-history p d = rw (always-sound h s e, always-has h s e d, always-counted h s e)
 
-times-sorted : (e : Entry) (l : List Entry) → times e (sorted l) ≡ times e l
-unfolding sorted times
-times-sorted e [] = refl
-times-sorted e (x ∷ l) = times-insert e x (sorted l) ∙ ap (λ (n : ℕ). pick (same x e) (suc n) n) (times-sorted e l)
+  pub remove-by-history : (d : ℕ)
+      → removeAnswer (afterCalls h s) d ≡ pick (has d (history h s)) (Entries (length (history h s) - 1)) (refused UnknownEntry)
+  unfolding removeAnswer pick
+  remove-by-history d = rw (always-sound h s e, always-has h s e d, always-counted h s e)
 
-pub always-times : (h : List Call) (s : Store) → Empty s → (e : Entry) → times e (contents (afterCalls h s)) ≡ times e (history h s)
-always-times h s w e = ap (times e) (always-told h s w) ∙ times-sorted e (history h s)
+  pub count-by-history : countAnswer (afterCalls h s) ≡ Entries (length (history h s))
+  unfolding countAnswer pick
+  count-by-history = rw (always-sound h s e, always-counted h s e)
+
+  pub list-by-history : (out : List ℤ) → 3 * length (history h s) ≤ length out
+      → afterList (afterCalls h s) out ≡ listed (sorted (history h s)) ++ drop (3 * length (history h s)) out
+  list-by-history out k =
+      let n = always-counted h s e in
+      let room : 3 * afterCalls h s .count ≤ length out = rw n k in
+      let yes = sym (list-done (afterCalls h s) (length out) (always-sound h s e) room) in
+      list-is (afterCalls h s) out yes ∙ rw (always-told h s e, n)
+
+  pub asked-by-history : (p : Period) → goodPeriod p ≡ true
+      → reply (afterCalls h s) p ≡ told-it (anyTouches p (sorted (history h s))) (entriesRead p (sorted (history h s)))
+  unfolding reply pick
+  asked-by-history p g = rw (always-sound h s e, g, always-told h s e)
 
 -- what a chronology holds is in order: each entry stands before all behind it
 pub data AllBefore (e : Entry) : List Entry → Type 0 where
@@ -322,11 +350,3 @@ kept-once d (x ∷ l) w t = let k = kept x l w in go (eqb (x .id) d) refl k (kep
 
 pub once : (s : Store) (d : ℕ) → sound s ≡ true → has d (contents s) ≡ true → idTimes d (contents s) ≡ 1
 once s d t = kept-once d (contents s) (sound-well s t)
-
-pub never : (s : Store) (d : ℕ) → has d (contents s) ≡ false → idTimes d (contents s) ≡ 0
-never s d = id-absent d (contents s)
-
--- an entry is listed with the days that it was added with
-pub listed-back : (p : Period) (d : ℕ) (l : List Entry) → goodPeriod p ≡ true → listed (entryOf p d ∷ l) ≡ p .first ∷ p .last ∷ pos d ∷ listed l
-unfolding listed entryOf
-listed-back p d l t = let s = period-says p t in rw (numbered-counted (p .first) (s .0), numbered-counted (p .last) (s .1))

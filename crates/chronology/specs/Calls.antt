@@ -1,4 +1,4 @@
--- What the calls answer, and what they leave in the lent columns.
+-- What the calls answer, and what they leave in the lent store.
 use Prim.Native.Nat.{ℕ, _+_, _-_, _*_}
 use mathlib.Core.Bool.{Bool, true, false}
 use mathlib.Core.List.{List, _++_}
@@ -24,11 +24,6 @@ refused k = Refused (refusal k (fileSpan 0 0))
 unfoldable pub accepted : Answer → Bool
 accepted (Entries n) = true
 accepted (Refused e) = false
-
--- the count after a call: the answered one, or, after a refusal, that which it was
-abbrev pub countOf : Answer → ℕ → ℕ
-countOf (Entries m) n = m
-countOf (Refused e) n = n
 
 -- what asking for the count is answered
 unfoldable pub countAnswer : Store → Answer

@@ -1,46 +1,44 @@
--- A chronology's entries and their order. The two days of an entry are counted from -10000-01-01, so that none is negative: `numbered` of the
--- crate days gives the day number of such a count.
+-- A chronology's entries and their order. Days have the numbers that the crate days gives them.
 use Prim.Native.Nat.{ℕ}
 use mathlib.Core.Bool.{Bool, true, false, not, _&&_}
 use mathlib.Core.List.{List, [], _∷_}
 use lib.Dec.{eqb, ltb}
-use lib.IntN.{ℤ, pos, negℤ, natAbs, _+ℤ_}
-use lib.Signed.{ltZ}
+use lib.IntN.{ℤ, pos, negℤ}
+use lib.Signed.{ltZ, leZ}
 use Rattle.chars.specs.Pick.{pick}
 use Rattle.days.specs.declared.Period.{Period}
 use Rattle.days.specs.Covered.{period}
-use Rattle.days.specs.Counts.{numbered}
 use Rattle.chronology.specs.declared.Entry.{Entry}
 
 -- an entry of a first and a last day and an identifier
-abbrev pub entry : ℕ → ℕ → ℕ → Entry
+abbrev pub entry : ℤ → ℤ → ℕ → Entry
 entry first last id = record { first = first; last = last; id = id }
+
+-- the entry of a period and an identifier
+abbrev pub entryOf : Period → ℕ → Entry
+entryOf p id = entry (p .first) (p .last) id
+
+-- the period of an entry
+abbrev pub periodOf : Entry → Period
+periodOf e = period (e .first) (e .last)
+
+-- whether one day is before another; of the same day something else decides
+unfoldable pub sooner : ℤ → ℤ → Bool → Bool
+sooner a b other = pick (ltZ a b) true (pick (ltZ b a) false other)
 
 -- list order: by first day, then by last day, then by identifier
 unfoldable pub precedes : Entry → Entry → Bool
-precedes a b = pick (eqb (a .first) (b .first)) (pick (eqb (a .last) (b .last)) (ltb (a .id) (b .id)) (ltb (a .last) (b .last))) (ltb (a .first) (b .first))
+precedes a b = sooner (a .first) (b .first) (sooner (a .last) (b .last) (ltb (a .id) (b .id)))
 
 -- the days that are numbered: -3652059 to 3652424
 unfoldable pub inSpan : ℤ → Bool
-inSpan day = ltZ (negℤ (pos 3652060)) day && ltZ day (pos 3652425)
+inSpan day = leZ (negℤ (pos 3652059)) day && leZ day (pos 3652424)
 
 -- whether both days of a period are numbered, and the last is not before the first
 unfoldable pub goodPeriod : Period → Bool
-goodPeriod p = pick (inSpan (p .first)) (pick (inSpan (p .last)) (not (ltZ (p .last) (p .first))) false) false
+goodPeriod p = inSpan (p .first) && (inSpan (p .last) && leZ (p .first) (p .last))
 
--- a day, counted from -10000-01-01
-unfoldable pub counted : ℤ → ℕ
-counted day = natAbs (day +ℤ pos 3652425)
-
--- the entry of a period and an identifier
-unfoldable pub entryOf : Period → ℕ → Entry
-entryOf p id = entry (counted (p .first)) (counted (p .last)) id
-
--- the period of an entry
-unfoldable pub periodOf : Entry → Period
-periodOf e = period (numbered (e .first)) (numbered (e .last))
-
--- whether an entry's days are those of a good period
+-- whether an entry has a good period
 unfoldable pub goodDays : Entry → Bool
 goodDays e = goodPeriod (periodOf e)
 
@@ -82,7 +80,7 @@ unfoldable pub without : ℕ → List Entry → List Entry
 without d [] = []
 without d (x ∷ l) = pick (eqb (x .id) d) l (x ∷ without d l)
 
--- three numbers an entry: the numbers of its first and last day, and its identifier
+-- three numbers an entry: its first day, its last day and its identifier
 unfoldable pub listed : List Entry → List ℤ
 listed [] = []
-listed (e ∷ l) = numbered (e .first) ∷ numbered (e .last) ∷ pos (e .id) ∷ listed l
+listed (e ∷ l) = e .first ∷ e .last ∷ pos (e .id) ∷ listed l

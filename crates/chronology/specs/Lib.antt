@@ -1,5 +1,6 @@
 pub mod Entries
 pub mod Store
 pub mod Calls
-pub mod History
 pub mod Asked
+pub mod History
+pub mod Inside

@@ -1,30 +1,59 @@
--- A chronology as it is kept in lent memory: a count, and three columns with room for 512 numbers. What lies behind the count is no entry.
+-- A chronology as it is kept in lent memory: a count, and three columns of 512 numbers. What stands behind the count is no entry.
+use mathlib.Core.Path.{_≡_}
 use Prim.Native.Nat.{ℕ, suc, _-_}
 use mathlib.Core.Bool.{Bool, false, not}
 use mathlib.Core.List.{List, [], _∷_, _++_}
 use lib.Dec.{eqb, leb}
-use lib.ListN.{length, getD, take, drop}
+use lib.IntN.{ℤ}
+use lib.ListN.{length, take, drop}
+use denote.Ref.{RefT}
+use denote.Triple.Both.{Both}
 use Rattle.chars.specs.Pick.{pick}
 use Rattle.chronology.specs.declared.Entry.{Entry}
-use Rattle.chronology.specs.Entries.{entry, precedes, beforeNext, keptFirst, wellKept}
+use Rattle.chronology.specs.Entries.{entry, precedes, wellKept}
 
 -- the count, the first days, the last days and the identifiers
 pub record Store : Type 0 where
   -- how many entries there are
   pub count : ℕ
   -- their first days
-  pub firsts : List ℕ
+  pub firsts : List ℤ
   -- their last days
-  pub lasts : List ℕ
+  pub lasts : List ℤ
   -- their identifiers
   pub ids : List ℕ
 
 -- a store of these
-abbrev pub store : ℕ → List ℕ → List ℕ → List ℕ → Store
+abbrev pub store : ℕ → List ℤ → List ℤ → List ℕ → Store
 store n fs ls ds = record { count = n; firsts = fs; lasts = ls; ids = ds }
 
+-- the columns have 512 numbers, as their type says
+pub record Wide (s : Store) : Type 0 where
+  -- so many first days,
+  pub of-firsts : length (s .firsts) ≡ 512
+  -- last days
+  pub of-lasts : length (s .lasts) ≡ 512
+  -- and identifiers
+  pub of-ids : length (s .ids) ≡ 512
+
+-- what four references hold
+abbrev pub lent : RefT ℕ → RefT (List ℤ) → RefT (List ℤ) → RefT (List ℕ) → Store
+lent n fs ls ds = store (n .now) (fs .now) (ls .now) (ds .now)
+
+-- a reference at the moment of a call and at its end
+abbrev pub Lent : Type 0 → Type 0
+Lent A = Both (RefT A) (RefT A)
+
+-- the store before a call
+abbrev pub before : Lent ℕ → Lent (List ℤ) → Lent (List ℤ) → Lent (List ℕ) → Store
+before n fs ls ds = lent (n .entry) (fs .entry) (ls .entry) (ds .entry)
+
+-- the store after it
+abbrev pub after : Lent ℕ → Lent (List ℤ) → Lent (List ℤ) → Lent (List ℕ) → Store
+after n fs ls ds = lent (n .exit) (fs .exit) (ls .exit) (ds .exit)
+
 -- three columns, read side by side
-unfoldable pub rows : List ℕ → List ℕ → List ℕ → List Entry
+unfoldable pub rows : List ℤ → List ℤ → List ℕ → List Entry
 rows [] ls ds = []
 rows (f ∷ fs) [] ds = []
 rows (f ∷ fs) (e ∷ ls) [] = []
@@ -34,16 +63,9 @@ rows (f ∷ fs) (e ∷ ls) (d ∷ ds) = entry f e d ∷ rows fs ls ds
 unfoldable pub contents : Store → List Entry
 contents s = take (s .count) (rows (s .firsts) (s .lasts) (s .ids))
 
--- whether a count is not above 512, and the columns have room for as many: a shorter one keeps no chronology
-unfoldable pub inRoom : Store → Bool
-inRoom s =
-    pick (leb (s .count) 512)
-    (pick (leb 512 (length (s .firsts))) (pick (leb 512 (length (s .lasts))) (leb 512 (length (s .ids))) false) false)
-    false
-
 -- whether a store is a chronology: not above 512 entries, each with good days, in list order, no identifier twice
 unfoldable pub sound : Store → Bool
-sound s = pick (inRoom s) (wellKept (contents s)) false
+sound s = pick (leb (s .count) 512) (wellKept (contents s)) false
 
 -- the place of a number among others; past them if it is not there
 unfoldable pub placeOf : ℕ → List ℕ → ℕ
@@ -60,21 +82,9 @@ unfoldable pub rank : Entry → List Entry → ℕ
 rank e l = firstWhere (λ x. not (precedes x e)) l
 
 -- a column with a value put among its first n at a place: those from there on move up by one, over what stood behind them
-unfoldable pub inserted : List ℕ → ℕ → ℕ → ℕ → List ℕ
+unfoldable pub inserted : {A : Type 0} → List A → ℕ → ℕ → A → List A
 inserted l n i v = take i l ++ v ∷ (take (n - i) (drop i l) ++ drop (suc n) l)
 
 -- a column whose first n lose the one at a place: those behind it move down by one, and the place that falls free keeps its value
-unfoldable pub removed : List ℕ → ℕ → ℕ → List ℕ
+unfoldable pub removed : {A : Type 0} → List A → ℕ → ℕ → List A
 removed l n i = take i l ++ (take (n - suc i) (drop (suc i) l) ++ drop (n - 1) l)
-
--- the entry at a place of three columns
-abbrev pub entryAt : List ℕ → List ℕ → List ℕ → ℕ → Entry
-entryAt fs ls ds i = entry (getD fs i 0) (getD ls i 0) (getD ds i 0)
-
--- whether the entry at a place stands before the next one
-unfoldable pub beforeAt : Store → ℕ → Bool
-beforeAt s i = beforeNext (entryAt (s .firsts) (s .lasts) (s .ids) i) (drop (suc i) (contents s))
-
--- whether it has good days too, and its identifier is that of no later one
-unfoldable pub keptAt : Store → ℕ → Bool
-keptAt s i = keptFirst (entryAt (s .firsts) (s .lasts) (s .ids) i) (drop (suc i) (contents s))

@@ -1,27 +1,35 @@
-// A chronology: up to 512 entries, each an identifier and the days from a first to a last, kept in list order in columns that the caller
-// lends. A day is kept counted from -10000-01-01, so that no number is negative.
+// A chronology: up to 512 entries, each an identifier and the days from a first to a last, kept in list order in a store that the caller
+// lends: a count and three columns. What stands behind the count is no entry: a store is emptied by the count 0.
 ghost use mathlib.Core.Path.{_≡_};
-ghost use mathlib.Core.Bool.{true};
+ghost use mathlib.Core.Bool.{not};
 ghost use mathlib.Core.List.{[], _∷_};
-ghost use Prim.Native.Nat.{_+_, _*_, _≤_, _<_};
+ghost use Prim.Native.Nat.{_+_, _*_, _%_, _≤_, _<_};
 ghost use lib.ListN.{length, take, drop};
 ghost use lib.Seq.{sets};
-ghost use Rattle.days.specs.Counts.{numbered};
 ghost use Rattle.chronology.specs.Entries as entries;
 ghost use Rattle.chronology.specs.Store as spec;
-ghost use Rattle.chronology.specs.Store.{store};
+ghost use Rattle.chronology.specs.Store.{lent, before, after};
 ghost use Rattle.chronology.specs.Calls as calls;
 ghost use Rattle.chronology.specs.Asked as asked;
+ghost use Rattle.chronology.specs.Inside as inside;
 use days::Period;
 use refusals::FileSpan;
 use refusals::Kind;
 use refusals::Refusal;
 use refusals::refuse;
 
+// How many entries there is room for.
+const ENTRIES: usize = 512;
+
+// The first and the last day that is numbered: those of the years -9999 and 9999.
+const FIRST_DAY: i32 = -3652059;
+
+const LAST_DAY: i32 = 3652424;
+
 // An entry: its first and its last day, and its identifier.
 pub struct Entry {
-    pub first: u32,
-    pub last: u32,
+    pub first: i32,
+    pub last: i32,
     pub id: u32,
 }
 
@@ -48,21 +56,20 @@ fn refused(kind: Kind) -> Answer
     Answer::Refused(refuse(kind, FileSpan(0, 0)))
 }
 
-// ---- days
+// The refusal of the question.
+fn untold(kind: Kind) -> Reply
+    ensures { λ r. ⌜ r ≡ asked.untold kind ⌝ }
+{
+    Reply::Untold(refuse(kind, FileSpan(0, 0)))
+}
+
+// ---- entries
 
 // Whether a day has a number.
 fn in_span(day: i32) -> bool
     ensures { λ r. ⌜ r ≡ entries.inSpan day ⌝ }
 {
-    -3652060 < day && day < 3652425
-}
-
-// A day, counted from -10000-01-01.
-fn counted(day: i32) -> u32
-    requires { ⌜ entries.inSpan day ≡ true ⌝ }
-    ensures { λ r. ⌜ r ≡ entries.counted day ⌝ }
-{
-    (day + 3652425) as u32
+    FIRST_DAY <= day && day <= LAST_DAY
 }
 
 // Whether both days of a period have a number, and the last is not before the first.
@@ -71,68 +78,49 @@ fn good_period(period: Period) -> bool
 {
     let first = period.first;
     let last = period.last;
-    if in_span(first) {
-        if in_span(last) {
-            return !(last < first);
-        }
+    if !in_span(first) {
         return false;
     }
-    false
-}
-
-// The entry of a period.
-fn entry_of(period: Period, id: u32) -> Entry
-    requires { ⌜ entries.goodPeriod period ≡ true ⌝ }
-    ensures { λ r. ⌜ r ≡ entries.entryOf period id ⌝ }
-{
-    let first = period.first;
-    let last = period.last;
-    Entry {
-        first: counted(first),
-        last: counted(last),
-        id,
+    if !in_span(last) {
+        return false;
     }
+    first <= last
 }
 
-// The number of a day that is counted so.
-fn day_of(n: u32) -> i64
-    ensures { λ r. ⌜ r ≡ numbered n ⌝ }
-{
-    n as i64 - 3652425
-}
-
-// ---- entries
-
-// Whether an entry's days are those of a good period.
+// Whether an entry has a good period.
 fn good_days(e: Entry) -> bool
     ensures { λ r. ⌜ r ≡ entries.goodDays e ⌝ }
 {
-    if 365 < e.first {
-        if e.first <= e.last {
-            return e.last < 7304850;
-        }
+    good_period(Period {
+        first: e.first,
+        last: e.last,
+    })
+}
+
+// Whether one day is before another; of the same day something else decides.
+fn sooner(a: i32, b: i32, other: bool) -> bool
+    ensures { λ r. ⌜ r ≡ entries.sooner a b other ⌝ }
+{
+    if a < b {
+        return true;
+    }
+    if b < a {
         return false;
     }
-    false
+    other
 }
 
 // List order: by first day, then by last day, then by identifier.
 fn precedes(a: Entry, b: Entry) -> bool
     ensures { λ r. ⌜ r ≡ entries.precedes a b ⌝ }
 {
-    if a.first == b.first {
-        if a.last == b.last {
-            return a.id < b.id;
-        }
-        return a.last < b.last;
-    }
-    a.first < b.first
+    sooner(a.first, b.first, sooner(a.last, b.last, a.id < b.id))
 }
 
 // The entry at a place.
-fn entry_at(firsts: &[u32], lasts: &[u32], ids: &[u32], i: usize) -> Entry
-    requires { ⌜ (i < length (now firsts)) × (i < length (now lasts)) × (i < length (now ids)) ⌝ }
-    ensures { λ r. ⌜ r ≡ spec.entryAt (now (firsts .entry)) (now (lasts .entry)) (now (ids .entry)) i ⌝ }
+fn entry_at(firsts: &[i32], lasts: &[i32], ids: &[u32], i: usize) -> Entry
+    requires { ⌜ (i < 512) × (length (now firsts) ≡ 512) × (length (now lasts) ≡ 512) × (length (now ids) ≡ 512) ⌝ }
+    ensures { λ r. ⌜ r ≡ inside.entryAt (now (firsts .entry)) (now (lasts .entry)) (now (ids .entry)) i ⌝ }
 {
     Entry {
         first: firsts[i],
@@ -141,27 +129,11 @@ fn entry_at(firsts: &[u32], lasts: &[u32], ids: &[u32], i: usize) -> Entry
     }
 }
 
-// ---- the store
-
-// Whether the count is not above 512, and the columns have room for as many: a shorter column keeps no chronology.
-fn in_room(firsts: &[u32], lasts: &[u32], ids: &[u32], count: usize) -> bool
-    ensures { λ r. ⌜ r ≡ spec.inRoom (store count (now (firsts .entry)) (now (lasts .entry)) (now (ids .entry))) ⌝ }
-{
-    if count <= 512 {
-        if 512 <= firsts.len() {
-            if 512 <= lasts.len() {
-                return 512 <= ids.len();
-            }
-            return false;
-        }
-        return false;
-    }
-    false
-}
+// ---- whether what is lent is a chronology
 
 // The place of an identifier in a column from a place on; the count if it is not there.
 fn find(ids: &[u32], from: usize, count: usize, id: u32) -> usize
-    requires { ⌜ (from ≤ count) × (count ≤ length (now ids)) ⌝ }
+    requires { ⌜ (from ≤ count) × (count ≤ 512) × (length (now ids) ≡ 512) ⌝ }
     ensures { λ r. ⌜ (r ≡ from + spec.placeOf id (drop from (take count (now (ids .entry))))) × (r ≤ count) ⌝ }
 {
     let mut i = from;
@@ -174,12 +146,31 @@ fn find(ids: &[u32], from: usize, count: usize, id: u32) -> usize
     i
 }
 
-// Whether the entry at a place stands before the next one.
-fn before_next(firsts: &[u32], lasts: &[u32], ids: &[u32], count: usize, i: usize) -> bool
-    requires { ⌜ (i < count) × (spec.inRoom (store count (now firsts) (now lasts) (now ids)) ≡ true) ⌝ }
-    ensures { λ r. ⌜ r ≡ spec.beforeAt (store count (now (firsts .entry)) (now (lasts .entry)) (now (ids .entry))) i ⌝ }
+// The place of an identifier's mark.
+fn mark_of(id: u32) -> usize
+    ensures { λ r. ⌜ (r ≡ id % 8191) × (r < 8191) ⌝ }
 {
-    if i + 1 < count {
+    (id % 8191) as usize
+}
+
+// Whether an identifier is that of no entry from a place on, all of which are marked: without a mark it is that of none.
+fn alone(ids: &[u32], from: usize, count: usize, id: u32, marks: &[u8; 8191]) -> bool
+    requires { ⌜ (from ≤ count) × (count ≤ 512) × (length (now ids) ≡ 512) × inside.Marked (now marks) (drop from (take count (now ids))) ⌝ }
+    ensures { λ r. ⌜ r ≡ not (entries.among id (drop from (take count (now (ids .entry))))) ⌝ }
+{
+    let at = mark_of(id);
+    if marks[at] == 0 {
+        return true;
+    }
+    find(ids, from, count, id) == count
+}
+
+// Whether the entry at a place stands before the next one.
+fn before_next(count: &usize, firsts: &[i32], lasts: &[i32], ids: &[u32], i: usize) -> bool
+    requires { ⌜ (i < now count) × (now count ≤ 512) × spec.Wide (lent count firsts lasts ids) ⌝ }
+    ensures { λ r. ⌜ r ≡ inside.beforeAt (before count firsts lasts ids) i ⌝ }
+{
+    if i + 1 < *count {
         let e = entry_at(firsts, lasts, ids, i);
         let next = entry_at(firsts, lasts, ids, i + 1);
         return precedes(e, next);
@@ -188,53 +179,67 @@ fn before_next(firsts: &[u32], lasts: &[u32], ids: &[u32], count: usize, i: usiz
 }
 
 // Whether the entry at a place has good days, stands before the next one, and its identifier is that of no later one.
-fn kept_at(firsts: &[u32], lasts: &[u32], ids: &[u32], count: usize, i: usize) -> bool
-    requires { ⌜ (i < count) × (spec.inRoom (store count (now firsts) (now lasts) (now ids)) ≡ true) ⌝ }
-    ensures { λ r. ⌜ r ≡ spec.keptAt (store count (now (firsts .entry)) (now (lasts .entry)) (now (ids .entry))) i ⌝ }
+fn kept_at(
+    count: &usize,
+    firsts: &[i32],
+    lasts: &[i32],
+    ids: &[u32],
+    i: usize,
+    marks: &[u8; 8191],
+) -> bool
+    requires { ⌜ (i < now count) × (now count ≤ 512) × spec.Wide (lent count firsts lasts ids) × inside.Marked (now marks) (drop (i + 1) (take (now count) (now ids))) ⌝ }
+    ensures { λ r. ⌜ r ≡ inside.keptAt (before count firsts lasts ids) i ⌝ }
 {
     let e = entry_at(firsts, lasts, ids, i);
     if good_days(e) {
-        if before_next(firsts, lasts, ids, count, i) {
+        if before_next(count, firsts, lasts, ids, i) {
             let id = e.id;
-            return find(ids, i + 1, count, id) == count;
+            return alone(ids, i + 1, *count, id, marks);
         }
         return false;
     }
     false
 }
 
-// Whether this holds of all entries.
-fn well_kept(firsts: &[u32], lasts: &[u32], ids: &[u32], count: usize) -> bool
-    requires { ⌜ spec.inRoom (store count (now firsts) (now lasts) (now ids)) ≡ true ⌝ }
-    ensures { λ r. ⌜ r ≡ entries.wellKept (spec.contents (store count (now (firsts .entry)) (now (lasts .entry)) (now (ids .entry)))) ⌝ }
+// Whether this holds of all entries, from the last to the first: each is marked once it is read.
+fn well_kept(count: &usize, firsts: &[i32], lasts: &[i32], ids: &[u32]) -> bool
+    requires { ⌜ (now count ≤ 512) × spec.Wide (lent count firsts lasts ids) ⌝ }
+    ensures { λ r. ⌜ r ≡ entries.wellKept (spec.contents (before count firsts lasts ids)) ⌝ }
 {
-    let mut i = 0;
-    while i < count {
-        if !kept_at(firsts, lasts, ids, count, i) {
+    let mut marks = [0u8; 8191];
+    let mut i = *count;
+    while 0 < i {
+        i -= 1;
+        if !kept_at(count, firsts, lasts, ids, i, &marks) {
             return false;
         }
-        i += 1;
+        let id = ids[i];
+        let at = mark_of(id);
+        marks[at] = 1;
     }
     true
 }
 
 // Whether what is lent is a chronology.
-pub fn sound(firsts: &[u32], lasts: &[u32], ids: &[u32], count: usize) -> bool
-    ensures { λ r. ⌜ r ≡ spec.sound (store count (now (firsts .entry)) (now (lasts .entry)) (now (ids .entry))) ⌝ }
+fn sound(count: &usize, firsts: &[i32], lasts: &[i32], ids: &[u32]) -> bool
+    requires { ⌜ spec.Wide (lent count firsts lasts ids) ⌝ }
+    ensures { λ r. ⌜ r ≡ spec.sound (before count firsts lasts ids) ⌝ }
 {
-    if in_room(firsts, lasts, ids, count) {
-        return well_kept(firsts, lasts, ids, count);
+    if *count <= ENTRIES {
+        return well_kept(count, firsts, lasts, ids);
     }
     false
 }
 
+// ---- rows
+
 // The place of an entry in list order: how many precede it.
-fn rank(firsts: &[u32], lasts: &[u32], ids: &[u32], count: usize, e: Entry) -> usize
-    requires { ⌜ spec.inRoom (store count (now firsts) (now lasts) (now ids)) ≡ true ⌝ }
-    ensures { λ r. ⌜ (r ≡ spec.rank e (spec.contents (store count (now (firsts .entry)) (now (lasts .entry)) (now (ids .entry))))) × (r ≤ count) ⌝ }
+fn rank(count: &usize, firsts: &[i32], lasts: &[i32], ids: &[u32], e: Entry) -> usize
+    requires { ⌜ (now count ≤ 512) × spec.Wide (lent count firsts lasts ids) ⌝ }
+    ensures { λ r. ⌜ (r ≡ spec.rank e (spec.contents (before count firsts lasts ids))) × (r ≤ now (count .entry)) ⌝ }
 {
     let mut i = 0;
-    while i < count {
+    while i < *count {
         let x = entry_at(firsts, lasts, ids, i);
         if !precedes(x, e) {
             return i;
@@ -244,27 +249,35 @@ fn rank(firsts: &[u32], lasts: &[u32], ids: &[u32], count: usize, e: Entry) -> u
     i
 }
 
-// Puts v at a place among the first n of a column: those from there on move up by one.
-fn insert_at(buf: &mut [u32], n: usize, at: usize, v: u32)
-    requires { ⌜ (at ≤ n) × (n < length (now buf)) ⌝ }
-    ensures { λ r. ⌜ now (buf .exit) ≡ spec.inserted (now (buf .entry)) n at v ⌝ }
+// Puts an entry at a place among the first n rows: those from there on move up by one.
+fn insert_row(firsts: &mut [i32], lasts: &mut [i32], ids: &mut [u32], n: usize, at: usize, e: Entry)
+    requires { ⌜ (at ≤ n) × (n < 512) × (length (now firsts) ≡ 512) × (length (now lasts) ≡ 512) × (length (now ids) ≡ 512) ⌝ }
+    ensures { λ r. ⌜ (now (firsts .exit) ≡ spec.inserted (now (firsts .entry)) n at (e .first)) × (now (lasts .exit) ≡ spec.inserted (now (lasts .entry)) n at (e .last)) × (now (ids .exit) ≡ spec.inserted (now (ids .entry)) n at (e .id)) ⌝ }
 {
     let mut i = n;
     while at < i {
-        buf[i] = buf[i - 1];
+        firsts[i] = firsts[i - 1];
+        lasts[i] = lasts[i - 1];
+        ids[i] = ids[i - 1];
         i -= 1;
     }
-    buf[at] = v;
+    let first = e.first;
+    let last = e.last;
+    firsts[at] = first;
+    lasts[at] = last;
+    ids[at] = e.id;
 }
 
-// Takes the one at a place from the first n of a column: those behind it move down by one.
-fn remove_at(buf: &mut [u32], n: usize, at: usize)
-    requires { ⌜ (at < n) × (n ≤ length (now buf)) ⌝ }
-    ensures { λ r. ⌜ now (buf .exit) ≡ spec.removed (now (buf .entry)) n at ⌝ }
+// Takes the entry at a place from the first n rows: those behind it move down by one.
+fn remove_row(firsts: &mut [i32], lasts: &mut [i32], ids: &mut [u32], n: usize, at: usize)
+    requires { ⌜ (at < n) × (n ≤ 512) × (length (now firsts) ≡ 512) × (length (now lasts) ≡ 512) × (length (now ids) ≡ 512) ⌝ }
+    ensures { λ r. ⌜ (now (firsts .exit) ≡ spec.removed (now (firsts .entry)) n at) × (now (lasts .exit) ≡ spec.removed (now (lasts .entry)) n at) × (now (ids .exit) ≡ spec.removed (now (ids .entry)) n at) ⌝ }
 {
     let mut i = at;
     while i + 1 < n {
-        buf[i] = buf[i + 1];
+        firsts[i] = firsts[i + 1];
+        lasts[i] = lasts[i + 1];
+        ids[i] = ids[i + 1];
         i += 1;
     }
 }
@@ -273,49 +286,54 @@ fn remove_at(buf: &mut [u32], n: usize, at: usize)
 
 // What an add answers.
 fn add_answer(
-    firsts: &[u32],
-    lasts: &[u32],
+    count: &usize,
+    firsts: &[i32],
+    lasts: &[i32],
     ids: &[u32],
-    count: usize,
     period: Period,
     id: u32,
 ) -> Answer
-    ensures { λ r. ⌜ r ≡ calls.addAnswer (store count (now (firsts .entry)) (now (lasts .entry)) (now (ids .entry))) period id ⌝ }
+    requires { ⌜ spec.Wide (lent count firsts lasts ids) ⌝ }
+    ensures { λ r. ⌜ r ≡ calls.addAnswer (before count firsts lasts ids) period id ⌝ }
 {
-    if !sound(firsts, lasts, ids, count) {
+    if !sound(count, firsts, lasts, ids) {
         return refused(Kind::BadChronology);
     }
     if !good_period(period) {
         return refused(Kind::BadPeriod);
     }
-    if find(ids, 0, count, id) < count {
+    if find(ids, 0, *count, id) < *count {
         return refused(Kind::DuplicateEntry);
     }
-    if count == 512 {
+    if *count == ENTRIES {
         return refused(Kind::ChronologyFull);
     }
-    Answer::Entries(count + 1)
+    Answer::Entries(*count + 1)
 }
 
-// Adds an entry, and answers the new count. A refusal changes nothing.
-pub fn add(
-    firsts: &mut [u32],
-    lasts: &mut [u32],
+// An add.
+fn add_entry(
+    count: &mut usize,
+    firsts: &mut [i32],
+    lasts: &mut [i32],
     ids: &mut [u32],
-    count: usize,
     period: Period,
     id: u32,
 ) -> Answer
-    ensures { λ r. ⌜ r ≡ calls.addAnswer (store count (now (firsts .entry)) (now (lasts .entry)) (now (ids .entry))) period id ⌝ }
-    ensures { λ r. ⌜ store (calls.countOf r count) (now (firsts .exit)) (now (lasts .exit)) (now (ids .exit)) ≡ calls.afterAdd (store count (now (firsts .entry)) (now (lasts .entry)) (now (ids .entry))) period id ⌝ }
+    requires { ⌜ spec.Wide (lent count firsts lasts ids) ⌝ }
+    ensures { λ r. ⌜ r ≡ calls.addAnswer (before count firsts lasts ids) period id ⌝ }
+    ensures { λ r. ⌜ after count firsts lasts ids ≡ calls.afterAdd (before count firsts lasts ids) period id ⌝ }
 {
-    match add_answer(firsts, lasts, ids, count, period, id) {
+    match add_answer(count, firsts, lasts, ids, period, id) {
         Answer::Entries(n) => {
-            let e = entry_of(period, id);
-            let at = rank(firsts, lasts, ids, count, e);
-            insert_at(firsts, count, at, e.first);
-            insert_at(lasts, count, at, e.last);
-            insert_at(ids, count, at, e.id);
+            let e = Entry {
+                first: period.first,
+                last: period.last,
+                id,
+            };
+            let at = rank(count, firsts, lasts, ids, e);
+            insert_row(firsts, lasts, ids, *count, at, e);
+            *count = n;
             Answer::Entries(n)
         }
         Answer::Refused(e) => Answer::Refused(e),
@@ -323,71 +341,70 @@ pub fn add(
 }
 
 // What a removal answers.
-fn remove_answer(firsts: &[u32], lasts: &[u32], ids: &[u32], count: usize, id: u32) -> Answer
-    ensures { λ r. ⌜ r ≡ calls.removeAnswer (store count (now (firsts .entry)) (now (lasts .entry)) (now (ids .entry))) id ⌝ }
+fn remove_answer(count: &usize, firsts: &[i32], lasts: &[i32], ids: &[u32], id: u32) -> Answer
+    requires { ⌜ spec.Wide (lent count firsts lasts ids) ⌝ }
+    ensures { λ r. ⌜ r ≡ calls.removeAnswer (before count firsts lasts ids) id ⌝ }
 {
-    if !sound(firsts, lasts, ids, count) {
+    if !sound(count, firsts, lasts, ids) {
         return refused(Kind::BadChronology);
     }
-    if find(ids, 0, count, id) < count {
-        return Answer::Entries(count - 1);
+    if find(ids, 0, *count, id) < *count {
+        return Answer::Entries(*count - 1);
     }
     refused(Kind::UnknownEntry)
 }
 
-// Removes the entry of an identifier, and answers the new count. A refusal changes nothing.
-pub fn remove(
-    firsts: &mut [u32],
-    lasts: &mut [u32],
+// A removal.
+fn remove_entry(
+    count: &mut usize,
+    firsts: &mut [i32],
+    lasts: &mut [i32],
     ids: &mut [u32],
-    count: usize,
     id: u32,
 ) -> Answer
-    ensures { λ r. ⌜ r ≡ calls.removeAnswer (store count (now (firsts .entry)) (now (lasts .entry)) (now (ids .entry))) id ⌝ }
-    ensures { λ r. ⌜ store (calls.countOf r count) (now (firsts .exit)) (now (lasts .exit)) (now (ids .exit)) ≡ calls.afterRemove (store count (now (firsts .entry)) (now (lasts .entry)) (now (ids .entry))) id ⌝ }
+    requires { ⌜ spec.Wide (lent count firsts lasts ids) ⌝ }
+    ensures { λ r. ⌜ r ≡ calls.removeAnswer (before count firsts lasts ids) id ⌝ }
+    ensures { λ r. ⌜ after count firsts lasts ids ≡ calls.afterRemove (before count firsts lasts ids) id ⌝ }
 {
-    match remove_answer(firsts, lasts, ids, count, id) {
-        Answer::Entries(n) => {
-            let at = find(ids, 0, count, id);
-            remove_at(firsts, count, at);
-            remove_at(lasts, count, at);
-            remove_at(ids, count, at);
-            Answer::Entries(n)
+    match remove_answer(count, firsts, lasts, ids, id) {
+        Answer::Entries(left) => {
+            let at = find(ids, 0, *count, id);
+            remove_row(firsts, lasts, ids, *count, at);
+            *count = left;
+            Answer::Entries(left)
         }
         Answer::Refused(e) => Answer::Refused(e),
     }
 }
 
-// How many entries there are.
-pub fn count(firsts: &[u32], lasts: &[u32], ids: &[u32], n: usize) -> Answer
-    ensures { λ r. ⌜ r ≡ calls.countAnswer (store n (now (firsts .entry)) (now (lasts .entry)) (now (ids .entry))) ⌝ }
+// What asking for the count answers.
+fn count_answer(count: &usize, firsts: &[i32], lasts: &[i32], ids: &[u32]) -> Answer
+    requires { ⌜ spec.Wide (lent count firsts lasts ids) ⌝ }
+    ensures { λ r. ⌜ r ≡ calls.countAnswer (before count firsts lasts ids) ⌝ }
 {
-    if sound(firsts, lasts, ids, n) {
-        return Answer::Entries(n);
+    if sound(count, firsts, lasts, ids) {
+        return Answer::Entries(*count);
     }
     refused(Kind::BadChronology)
 }
 
-// Three numbers of an entry: those of its first and last day, and its identifier.
+// Three numbers of an entry: its first and its last day, and its identifier.
 fn put_entry(e: Entry, out: &mut [i64], at: usize)
     requires { ⌜ at + 3 ≤ length (now out) ⌝ }
     ensures { λ r. ⌜ now (out .exit) ≡ sets (now (out .entry)) at (entries.listed (e ∷ [])) ⌝ }
 {
-    let first = day_of(e.first);
-    let last = day_of(e.last);
-    let id = e.id as i64;
-    out[at] = first;
-    out[at + 1] = last;
-    out[at + 2] = id;
+    out[at] = e.first as i64;
+    out[at + 1] = e.last as i64;
+    out[at + 2] = e.id as i64;
 }
 
 // All entries, at the front of the lent numbers.
-fn put_entries(firsts: &[u32], lasts: &[u32], ids: &[u32], count: usize, out: &mut [i64])
-    requires { ⌜ (spec.inRoom (store count (now firsts) (now lasts) (now ids)) ≡ true) × (3 * count ≤ length (now out)) ⌝ }
-    ensures { λ r. ⌜ now (out .exit) ≡ sets (now (out .entry)) 0 (entries.listed (spec.contents (store count (now (firsts .entry)) (now (lasts .entry)) (now (ids .entry))))) ⌝ }
+fn put_entries(count: &usize, firsts: &[i32], lasts: &[i32], ids: &[u32], out: &mut [i64])
+    requires { ⌜ (now count ≤ 512) × spec.Wide (lent count firsts lasts ids) × (3 * now count ≤ length (now out)) ⌝ }
+    ensures { λ r. ⌜ now (out .exit) ≡ sets (now (out .entry)) 0 (entries.listed (spec.contents (before count firsts lasts ids))) ⌝ }
 {
     let mut i = 0;
-    while i < count {
+    while i < *count {
         let e = entry_at(firsts, lasts, ids, i);
         put_entry(e, out, 3 * i);
         i += 1;
@@ -395,26 +412,34 @@ fn put_entries(firsts: &[u32], lasts: &[u32], ids: &[u32], count: usize, out: &m
 }
 
 // What a listing answers, with so much room.
-fn list_answer(firsts: &[u32], lasts: &[u32], ids: &[u32], count: usize, room: usize) -> Answer
-    ensures { λ r. ⌜ r ≡ calls.listAnswer (store count (now (firsts .entry)) (now (lasts .entry)) (now (ids .entry))) room ⌝ }
+fn list_answer(count: &usize, firsts: &[i32], lasts: &[i32], ids: &[u32], room: usize) -> Answer
+    requires { ⌜ spec.Wide (lent count firsts lasts ids) ⌝ }
+    ensures { λ r. ⌜ r ≡ calls.listAnswer (before count firsts lasts ids) room ⌝ }
 {
-    if !sound(firsts, lasts, ids, count) {
+    if !sound(count, firsts, lasts, ids) {
         return refused(Kind::BadChronology);
     }
-    if 3 * count <= room {
-        return Answer::Entries(count);
+    if 3 * *count <= room {
+        return Answer::Entries(*count);
     }
     refused(Kind::NoRoom)
 }
 
-// Lists the entries in order, three numbers each, and answers how many. A refusal stores nothing.
-pub fn list(firsts: &[u32], lasts: &[u32], ids: &[u32], count: usize, out: &mut [i64]) -> Answer
-    ensures { λ r. ⌜ r ≡ calls.listAnswer (store count (now (firsts .entry)) (now (lasts .entry)) (now (ids .entry))) (length (now (out .entry))) ⌝ }
-    ensures { λ r. ⌜ now (out .exit) ≡ calls.afterList (store count (now (firsts .entry)) (now (lasts .entry)) (now (ids .entry))) (now (out .entry)) ⌝ }
+// A listing.
+fn list_entries(
+    count: &usize,
+    firsts: &[i32],
+    lasts: &[i32],
+    ids: &[u32],
+    out: &mut [i64],
+) -> Answer
+    requires { ⌜ spec.Wide (lent count firsts lasts ids) ⌝ }
+    ensures { λ r. ⌜ r ≡ calls.listAnswer (before count firsts lasts ids) (length (now (out .entry))) ⌝ }
+    ensures { λ r. ⌜ now (out .exit) ≡ calls.afterList (before count firsts lasts ids) (now (out .entry)) ⌝ }
 {
-    match list_answer(firsts, lasts, ids, count, out.len()) {
+    match list_answer(count, firsts, lasts, ids, out.len()) {
         Answer::Entries(n) => {
-            put_entries(firsts, lasts, ids, count, out);
+            put_entries(count, firsts, lasts, ids, out);
             Answer::Entries(n)
         }
         Answer::Refused(e) => Answer::Refused(e),
@@ -423,42 +448,29 @@ pub fn list(firsts: &[u32], lasts: &[u32], ids: &[u32], count: usize, out: &mut 
 
 // ---- is anything dated in a period
 
-// The refusal of the question.
-fn untold(kind: Kind) -> Reply
-    ensures { λ r. ⌜ r ≡ asked.untold kind ⌝ }
+// Whether an entry touches a period: they have a day in common.
+fn touches(period: Period, e: Entry) -> bool
+    ensures { λ r. ⌜ r ≡ asked.touches period e ⌝ }
 {
-    Reply::Untold(refuse(kind, FileSpan(0, 0)))
+    e.first <= period.last && period.first <= e.last
 }
 
-// Whether two entries share a day.
-fn shares(q: Entry, e: Entry) -> bool
-    ensures { λ r. ⌜ r ≡ asked.shares q e ⌝ }
+// Whether a walk stops at an entry: it touches the period or begins after it.
+fn stops(period: Period, e: Entry) -> bool
+    ensures { λ r. ⌜ r ≡ asked.stops period e ⌝ }
 {
-    if q.last < e.first {
-        return false;
-    }
-    q.first <= e.last
+    touches(period, e) || period.last < e.first
 }
 
-// Whether a walk for q stops at an entry: it shares a day with q, or begins after it.
-fn halts(q: Entry, e: Entry) -> bool
-    ensures { λ r. ⌜ r ≡ asked.halts q e ⌝ }
-{
-    if q.last < e.first {
-        return true;
-    }
-    q.first <= e.last
-}
-
-// The place of the first entry at which a walk for q stops; the count if there is none.
-fn halt_at(firsts: &[u32], lasts: &[u32], ids: &[u32], count: usize, q: Entry) -> usize
-    requires { ⌜ spec.inRoom (store count (now firsts) (now lasts) (now ids)) ≡ true ⌝ }
-    ensures { λ r. ⌜ (r ≡ asked.haltAt q (spec.contents (store count (now (firsts .entry)) (now (lasts .entry)) (now (ids .entry))))) × (r ≤ count) ⌝ }
+// The place of the first entry at which a walk stops; the count if there is none.
+fn stop_at(count: &usize, firsts: &[i32], lasts: &[i32], ids: &[u32], period: Period) -> usize
+    requires { ⌜ (now count ≤ 512) × spec.Wide (lent count firsts lasts ids) ⌝ }
+    ensures { λ r. ⌜ (r ≡ asked.stopAt period (spec.contents (before count firsts lasts ids))) × (r ≤ now (count .entry)) ⌝ }
 {
     let mut i = 0;
-    while i < count {
-        let x = entry_at(firsts, lasts, ids, i);
-        if halts(q, x) {
+    while i < *count {
+        let e = entry_at(firsts, lasts, ids, i);
+        if stops(period, e) {
             return i;
         }
         i += 1;
@@ -467,34 +479,99 @@ fn halt_at(firsts: &[u32], lasts: &[u32], ids: &[u32], count: usize, q: Entry) -
 }
 
 // The walk: the entry at which it stops decides, and none behind it is read.
-fn walk(firsts: &[u32], lasts: &[u32], ids: &[u32], count: usize, q: Entry) -> Reply
-    requires { ⌜ spec.inRoom (store count (now firsts) (now lasts) (now ids)) ≡ true ⌝ }
-    ensures { λ r. ⌜ r ≡ asked.walked q (store count (now (firsts .entry)) (now (lasts .entry)) (now (ids .entry))) ⌝ }
+fn walk(count: &usize, firsts: &[i32], lasts: &[i32], ids: &[u32], period: Period) -> Reply
+    requires { ⌜ (now count ≤ 512) × spec.Wide (lent count firsts lasts ids) ⌝ }
+    ensures { λ r. ⌜ r ≡ inside.walked (before count firsts lasts ids) period ⌝ }
 {
-    let at = halt_at(firsts, lasts, ids, count, q);
-    if at < count {
+    let at = stop_at(count, firsts, lasts, ids, period);
+    if at < *count {
         let e = entry_at(firsts, lasts, ids, at);
         return Reply::Told {
-            found: shares(q, e),
+            found: touches(period, e),
             read: at + 1,
         };
     }
     Reply::Told {
         found: false,
-        read: count,
+        read: *count,
     }
 }
 
-// Whether anything is dated in a period, and how many entries were read to tell.
-pub fn any_dated(firsts: &[u32], lasts: &[u32], ids: &[u32], count: usize, period: Period) -> Reply
-    ensures { λ r. ⌜ r ≡ asked.reply (store count (now (firsts .entry)) (now (lasts .entry)) (now (ids .entry))) period ⌝ }
+// The question.
+fn asked_entries(count: &usize, firsts: &[i32], lasts: &[i32], ids: &[u32], period: Period) -> Reply
+    requires { ⌜ spec.Wide (lent count firsts lasts ids) ⌝ }
+    ensures { λ r. ⌜ r ≡ asked.reply (before count firsts lasts ids) period ⌝ }
 {
-    if !sound(firsts, lasts, ids, count) {
+    if !sound(count, firsts, lasts, ids) {
         return untold(Kind::BadChronology);
     }
     if !good_period(period) {
         return untold(Kind::BadPeriod);
     }
-    let q = entry_of(period, 0);
-    walk(firsts, lasts, ids, count, q)
+    walk(count, firsts, lasts, ids, period)
+}
+
+// ---- the calls, on a store as callers lend it
+
+// Adds an entry, and answers how many there are then. A refusal changes nothing.
+pub fn add(
+    count: &mut usize,
+    firsts: &mut [i32; 512],
+    lasts: &mut [i32; 512],
+    ids: &mut [u32; 512],
+    period: Period,
+    id: u32,
+) -> Answer
+    ensures { λ r. ⌜ r ≡ calls.addAnswer (before count firsts lasts ids) period id ⌝ }
+    ensures { λ r. ⌜ after count firsts lasts ids ≡ calls.afterAdd (before count firsts lasts ids) period id ⌝ }
+{
+    add_entry(count, firsts, lasts, ids, period, id)
+}
+
+// Removes the entry of an identifier, and answers how many there are then. A refusal changes nothing.
+pub fn remove(
+    count: &mut usize,
+    firsts: &mut [i32; 512],
+    lasts: &mut [i32; 512],
+    ids: &mut [u32; 512],
+    id: u32,
+) -> Answer
+    ensures { λ r. ⌜ r ≡ calls.removeAnswer (before count firsts lasts ids) id ⌝ }
+    ensures { λ r. ⌜ after count firsts lasts ids ≡ calls.afterRemove (before count firsts lasts ids) id ⌝ }
+{
+    remove_entry(count, firsts, lasts, ids, id)
+}
+
+// How many entries there are.
+pub fn count(count: &usize, firsts: &[i32; 512], lasts: &[i32; 512], ids: &[u32; 512]) -> Answer
+    ensures { λ r. ⌜ r ≡ calls.countAnswer (before count firsts lasts ids) ⌝ }
+{
+    count_answer(count, firsts, lasts, ids)
+}
+
+// Lists the entries in order, three numbers each, and answers how many. A refusal stores nothing.
+pub fn list(
+    count: &usize,
+    firsts: &[i32; 512],
+    lasts: &[i32; 512],
+    ids: &[u32; 512],
+    out: &mut [i64],
+) -> Answer
+    ensures { λ r. ⌜ r ≡ calls.listAnswer (before count firsts lasts ids) (length (now (out .entry))) ⌝ }
+    ensures { λ r. ⌜ now (out .exit) ≡ calls.afterList (before count firsts lasts ids) (now (out .entry)) ⌝ }
+{
+    list_entries(count, firsts, lasts, ids, out)
+}
+
+// Whether anything is dated in a period, and how many entries were read to tell.
+pub fn any_dated(
+    count: &usize,
+    firsts: &[i32; 512],
+    lasts: &[i32; 512],
+    ids: &[u32; 512],
+    period: Period,
+) -> Reply
+    ensures { λ r. ⌜ r ≡ asked.reply (before count firsts lasts ids) period ⌝ }
+{
+    asked_entries(count, firsts, lasts, ids, period)
 }

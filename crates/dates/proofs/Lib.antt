@@ -3,3 +3,4 @@ pub mod Months
 pub mod Clock
 pub mod Lengths
 pub mod Whole
+pub mod Less

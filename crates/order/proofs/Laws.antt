@@ -15,7 +15,8 @@ use Rattle.dates.specs.Time.{utcSeconds}
 use Rattle.order.specs.declared.Order.{Order}
 use Rattle.order.specs.declared.Order.the-variants.{Less, Equal, Greater, None}
 use Rattle.order.specs.Order.{number, inTurn, both, monthOf, dayOf, timeOf, alike, timeOrder, fromTime, fromDay, fromMonth, order}
-use Rattle.order.proofs.Numbers.{Cases, less, equal, greater, cases, lt-trans, number-less, number-greater, number-same}
+use Rattle.dates.proofs.Less.{lt-trans}
+use Rattle.order.proofs.Numbers.{Cases, less, equal, greater, cases, number-less, number-greater, number-same}
 
 -- the answer with the two operands exchanged
 abbrev pub mirror : Order → Order

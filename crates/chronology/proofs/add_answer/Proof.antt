@@ -1,7 +1,7 @@
 use borrow.Author.Tests.{not-true, not-false}
 use native.Mathlib.Omega.{arith}
 use mathlib.Core.Path.{sym, _∙_}
-use Rattle.chronology.proofs.Answers.{sound-room, has-it, has-not, add-bad, add-period, add-twice, add-full, add-done}
+use Rattle.chronology.proofs.Answers.{sound-room, sound-few, has-it, has-not, add-bad, add-period, add-twice, add-full, add-done}
 use borrow.Author.Needs.{needs}
 use Rattle.chronology.proofs.add_answer.Statement.{statement}
 use Rattle.chronology.proofs.add_answer.Tie as tie
@@ -16,8 +16,8 @@ returns : tie.Need-returns
 returns c =
     let b1 = c .before in
     let b2 = b1 .before in
-    let b6 = b2 .before .before .before .before in
-    c .refused .ensures ∙ add-bad _ (b6 .args .period) (b6 .args .id) (sym (b2 .sound .ensures) ∙ not-true _ (b1 .if1 .taken))
+    let b4 = b2 .before .before in
+    c .refused .ensures ∙ add-bad _ (b4 .args .period) (b4 .args .id) (sym (b2 .sound .ensures) ∙ not-true _ (b1 .if1 .taken))
 
 good-period-requires : tie.Need-good-period-requires
 good-period-requires c κs = search needs
@@ -31,15 +31,15 @@ returns-2 c =
     let b2 = b1 .before in
     let b3 = b2 .before in
     let b4 = b3 .before in
-    let b8 = b4 .before .before .before .before in
-    c .refused2 .ensures ∙ add-period _ (b8 .args .period) (b8 .args .id) (sym (b4 .sound .ensures) ∙ not-false _ (b3 .if1 .left)) (sym (b2 .good-period .ensures) ∙ not-true _ (b1 .if2 .taken))
+    let b6 = b4 .before .before in
+    c .refused2 .ensures ∙ add-period _ (b6 .args .period) (b6 .args .id) (sym (b4 .sound .ensures) ∙ not-false _ (b3 .if1 .left)) (sym (b2 .good-period .ensures) ∙ not-true _ (b1 .if2 .taken))
 
 find-requires : tie.Need-find-requires
 find-requires c κs =
-    let b2 = c .before .before in
-    let b3 = b2 .before in
-    let r = sound-room _ (sym (b3 .sound .ensures) ∙ not-false _ (b2 .if1 .left)) in
-    (omega arith, omega (arith, r .few, r .of-ids))
+    let b3 = c .before .before .before in
+    let b4 = b3 .before in
+    let b6 = b4 .before .before in
+    (omega arith, sound-few _ (sym (b4 .sound .ensures) ∙ not-false _ (b3 .if1 .left)), b6 .pre .of-ids)
 
 refused-requires-3 : tie.Need-refused-requires-3
 refused-requires-3 c κs = search needs
@@ -48,12 +48,13 @@ returns-3 : tie.Need-returns-3
 returns-3 c =
     let b1 = c .before in
     let b2 = b1 .before in
-    let b3 = b2 .before in
-    let b4 = b3 .before in
+    let b4 = b2 .before .before in
     let b5 = b4 .before in
     let b6 = b5 .before in
-    let b10 = b6 .before .before .before .before in
-    c .refused3 .ensures ∙ add-twice _ (b10 .args .period) (b10 .args .id) (sym (b6 .sound .ensures) ∙ not-false _ (b5 .if1 .left)) (sym (b4 .good-period .ensures) ∙ not-false _ (b3 .if2 .left)) (has-it _ (b10 .args .id) (b2 .find .result) (sound-room _ (sym (b6 .sound .ensures) ∙ not-false _ (b5 .if1 .left))) (b2 .find .ensures .0) (b1 .if3 .taken))
+    let b7 = b6 .before in
+    let b9 = b7 .before .before in
+    c .refused3 .ensures ∙ add-twice _ (b9 .args .period) (b9 .args .id) (sym (b7 .sound .ensures) ∙ not-false _ (b6 .if1 .left)) (sym (b5 .good-period .ensures) ∙ not-false _ (b4 .if2 .left))
+    (has-it _ (b9 .args .id) (b2 .find .result) (sound-room _ (b9 .pre) (sym (b7 .sound .ensures) ∙ not-false _ (b6 .if1 .left))) (b2 .find .ensures .0) (b1 .if3 .taken))
 
 refused-requires-4 : tie.Need-refused-requires-4
 refused-requires-4 c κs = search needs
@@ -63,29 +64,31 @@ returns-4 c =
     let b1 = c .before in
     let b2 = b1 .before in
     let b3 = b2 .before in
-    let b4 = b3 .before in
-    let b5 = b4 .before in
+    let b5 = b3 .before .before in
     let b6 = b5 .before in
     let b7 = b6 .before in
-    let b11 = b7 .before .before .before .before in
-    c .refused4 .ensures ∙ add-full _ (b11 .args .period) (b11 .args .id) (sym (b7 .sound .ensures) ∙ not-false _ (b6 .if1 .left)) (sym (b5 .good-period .ensures) ∙ not-false _ (b4 .if2 .left)) (has-not _ (b11 .args .id) (b3 .find .result) (sound-room _ (sym (b7 .sound .ensures) ∙ not-false _ (b6 .if1 .left))) (b3 .find .ensures .0) (b2 .if3 .left)) (b1 .if4 .taken)
+    let b8 = b7 .before in
+    let b10 = b8 .before .before in
+    c .refused4 .ensures ∙ add-full _ (b10 .args .period) (b10 .args .id) (sym (b8 .sound .ensures) ∙ not-false _ (b7 .if1 .left)) (sym (b6 .good-period .ensures) ∙ not-false _ (b5 .if2 .left))
+    (has-not _ (b10 .args .id) (b3 .find .result) (sound-room _ (b10 .pre) (sym (b8 .sound .ensures) ∙ not-false _ (b7 .if1 .left))) (b3 .find .ensures .0) (b2 .if3 .left)) (b1 .if4 .taken)
 
-add-t11 : tie.Need-add-t11
-add-t11 c =
-    let b5 = c .before .before .before .before .before in
-    let b6 = b5 .before in
-    omega (arith, sound-room _ (sym (b6 .sound .ensures) ∙ not-false _ (b5 .if1 .left)) .few)
+add-t13 : tie.Need-add-t13
+add-t13 c =
+    let b6 = c .before .before .before .before .before .before in
+    let b7 = b6 .before in
+    omega (arith, sound-few _ (sym (b7 .sound .ensures) ∙ not-false _ (b6 .if1 .left)))
 
 returns-5 : tie.Need-returns-5
 returns-5 c =
     let b1 = c .before in
     let b2 = b1 .before in
-    let b3 = b2 .before in
-    let b4 = b3 .before in
+    let b4 = b2 .before .before in
     let b5 = b4 .before in
     let b6 = b5 .before in
-    let b10 = b6 .before .before .before .before in
-    add-done _ (b10 .args .period) (b10 .args .id) (sym (b6 .sound .ensures) ∙ not-false _ (b5 .if1 .left)) (sym (b4 .good-period .ensures) ∙ not-false _ (b3 .if2 .left)) (has-not _ (b10 .args .id) (b2 .find .result) (sound-room _ (sym (b6 .sound .ensures) ∙ not-false _ (b5 .if1 .left))) (b2 .find .ensures .0) (b1 .if3 .left)) (c .if4 .left)
+    let b7 = b6 .before in
+    let b9 = b7 .before .before in
+    add-done _ (b9 .args .period) (b9 .args .id) (sym (b7 .sound .ensures) ∙ not-false _ (b6 .if1 .left)) (sym (b5 .good-period .ensures) ∙ not-false _ (b4 .if2 .left))
+    (has-not _ (b9 .args .id) (b2 .find .result) (sound-room _ (b9 .pre) (sym (b7 .sound .ensures) ∙ not-false _ (b6 .if1 .left))) (b2 .find .ensures .0) (b1 .if3 .left)) (c .if4 .left)
 
 pub add-answer-spec : {M : Type 1} → statement M
 add-answer-spec =
@@ -102,5 +105,5 @@ add-answer-spec =
     returns-3
     refused-requires-4
     returns-4
-    add-t11
+    add-t13
     returns-5)

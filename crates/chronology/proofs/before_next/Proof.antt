@@ -1,28 +1,23 @@
-use mathlib.Core.Path.{_∙_}
 use native.Mathlib.Omega.{arith}
+use mathlib.Core.Path.{_∙_}
 use Rattle.chronology.proofs.Columns.{room, before-one, before-none}
 use borrow.Author.Needs.{needs}
 use Rattle.chronology.proofs.before_next.Statement.{statement}
 use Rattle.chronology.proofs.before_next.Tie as tie
 
 add-if1 : tie.Need-add-if1
-add-if1 c = search needs
+add-if1 c = omega (arith, c .before .pre .0, c .before .pre .1)
 
 entry-at-requires : tie.Need-entry-at-requires
 entry-at-requires c κs =
-    let s = c .before .before .before .before in
-    let r = room _ (s .pre .1) in
-    (omega (arith, s .pre .0, r .few, r .of-firsts), omega (arith, s .pre .0, r .few, r .of-lasts), omega (arith, s .pre .0, r .few, r .of-ids))
+    let s = c .before .before .before in (omega (arith, s .pre .0, s .pre .1), s .pre .2 .of-firsts, s .pre .2 .of-lasts, s .pre .2 .of-ids)
 
 add-entry-at : tie.Need-add-entry-at
-add-entry-at c = search needs
+add-entry-at c = let s = c .before .before .before .before in omega (arith, s .pre .0, s .pre .1)
 
 entry-at-requires-2 : tie.Need-entry-at-requires-2
 entry-at-requires-2 c κs =
-    let s = c .before .before .before .before .before in
-    let h = c .before .if1 .taken in
-    let r = room _ (s .pre .1) in
-    (omega (arith, h, r .few, r .of-firsts), omega (arith, h, r .few, r .of-lasts), omega (arith, h, r .few, r .of-ids))
+    let s = c .before .before .before .before in (omega (arith, c .before .if1 .taken, s .pre .1), s .pre .2 .of-firsts, s .pre .2 .of-lasts, s .pre .2 .of-ids)
 
 precedes-requires : tie.Need-precedes-requires
 precedes-requires c κs = search needs
@@ -30,13 +25,13 @@ precedes-requires c κs = search needs
 returns : tie.Need-returns
 returns c =
     let b = c .before in
-    let s = b .before .before .before .before .before .before in
-    c .precedes .ensures ∙ before-one _ (room _ (s .pre .1)) (s .args .i) (b .before .before .if1 .taken) (b .before .entry-at .ensures) (b .entry-at2 .ensures)
+    let t = b .before .before in
+    let s = t .before .before .before in
+    c .precedes .ensures ∙ before-one _ (room _ (s .pre .2) (s .pre .1)) (s .args .i) (t .if1 .taken) (b .before .entry-at .ensures) (b .entry-at2 .ensures)
 
 returns-2 : tie.Need-returns-2
 returns-2 c =
-    let s = c .before .before .before .before in
-    before-none _ (room _ (s .pre .1)) (s .args .i) (c .if1 .left)
+    let s = c .before .before .before in before-none _ (room _ (s .pre .2) (s .pre .1)) (s .args .i) (c .if1 .left)
 
 pub before-next-spec : {M : Type 1} → statement M
 before-next-spec =

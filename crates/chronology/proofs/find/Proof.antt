@@ -8,7 +8,8 @@ use Rattle.chronology.proofs.find.Statement.{statement}
 use Rattle.chronology.proofs.find.Tie as tie
 
 abbrev Inv-loop : tie.InvT-loop
-Inv-loop ids from count id i₀ i = (from + placeOf id (drop from (take count ids)) ≡ i + placeOf id (drop i (take count ids))) × (i ≤ count)
+Inv-loop ids from count id i₀ i =
+    (from + placeOf id (drop from (take count ids)) ≡ i + placeOf id (drop i (take count ids))) × (i ≤ count)
 
 abbrev μ-loop : tie.MeasureT-loop
 μ-loop ids from count id i₀ i = count - i
@@ -17,34 +18,34 @@ loop-holds : tie.Need-loop-holds Inv-loop μ-loop
 loop-holds c = (refl, c .pre .0)
 
 mul-if1 : tie.Need-mul-if1 Inv-loop μ-loop
-mul-if1 c = omega (arith, c .before .before .pre .1, c .before .before .good)
+mul-if1 c = omega (arith, c .before .before .pre .1)
 
 shared-slice-read-if1 : tie.Need-shared-slice-read-if1 Inv-loop μ-loop
-shared-slice-read-if1 c = omega (arith, c .before .before .before .pre .1)
+shared-slice-read-if1 c = omega (arith, c .before .before .before .pre .1, c .before .before .before .pre .2)
 
 returns : tie.Need-returns Inv-loop μ-loop
 returns c =
-    let s = c .before .before .before .before in
-    let l = c .before .before .before .loop in
-    (found (s .args .ids .now) (s .args .count) (l .i) (s .args .id) (c .before .before .loop-test .taken) (s .pre .1) (c .if1 .taken) ∙ sym (l .inv .0), l .inv .1)
+    let l = c .before .before .before in
+    let s = l .before in
+    (found (s .args .ids .now) (s .args .count) (l .loop .i) (s .args .id) (c .before .before .loop-test .taken) (omega (arith, s .pre .1, s .pre .2)) (c .if1 .taken) ∙ sym (l .loop .inv .0), l .loop .inv .1)
 
 add-i : tie.Need-add-i Inv-loop μ-loop
-add-i c = omega (arith, c .before .before .loop-test .taken, c .before .before .before .before .good)
+add-i c = omega (arith, c .before .before .loop-test .taken, c .before .before .before .before .pre .1)
 
 loop-less : tie.Need-loop-less Inv-loop μ-loop
 loop-less c = omega arith
 
 loop-again : tie.Need-loop-again Inv-loop μ-loop
 loop-again c =
-    let s = c .before .before .before .before in
-    let l = c .before .before .before .loop in
-    (l .inv .0 ∙ passed (s .args .ids .now) (s .args .count) (l .i) (s .args .id) (c .before .before .loop-test .taken) (s .pre .1) (c .if1 .left), omega arith)
+    let l = c .before .before .before in
+    let s = l .before in
+    (l .loop .inv .0 ∙ passed (s .args .ids .now) (s .args .count) (l .loop .i) (s .args .id) (c .before .before .loop-test .taken) (omega (arith, s .pre .1, s .pre .2)) (c .if1 .left), omega arith)
 
 returns-2 : tie.Need-returns-2 Inv-loop μ-loop
 returns-2 c =
-    let s = c .before .before in
-    let l = c .before .loop in
-    (missing (s .args .ids .now) (s .args .count) (l .i) (s .args .id) (c .loop-test .left) (s .pre .1) ∙ sym (l .inv .0), l .inv .1)
+    let l = c .before in
+    let s = l .before in
+    (missing (s .args .ids .now) (s .args .count) (l .loop .i) (s .args .id) (c .loop-test .left) (omega (arith, s .pre .1, s .pre .2)) ∙ sym (l .loop .inv .0), l .loop .inv .1)
 
 pub find-spec : {M : Type 1} → statement M
 find-spec =

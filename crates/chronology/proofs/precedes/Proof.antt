@@ -1,28 +1,23 @@
-use Rattle.chars.specs.Pick.{pick}
-use Rattle.chronology.specs.Entries.{precedes}
-use borrow.Author.Tests.{eq-eqb, ne-eqb}
+use borrow.Author.Needs.{needs}
+use Rattle.chronology.proofs.Signs.{precedes-is}
 use Rattle.chronology.proofs.precedes.Statement.{statement}
 use Rattle.chronology.proofs.precedes.Tie as tie
 
+sooner-requires : tie.Need-sooner-requires
+sooner-requires c κs = search needs
+
+sooner-requires-2 : tie.Need-sooner-requires-2
+sooner-requires-2 c κs = search needs
+
 returns : tie.Need-returns
-unfolding precedes pick
 returns c =
-    let b2 = c .before .before in
-    let b5 = b2 .before .before .before in
-    simp (eq-eqb _ _ (b5 .if1 .taken), eq-eqb _ _ (b2 .if2 .taken))
-
-returns-2 : tie.Need-returns-2
-unfolding precedes pick
-returns-2 c =
-    let b2 = c .before .before in
-    let b5 = b2 .before .before .before in
-    simp (eq-eqb _ _ (b5 .if1 .taken), ne-eqb _ _ (b2 .if2 .left))
-
-returns-3 : tie.Need-returns-3
-unfolding precedes pick
-returns-3 c =
-    let b2 = c .before .before in
-    simp (ne-eqb _ _ (b2 .if1 .left))
+    let t = c .before .before .before in
+    let u = t .before in
+    let s = u .before .before .before .before in
+    precedes-is (s .args .a) (s .args .b)
+    (record { of-first = record { sfits = c .before .before .struct-told3 .given .0 .1 }; of-last = record { sfits = u .before .struct-told .given .1 .0 .1 } })
+    (record { of-first = record { sfits = c .before .struct-told4 .given .0 .1 }; of-last = record { sfits = u .struct-told2 .given .1 .0 .1 } })
+    (t .sooner .ensures) (c .sooner2 .ensures)
 
 pub precedes-spec : {M : Type 1} → statement M
-precedes-spec = tie.close (tie.spec returns returns-2 returns-3)
+precedes-spec = tie.close (tie.spec sooner-requires sooner-requires-2 returns)

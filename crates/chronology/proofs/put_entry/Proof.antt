@@ -1,43 +1,42 @@
 use lib.ListN.{length-set}
-use mathlib.Core.Path.{refl}
 use native.Mathlib.Omega.{arith}
-use Rattle.chronology.proofs.Days.{three-numbers}
+use Rattle.chronology.proofs.Signs.{wider, three-numbers}
 use borrow.Author.Needs.{needs}
 use Rattle.chronology.proofs.put_entry.Statement.{statement}
 use Rattle.chronology.proofs.put_entry.Tie as tie
 
-day-of-requires : tie.Need-day-of-requires
-day-of-requires c κs = search needs
+cast-out : tie.Need-cast-out
+cast-out c = wider (c .before .before .args .e .first) (record { sfits = c .struct-told .given .0 .1 })
 
-day-of-requires-2 : tie.Need-day-of-requires-2
-day-of-requires-2 c κs = search needs
+mul-out : tie.Need-mul-out
+mul-out c = search needs
 
-cast-id : tie.Need-cast-id
-cast-id c = search needs
+slice-set-from-out : tie.Need-slice-set-from-out
+slice-set-from-out c = search needs
 
-mul-first : tie.Need-mul-first
-mul-first c = search needs
+cast-out-2 : tie.Need-cast-out-2
+cast-out-2 c = wider (c .before .before .before .before .args .e .last) (record { sfits = c .struct-told2 .given .1 .0 .1 })
 
-slice-set-from-first : tie.Need-slice-set-from-first
-slice-set-from-first c = search needs
+add-out : tie.Need-add-out
+add-out c = search needs
 
-add-last : tie.Need-add-last
-add-last c = search needs
+mul-out-2 : tie.Need-mul-out-2
+mul-out-2 c = search needs
 
-mul-last : tie.Need-mul-last
-mul-last c = search needs
+slice-set-from-out-2 : tie.Need-slice-set-from-out-2
+slice-set-from-out-2 c = simp length-set (omega arith)
 
-slice-set-from-last : tie.Need-slice-set-from-last
-slice-set-from-last c = simp length-set (omega arith)
+cast-out-3 : tie.Need-cast-out-3
+cast-out-3 c = search needs
 
-add-id : tie.Need-add-id
-add-id c = search needs
+add-t7 : tie.Need-add-t7
+add-t7 c = search needs
 
-mul-id : tie.Need-mul-id
-mul-id c = search needs
+mul-t5 : tie.Need-mul-t5
+mul-t5 c = search needs
 
-slice-set-from-id : tie.Need-slice-set-from-id
-slice-set-from-id c = simp length-set (omega arith)
+slice-set-from-out-3 : tie.Need-slice-set-from-out-3
+slice-set-from-out-3 c = simp length-set (omega arith)
 
 same-length : tie.Need-same-length
 same-length c = search needs
@@ -45,24 +44,26 @@ same-length c = search needs
 returns : tie.Need-returns
 returns c =
     let b = c .before in
-    let s = b .before .before in
-    three-numbers (s .args .out .now) (s .args .at) (s .args .e) (record { sfits = b .before .day-of .ok }) (record { sfits = b .day-of2 .ok }) (omega (arith, c .struct-known .given .1 .1 .0))
-    (b .before .day-of .ensures) (b .day-of2 .ensures) refl
+    let t = b .before .before in
+    let s = t .before .before in
+    three-numbers (s .args .out .now) (s .args .at) (s .args .e)
+    (record { of-first = record { sfits = t .struct-told .given .0 .1 }; of-last = record { sfits = b .struct-told2 .given .1 .0 .1 } })
+    (omega (arith, c .struct-known3 .given .1 .1 .0))
 
 pub put-entry-spec : {M : Type 1} → statement M
 put-entry-spec =
     tie.close
     (tie.spec
-    day-of-requires
-    day-of-requires-2
-    cast-id
-    mul-first
-    slice-set-from-first
-    add-last
-    mul-last
-    slice-set-from-last
-    add-id
-    mul-id
-    slice-set-from-id
+    cast-out
+    mul-out
+    slice-set-from-out
+    cast-out-2
+    add-out
+    mul-out-2
+    slice-set-from-out-2
+    cast-out-3
+    add-t7
+    mul-t5
+    slice-set-from-out-3
     same-length
     returns)

@@ -1,4 +1,3 @@
-use borrow.Author.Needs.{needs}
 use lib.ListN.{drop}
 use native.Mathlib.Omega.{arith}
 use native.Mathlib.Nat.{zero-add}
@@ -6,25 +5,26 @@ use Prim.Native.Nat.{_+_, _-_, _≤_}
 use mathlib.Core.Path.{_≡_, sym, ap, _∙_}
 use mathlib.Core.Bool.{not}
 use Rattle.chronology.specs.Entries.{precedes}
-use Rattle.chronology.specs.Store.{store, contents, rank}
+use Rattle.chronology.specs.Store.{store, contents, firstWhere, rank}
 use Rattle.chronology.proofs.Columns.{room, where-found, where-passed, where-end}
+use borrow.Author.Needs.{needs}
 use Rattle.chronology.proofs.rank.Statement.{statement}
 use Rattle.chronology.proofs.rank.Tie as tie
 
 abbrev Inv-loop : tie.InvT-loop
-Inv-loop firsts lasts ids count e i₀ i = (rank e (contents (store count firsts lasts ids)) ≡ i + rank e (drop i (contents (store count firsts lasts ids)))) × (i ≤ count)
+Inv-loop count firsts lasts ids e i₀ i =
+    (firstWhere (λ x. not (precedes x (e))) (contents (store count firsts lasts ids)) ≡ i + firstWhere (λ x. not (precedes x (e))) (drop i (contents (store count firsts lasts ids)))) × (i ≤ count)
 
 abbrev μ-loop : tie.MeasureT-loop
-μ-loop firsts lasts ids count e i₀ i = count - i
+μ-loop count firsts lasts ids e i₀ i = count - i
 
 loop-holds : tie.Need-loop-holds Inv-loop μ-loop
+unfolding rank
 loop-holds c = (sym (zero-add _), omega arith)
 
 entry-at-requires : tie.Need-entry-at-requires Inv-loop μ-loop
 entry-at-requires c κs =
-    let s = c .before .before .before .before .before in
-    let r = room _ (s .pre) in
-    (omega (arith, r .few, r .of-firsts), omega (arith, r .few, r .of-lasts), omega (arith, r .few, r .of-ids))
+    (omega (arith, c .loop-test .taken, c .before .before .before .pre .0), c .before .before .before .pre .1 .of-firsts, c .before .before .before .pre .1 .of-lasts, c .before .before .before .pre .1 .of-ids)
 
 precedes-requires : tie.Need-precedes-requires Inv-loop μ-loop
 precedes-requires c κs = search needs
@@ -32,13 +32,14 @@ precedes-requires c κs = search needs
 returns : tie.Need-returns Inv-loop μ-loop
 unfolding rank
 returns c =
-    let s = c .before .before .before .before .before .before .before .before in
-    let l = c .before .before .before .before .loop in
     let b = c .before in
-    (where-found _ (room _ (s .pre)) (l .i) (λ x. not (precedes x (s .args .e))) (c .before .before .before .loop-test .taken) (b .before .entry-at .ensures) (ap not (sym (b .precedes .ensures)) ∙ c .if1 .taken) ∙ sym (l .inv .0), l .inv .1)
+    let l = b .before .before .before in
+    let s = l .before .before in
+    (where-found _ (room _ (s .pre .1) (s .pre .0)) (l .loop .i) (λ x. not (precedes x (s .args .e))) (b .before .before .loop-test .taken) (b .before .entry-at .ensures) (ap not (sym (b .precedes .ensures)) ∙ c .if1 .taken) ∙ sym (l .loop .inv .0), l .loop .inv .1)
 
 add-i : tie.Need-add-i Inv-loop μ-loop
-add-i c = omega (arith, c .before .before .before .loop-test .taken, c .before .before .before .before .before .before .before .before .good)
+add-i c =
+    omega (arith, c .before .before .before .loop-test .taken, c .before .before .before .before .before .before .pre .0)
 
 loop-less : tie.Need-loop-less Inv-loop μ-loop
 loop-less c = omega arith
@@ -46,17 +47,17 @@ loop-less c = omega arith
 loop-again : tie.Need-loop-again Inv-loop μ-loop
 unfolding rank
 loop-again c =
-    let s = c .before .before .before .before .before .before .before .before in
-    let l = c .before .before .before .before .loop in
     let b = c .before in
-    (l .inv .0 ∙ where-passed _ (room _ (s .pre)) (l .i) (λ x. not (precedes x (s .args .e))) (c .before .before .before .loop-test .taken) (b .before .entry-at .ensures) (ap not (sym (b .precedes .ensures)) ∙ c .if1 .left), omega arith)
+    let l = b .before .before .before in
+    let s = l .before .before in
+    (l .loop .inv .0 ∙ where-passed _ (room _ (s .pre .1) (s .pre .0)) (l .loop .i) (λ x. not (precedes x (s .args .e))) (b .before .before .loop-test .taken) (b .before .entry-at .ensures) (ap not (sym (b .precedes .ensures)) ∙ c .if1 .left), omega arith)
 
 returns-2 : tie.Need-returns-2 Inv-loop μ-loop
 unfolding rank
 returns-2 c =
-    let s = c .before .before .before .before .before in
-    let l = c .before .loop in
-    (where-end _ (room _ (s .pre)) (l .i) (λ x. not (precedes x (s .args .e))) (c .loop-test .left) ∙ sym (l .inv .0), l .inv .1)
+    let l = c .before in
+    let s = l .before .before in
+    (where-end _ (room _ (s .pre .1) (s .pre .0)) (l .loop .i) (λ x. not (precedes x (s .args .e))) (c .loop-test .left) ∙ sym (l .loop .inv .0), l .loop .inv .1)
 
 pub rank-spec : {M : Type 1} → statement M
 rank-spec =

@@ -1,37 +1,39 @@
-use native.Mathlib.Omega.{arith}
 use mathlib.Core.Path.{ap, _∙_}
-use Rattle.chronology.specs.Asked.{shares}
-use Rattle.chronology.proofs.Columns.{room}
+use native.Mathlib.Omega.{arith}
+use Rattle.chronology.specs.Asked.{touches}
 use Rattle.chronology.proofs.Asked.{walk-stops, walk-ends}
 use borrow.Author.Needs.{needs}
 use Rattle.chronology.proofs.walk.Statement.{statement}
 use Rattle.chronology.proofs.walk.Tie as tie
 
-halt-at-requires : tie.Need-halt-at-requires
-halt-at-requires c κs = search needs
+stop-at-requires : tie.Need-stop-at-requires
+stop-at-requires c κs = search needs
 
 entry-at-requires : tie.Need-entry-at-requires
 entry-at-requires c κs =
-    let r = room _ (c .before .before .before .before .before .pre) in
-    let h = c .if1 .taken in
-    (omega (arith, h, r .few, r .of-firsts), omega (arith, h, r .few, r .of-lasts), omega (arith, h, r .few, r .of-ids))
+    let s = c .before .before .before .before in (omega (arith, c .if1 .taken, s .pre .0), s .pre .1 .of-firsts, s .pre .1 .of-lasts, s .pre .1 .of-ids)
 
-shares-requires : tie.Need-shares-requires
-shares-requires c κs = search needs
+touches-requires : tie.Need-touches-requires
+touches-requires c κs = search needs
 
-add-t10 : tie.Need-add-t10
-add-t10 c = omega arith
+add-t11 : tie.Need-add-t11
+add-t11 c = let t = c .before .before in omega (arith, t .if1 .taken, t .before .before .before .before .pre .0)
 
 returns : tie.Need-returns
 returns c =
-    let b3 = c .before .before .before in
-    let q = b3 .before .before .before .before .args .q in
-    walk-stops q _ (b3 .halt-at .ensures .0) (c .before .before .if1 .taken) (c .shares .ensures ∙ ap (shares q) (c .before .entry-at .ensures))
+    let t = c .before .before in
+    let b = t .before .before in
+    let s = b .before .before in
+    let p = s .args .period in
+    walk-stops _ p (b .stop-at .ensures .0) (t .if1 .taken) (c .touches .ensures ∙ ap (touches p) (c .before .entry-at .ensures))
 
 returns-2 : tie.Need-returns-2
 returns-2 c =
-    let b1 = c .before in
-    walk-ends (b1 .before .before .before .before .args .q) _ (b1 .halt-at .ensures .0) (c .if1 .left)
+    let b = c .before .before in
+    let s = b .before .before in
+    walk-ends _ (s .args .period) (b .stop-at .ensures .0) (c .if1 .left)
 
 pub walk-spec : {M : Type 1} → statement M
-walk-spec = tie.close (tie.spec halt-at-requires entry-at-requires shares-requires add-t10 returns returns-2)
+walk-spec =
+    tie.close
+    (tie.spec stop-at-requires entry-at-requires touches-requires add-t11 returns returns-2)
