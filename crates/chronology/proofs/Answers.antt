@@ -47,7 +47,7 @@ search-test : (s : Store) (d k : ℕ) → Room s → k ≡ 0 + placeOf d (take (
 unfolding has
 search-test s d k r e =
     let l = take (s .count) (s .ids) in
-    let h : 0 + length l ≡ s .count = rw (length-take-le (s .count) (s .ids) (omega (arith, r .few, r .of-ids))) (omega arith) in
+    let h : 0 + length l ≡ s .count = rw (length-take-le (s .count) (s .ids) (omega arith)) (omega arith) in
     ap (λ (j : ℕ). ltb j (s .count)) e ∙ below-test d l 0 (s .count) h ∙ ap (among d) (sym (contents-ids s r))
 
 pub has-it : (s : Store) (d k : ℕ) → Room s → k ≡ 0 + placeOf d (take (s .count) (s .ids)) → k < s .count → has d (contents s) ≡ true
@@ -63,7 +63,7 @@ place-below s d r t = go (place d (idsOf (contents s)))
   where
     go : Place d (idsOf (contents s)) → placeOf d (idsOf (contents s)) < s .count
     go (in-it a h) =
-        let e : length (idsOf (contents s)) ≡ s .count = ap length (contents-ids s r) ∙ length-take-le (s .count) (s .ids) (omega (arith, r .few, r .of-ids)) in
+        let e : length (idsOf (contents s)) ≡ s .count = ap length (contents-ids s r) ∙ length-take-le (s .count) (s .ids) (omega arith) in
         omega arith
     go (past-it a h) = absurd (false≢true (sym a ∙ t))
 

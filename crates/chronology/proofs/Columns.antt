@@ -8,12 +8,12 @@ use native.Mathlib.Numerals.{add-one}
 use native.Mathlib.Omega.{arith}
 use lib.Dec.{eqb, ltb}
 use lib.IntN.{ℤ}
-use lib.ListN.{length, getD, take, drop, set, length-drop, drop-of-length-le}
+use lib.ListN.{length, getD, take, drop, set, drop-of-length-le}
 use lib.Seq.{drop-cons, sets, sets-eq, getD-take, length-take-le}
 use borrow.Author.Tests.{lt-ltb, le-ltb, eq-eqb, ne-eqb}
 use Rattle.chars.specs.Pick.{pick}
 use Rattle.chronology.specs.declared.Entry.{Entry}
-use Rattle.chronology.specs.Entries.{precedes, goodDays, idsOf, among, has, beforeNext, keptFirst, wellKept, listed}
+use Rattle.chronology.specs.Entries.{precedes, goodDays, idsOf, among, beforeNext, keptFirst, wellKept, listed}
 use Rattle.chronology.specs.Store.{Store, Wide, rows, contents, placeOf, firstWhere, rank}
 use Rattle.chronology.specs.Inside.{entryAt, rowAt, beforeAt, keptAt}
 
@@ -69,14 +69,14 @@ module _ (s : Store) (r : Room s) where
   pub contents-cons : (i : ℕ) → i < s .count → drop i (contents s) ≡ rowAt s i ∷ drop (suc i) (contents s)
   unfolding contents
   contents-cons i h =
-      rows-cons (s .count) i (s .firsts) (s .lasts) (s .ids) h (omega (arith, r .few, r .of-firsts)) (omega (arith, r .few, r .of-lasts))
-      (omega (arith, r .few, r .of-ids))
+      rows-cons (s .count) i (s .firsts) (s .lasts) (s .ids) h (omega arith) (omega arith)
+      (omega arith)
 
   pub contents-length : length (contents s) ≡ s .count
   unfolding contents
   contents-length =
-      rows-length (s .count) (s .firsts) (s .lasts) (s .ids) (omega (arith, r .few, r .of-firsts)) (omega (arith, r .few, r .of-lasts))
-      (omega (arith, r .few, r .of-ids))
+      rows-length (s .count) (s .firsts) (s .lasts) (s .ids) (omega arith) (omega arith)
+      (omega arith)
 
   pub contents-end : (i : ℕ) → s .count ≤ i → drop i (contents s) ≡ []
   contents-end i h = drop-of-length-le (contents s) {i = i} (omega (arith, contents-length))
@@ -85,8 +85,8 @@ module _ (s : Store) (r : Room s) where
   pub contents-ids : idsOf (contents s) ≡ take (s .count) (s .ids)
   unfolding contents
   contents-ids =
-      rows-ids (s .count) (s .firsts) (s .lasts) (s .ids) (omega (arith, r .few, r .of-firsts)) (omega (arith, r .few, r .of-lasts))
-      (omega (arith, r .few, r .of-ids))
+      rows-ids (s .count) (s .firsts) (s .lasts) (s .ids) (omega arith) (omega arith)
+      (omega arith)
 
   pub ids-from : (i : ℕ) → idsOf (drop i (contents s)) ≡ drop i (take (s .count) (s .ids))
   ids-from i = ids-drop i (contents s) ∙ ap (drop i) contents-ids

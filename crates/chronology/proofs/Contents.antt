@@ -11,7 +11,6 @@ use lib.IntN.{ℤ}
 use lib.ListN.{length, take, drop, length-append, length-drop}
 use lib.Seq.{take-at, length-take-le}
 use borrow.Author.Tests.{eqb-true, eqb-false}
-use Rattle.chars.specs.Pick.{pick}
 use Rattle.chronology.specs.declared.Entry.{Entry}
 use Rattle.chronology.specs.Entries.{entry, precedes, idsOf, insert, without}
 use Rattle.chronology.specs.Store.{Store, rows, contents, placeOf, firstWhere, rank, inserted, removed}

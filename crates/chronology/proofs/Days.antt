@@ -1,11 +1,10 @@
 -- What the crate days gives is a good period. Assumes nothing.
-use mathlib.Core.Path.{_≡_, refl, sym, subst}
-use mathlib.Core.Bool.{Bool, true, false, false≢true}
+use mathlib.Core.Path.{_≡_, refl, subst}
+use mathlib.Core.Bool.{Bool, true, false}
 use lib.Dec.{T}
 use lib.IntN.{ℤ, pos, negsuc}
 use lib.Signed.{ltZ, leZ, _≤ℤ_, ltZ-yes, ltZ-no, <ℤ-≤ℤ-trans, clashℤ}
 use Rattle.chars.specs.Pick.{pick}
-use Rattle.refusals.specs.declared.Refusal.{Refusal}
 use Rattle.dates.specs.declared.Datetime.{Datetime}
 use Rattle.dates.specs.Value.{hasSeason}
 use Rattle.days.specs.declared.Period.{Period}

@@ -11,10 +11,10 @@ use lib.Seq.{getD-set-same, getD-set-other, length-take-le}
 use borrow.Author.Tests.{eqb-true, eqb-false}
 use Rattle.chars.specs.Pick.{pick}
 use Rattle.chronology.specs.declared.Entry.{Entry}
-use Rattle.chronology.specs.Entries.{goodDays, idsOf, among, has, keptFirst, wellKept}
+use Rattle.chronology.specs.Entries.{goodDays, among, has, keptFirst, wellKept}
 use Rattle.chronology.specs.Store.{Store, contents, placeOf}
 use Rattle.chronology.specs.Inside.{rowAt, beforeAt, keptAt, Marked}
-use Rattle.chronology.proofs.Columns.{Room, ids-from, column-cons, column-end, end-test, kept-next, kept-stop, kept-end}
+use Rattle.chronology.proofs.Columns.{Room, ids-from, column-cons, column-end, end-test, kept-next, kept-stop}
 use Rattle.chronology.proofs.Order.{kept}
 
 pub marked-none : (m : List ℕ) → Marked m []
@@ -25,7 +25,7 @@ pub unmarked : (m l : List ℕ) (d : ℕ) → Marked m l → getD m (d % 8191) 0
 unmarked m l d k z = go (among d l) refl
   where
     go : (t : Bool) → among d l ≡ t → t ≡ false
-    go true e = let o = k d e in absurd (omega (arith, o, z))
+    go true e = let o = k d e in absurd (omega arith)
     go false e = refl
 
 -- one more mark
@@ -98,4 +98,4 @@ module _ (s : Store) (r : Room s) (m : List ℕ) (i : ℕ) (h : 0 < i) (g : i �
   pub pass-marks : {at : ℕ} → at ≡ getD (s .ids) (i - 1) 0 % 8191 → at < length m → Marked m (drop i (take (s .count) (s .ids)))
       → Marked (set m at 1) (drop (i - 1) (take (s .count) (s .ids)))
   pass-marks {at} e b k =
-      rw e (marked-on m (s .ids) (s .count) (i - 1) (omega arith) (omega (arith, r .few, r .of-ids)) (rw (sym e) b) (marked-here k))
+      rw e (marked-on m (s .ids) (s .count) (i - 1) (omega arith) (omega arith) (rw (sym e) b) (marked-here k))

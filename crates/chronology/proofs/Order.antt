@@ -87,7 +87,7 @@ before-no a b n t = go (sooner-no (a .first) (b .first) _ t)
   where
     on : b .first ≡ a .first → Sooner (b .last) (a .last) (ltb (a .id) (b .id)) false → Before b a
     on e (earlier h) = by-last e h
-    on e (tied f v) = let h = ltb-false (a .id) (b .id) v in by-id e f (omega (arith, n))
+    on e (tied f v) = let h = ltb-false (a .id) (b .id) v in by-id e f (omega arith)
 
     go : Sooner (b .first) (a .first) (sooner (a .last) (b .last) (ltb (a .id) (b .id))) false → Before b a
     go (earlier h) = by-first h

@@ -1,5 +1,5 @@
 -- Days as the machine has them: the tests that the functions make of two of them. Assumes nothing.
-use mathlib.Core.Path.{_≡_, refl, sym, ap, _∙_}
+use mathlib.Core.Path.{_≡_, sym, ap, _∙_}
 use mathlib.Core.Bool.{Bool, true, false}
 use mathlib.Core.List.{List, [], _∷_}
 use Prim.Native.Nat.{ℕ, suc, _+_, _<_}
@@ -96,7 +96,7 @@ stop-after p e l g q t = let a = sym q ∙ t in rw (a, toZ-ofZ w32 (p .last) l, 
 
 -- a day as a wider number has it
 pub wider : (z : ℤ) → SFits w32 z → SFits w64 (kept z)
-wider z f = rw (toZ-ofZ w32 z f) (record { sfits = omega (arith, f .sfits) })
+wider z f = rw (toZ-ofZ w32 z f) (record { sfits = omega arith })
 
 wide-day : (z : ℤ) → SFits w32 z → toZ w64 (ofZ w64 (kept z)) ≡ z
 wide-day z f = toZ-ofZ w64 (kept z) (wider z f) ∙ toZ-ofZ w32 z f

@@ -15,15 +15,15 @@ use Rattle.days.specs.declared.Period.{Period}
 use Rattle.chronology.specs.declared.Entry.{Entry}
 use Rattle.chronology.specs.declared.Answer.{Answer}
 use Rattle.chronology.specs.declared.Answer.the-variants.{Entries, Refused}
-use Rattle.chronology.specs.Entries.{precedes, beforeNext, goodPeriod, entryOf, goodDays, idsOf, among, has, wellKept, insert, without, listed}
+use Rattle.chronology.specs.Entries.{beforeNext, goodPeriod, entryOf, goodDays, idsOf, among, has, wellKept, insert, without, listed}
 use Rattle.chronology.specs.Store.{Store, Wide, contents, sound, placeOf}
 use Rattle.chronology.specs.Calls.{refused, accepted, countAnswer, addAnswer, removeAnswer, listAnswer, withEntry, withoutAt, afterAdd, afterRemove, afterList}
 use Rattle.chronology.specs.Asked.{anyTouches, entriesRead, reply}
 use Rattle.chronology.specs.declared.Reply.the-variants.{Told as told-it}
 use Rattle.chronology.specs.History.{Call, adds, removes, counts, lists, asks, accepts, afterCall, afterCalls, told, history, Empty, sorted, idTimes}
 use Rattle.chronology.proofs.Columns.{Room, contents-length}
-use Rattle.chronology.proofs.Answers.{sound-room, sound-few, sound-well, sound-kept, place-below, add-says, remove-says, add-done, list-done}
-use Rattle.chronology.proofs.Order.{insert-on, insert-here, Before, before-yes, before-then, Kept, kept, has-here, has-on, has-none, has-insert, has-without, insert-keeps, without-keeps, without-here, without-on, without-insert, without-other, insert-length}
+use Rattle.chronology.proofs.Answers.{sound-room, sound-well, sound-kept, place-below, add-says, remove-says, add-done, list-done}
+use Rattle.chronology.proofs.Order.{Before, before-yes, before-then, Kept, kept, has-here, has-on, has-none, has-insert, has-without, insert-keeps, without-keeps, without-here, without-on, without-insert, without-other, insert-length}
 use Rattle.chronology.proofs.Contents.{more-room, contents-more, less-room, contents-less}
 
 -- a lent store whose entries are well kept is a chronology

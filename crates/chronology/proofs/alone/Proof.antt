@@ -27,7 +27,7 @@ find-requires c κs = search needs
 returns-2 : tie.Need-returns-2
 returns-2 c =
     let s = c .before .before .before .before .before in
-    searched (s .args .marks .now) (s .args .ids .now) (s .args .count) (s .args .from) (s .args .id) _ (s .pre .0) (omega (arith, s .pre .1, s .pre .2)) (c .find .ensures .0)
+    searched (s .args .marks .now) (s .args .ids .now) (s .args .count) (s .args .from) (s .args .id) _ (s .pre .0) (omega arith) (c .find .ensures .0)
 
 pub alone-spec : {M : Type 1} → statement M
 alone-spec =

@@ -6,18 +6,18 @@ use Rattle.chronology.proofs.before_next.Statement.{statement}
 use Rattle.chronology.proofs.before_next.Tie as tie
 
 add-if1 : tie.Need-add-if1
-add-if1 c = omega (arith, c .before .pre .0, c .before .pre .1)
+add-if1 c = omega arith
 
 entry-at-requires : tie.Need-entry-at-requires
 entry-at-requires c κs =
-    let s = c .before .before .before in (omega (arith, s .pre .0, s .pre .1), s .pre .2 .of-firsts, s .pre .2 .of-lasts, s .pre .2 .of-ids)
+    let s = c .before .before .before in (omega arith, s .pre .2 .of-firsts, s .pre .2 .of-lasts, s .pre .2 .of-ids)
 
 add-entry-at : tie.Need-add-entry-at
-add-entry-at c = let s = c .before .before .before .before in omega (arith, s .pre .0, s .pre .1)
+add-entry-at c = let s = c .before .before .before .before in omega arith
 
 entry-at-requires-2 : tie.Need-entry-at-requires-2
 entry-at-requires-2 c κs =
-    let s = c .before .before .before .before in (omega (arith, c .before .if1 .taken, s .pre .1), s .pre .2 .of-firsts, s .pre .2 .of-lasts, s .pre .2 .of-ids)
+    let s = c .before .before .before .before in (omega arith, s .pre .2 .of-firsts, s .pre .2 .of-lasts, s .pre .2 .of-ids)
 
 precedes-requires : tie.Need-precedes-requires
 precedes-requires c κs = search needs

@@ -18,19 +18,19 @@ loop-holds : tie.Need-loop-holds Inv-loop μ-loop
 loop-holds c = (refl, c .pre .0)
 
 mul-if1 : tie.Need-mul-if1 Inv-loop μ-loop
-mul-if1 c = omega (arith, c .before .before .pre .1)
+mul-if1 c = omega arith
 
 shared-slice-read-if1 : tie.Need-shared-slice-read-if1 Inv-loop μ-loop
-shared-slice-read-if1 c = omega (arith, c .before .before .before .pre .1, c .before .before .before .pre .2)
+shared-slice-read-if1 c = omega arith
 
 returns : tie.Need-returns Inv-loop μ-loop
 returns c =
     let l = c .before .before .before in
     let s = l .before in
-    (found (s .args .ids .now) (s .args .count) (l .loop .i) (s .args .id) (c .before .before .loop-test .taken) (omega (arith, s .pre .1, s .pre .2)) (c .if1 .taken) ∙ sym (l .loop .inv .0), l .loop .inv .1)
+    (found (s .args .ids .now) (s .args .count) (l .loop .i) (s .args .id) (c .before .before .loop-test .taken) (omega arith) (c .if1 .taken) ∙ sym (l .loop .inv .0), l .loop .inv .1)
 
 add-i : tie.Need-add-i Inv-loop μ-loop
-add-i c = omega (arith, c .before .before .loop-test .taken, c .before .before .before .before .pre .1)
+add-i c = omega arith
 
 loop-less : tie.Need-loop-less Inv-loop μ-loop
 loop-less c = omega arith
@@ -39,13 +39,13 @@ loop-again : tie.Need-loop-again Inv-loop μ-loop
 loop-again c =
     let l = c .before .before .before in
     let s = l .before in
-    (l .loop .inv .0 ∙ passed (s .args .ids .now) (s .args .count) (l .loop .i) (s .args .id) (c .before .before .loop-test .taken) (omega (arith, s .pre .1, s .pre .2)) (c .if1 .left), omega arith)
+    (l .loop .inv .0 ∙ passed (s .args .ids .now) (s .args .count) (l .loop .i) (s .args .id) (c .before .before .loop-test .taken) (omega arith) (c .if1 .left), omega arith)
 
 returns-2 : tie.Need-returns-2 Inv-loop μ-loop
 returns-2 c =
     let l = c .before in
     let s = l .before in
-    (missing (s .args .ids .now) (s .args .count) (l .loop .i) (s .args .id) (c .loop-test .left) (omega (arith, s .pre .1, s .pre .2)) ∙ sym (l .loop .inv .0), l .loop .inv .1)
+    (missing (s .args .ids .now) (s .args .count) (l .loop .i) (s .args .id) (c .loop-test .left) (omega arith) ∙ sym (l .loop .inv .0), l .loop .inv .1)
 
 pub find-spec : {M : Type 1} → statement M
 find-spec =

@@ -8,7 +8,7 @@ use Rattle.chronology.proofs.kept_at.Tie as tie
 
 entry-at-requires : tie.Need-entry-at-requires
 entry-at-requires c κs =
-    let s = c .before in (omega (arith, s .pre .0, s .pre .1), s .pre .2 .of-firsts, s .pre .2 .of-lasts, s .pre .2 .of-ids)
+    let s = c .before in (omega arith, s .pre .2 .of-firsts, s .pre .2 .of-lasts, s .pre .2 .of-ids)
 
 good-days-requires : tie.Need-good-days-requires
 good-days-requires c κs = search needs
@@ -17,13 +17,13 @@ before-next-requires : tie.Need-before-next-requires
 before-next-requires c κs = let s = c .before .before .before .before in (s .pre .0, s .pre .1, s .pre .2)
 
 add-alone : tie.Need-add-alone
-add-alone c = let s = c .before .before .before .before .before .before in omega (arith, s .pre .0, s .pre .1)
+add-alone c = let s = c .before .before .before .before .before .before in omega arith
 
 alone-requires : tie.Need-alone-requires
 alone-requires c κs =
     let t = c .before .before .before in
     let s = t .before .before .before .before in
-    (omega (arith, s .pre .0), s .pre .1, s .pre .2 .of-ids, s .pre .3)
+    (omega arith, s .pre .1, s .pre .2 .of-ids, s .pre .3)
 
 returns : tie.Need-returns
 returns c =

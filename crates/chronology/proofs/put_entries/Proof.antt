@@ -24,18 +24,18 @@ loop-holds c = (refl, omega arith, refl)
 
 entry-at-requires : tie.Need-entry-at-requires Inv-loop μ-loop
 entry-at-requires c κs =
-    let s = c .before .before .before in (omega (arith, c .loop-test .taken, s .pre .0), s .pre .1 .of-firsts, s .pre .1 .of-lasts, s .pre .1 .of-ids)
+    let s = c .before .before .before in (omega arith, s .pre .1 .of-firsts, s .pre .1 .of-lasts, s .pre .1 .of-ids)
 
 mul-put-entry : tie.Need-mul-put-entry Inv-loop μ-loop
-mul-put-entry c = let t = c .before .before in omega (arith, t .loop-test .taken, t .before .before .before .pre .0)
+mul-put-entry c = let t = c .before .before in omega arith
 
 put-entry-requires : tie.Need-put-entry-requires Inv-loop μ-loop
 put-entry-requires c κs =
-    let t = c .before .before in omega (arith, t .loop-test .taken, t .before .before .before .pre .2, t .before .loop .inv .2)
+    let t = c .before .before in omega arith
 
 add-i : tie.Need-add-i Inv-loop μ-loop
 add-i c =
-    let t = c .before .before .before .before in omega (arith, t .loop-test .taken, t .before .before .before .pre .0)
+    let t = c .before .before .before .before in omega arith
 
 loop-less : tie.Need-loop-less Inv-loop μ-loop
 loop-less c = omega arith

@@ -48,7 +48,7 @@ returns c =
     let s = t .before .before in
     three-numbers (s .args .out .now) (s .args .at) (s .args .e)
     (record { of-first = record { sfits = t .struct-told .given .0 .1 }; of-last = record { sfits = b .struct-told2 .given .1 .0 .1 } })
-    (omega (arith, c .struct-known3 .given .1 .1 .0))
+    (omega arith)
 
 pub put-entry-spec : {M : Type 1} → statement M
 put-entry-spec =

@@ -24,7 +24,7 @@ loop-holds c = (sym (zero-add _), omega arith)
 
 entry-at-requires : tie.Need-entry-at-requires Inv-loop μ-loop
 entry-at-requires c κs =
-    (omega (arith, c .loop-test .taken, c .before .before .before .pre .0), c .before .before .before .pre .1 .of-firsts, c .before .before .before .pre .1 .of-lasts, c .before .before .before .pre .1 .of-ids)
+    (omega arith, c .before .before .before .pre .1 .of-firsts, c .before .before .before .pre .1 .of-lasts, c .before .before .before .pre .1 .of-ids)
 
 precedes-requires : tie.Need-precedes-requires Inv-loop μ-loop
 precedes-requires c κs = search needs
@@ -39,7 +39,7 @@ returns c =
 
 add-i : tie.Need-add-i Inv-loop μ-loop
 add-i c =
-    omega (arith, c .before .before .before .loop-test .taken, c .before .before .before .before .before .before .pre .0)
+    omega arith
 
 loop-less : tie.Need-loop-less Inv-loop μ-loop
 loop-less c = omega arith

@@ -24,72 +24,55 @@ loop-holds c =
     (omega arith, c .pre .0, (begun (pos 0) (c .args .firsts .now) (c .args .at), refl), (begun (pos 0) (c .args .lasts .now) (c .args .at), refl), (begun 0 (c .args .ids .now) (c .args .at), refl))
 
 add-loop : tie.Need-add-loop Inv-loop μ-loop
-add-loop c =
-    omega (arith, c .loop .inv .0, c .loop .inv .1, c .loop .inv .2 .1, c .loop .inv .3 .1, c .loop .inv .4 .1, c .before .pre .1, c .before .pre .2, c .before .pre .3, c .before .pre .4)
+add-loop c = omega arith
 
 add-firsts : tie.Need-add-firsts Inv-loop μ-loop
-add-firsts c =
-    omega (arith, c .before .loop .inv .0, c .before .loop .inv .1, c .before .loop .inv .2 .1, c .before .loop .inv .3 .1, c .before .loop .inv .4 .1, c .before .before .pre .1, c .before .before .pre .2, c .before .before .pre .3, c .before .before .pre .4, c .loop-test .taken)
+add-firsts c = omega arith
 
 mul-firsts : tie.Need-mul-firsts Inv-loop μ-loop
-mul-firsts c =
-    omega (arith, c .before .loop .inv .0, c .before .loop .inv .1, c .before .loop .inv .2 .1, c .before .loop .inv .3 .1, c .before .loop .inv .4 .1, c .before .before .pre .1, c .before .before .pre .2, c .before .before .pre .3, c .before .before .pre .4, c .loop-test .taken)
+mul-firsts c = omega arith
 
 slice-copy-out-firsts : tie.Need-slice-copy-out-firsts Inv-loop μ-loop
-slice-copy-out-firsts c =
-    omega (arith, c .before .loop .inv .0, c .before .loop .inv .1, c .before .loop .inv .2 .1, c .before .loop .inv .3 .1, c .before .loop .inv .4 .1, c .before .before .pre .1, c .before .before .pre .2, c .before .before .pre .3, c .before .before .pre .4, c .loop-test .taken)
+slice-copy-out-firsts c = omega arith
 
 mul-lasts : tie.Need-mul-lasts Inv-loop μ-loop
-mul-lasts c =
-    omega (arith, c .before .before .loop .inv .0, c .before .before .loop .inv .1, c .before .before .loop .inv .2 .1, c .before .before .loop .inv .3 .1, c .before .before .loop .inv .4 .1, c .before .before .before .pre .1, c .before .before .before .pre .2, c .before .before .before .pre .3, c .before .before .before .pre .4, c .before .loop-test .taken)
+mul-lasts c = omega arith
 
 slice-set-from-lasts : tie.Need-slice-set-from-lasts Inv-loop μ-loop
-slice-set-from-lasts c =
-    omega (arith, c .before .before .loop .inv .0, c .before .before .loop .inv .1, c .before .before .loop .inv .2 .1, c .before .before .loop .inv .3 .1, c .before .before .loop .inv .4 .1, c .before .before .before .pre .1, c .before .before .before .pre .2, c .before .before .before .pre .3, c .before .before .before .pre .4, c .before .loop-test .taken)
+slice-set-from-lasts c = omega arith
 
 add-lasts : tie.Need-add-lasts Inv-loop μ-loop
-add-lasts c =
-    omega (arith, c .before .before .loop .inv .0, c .before .before .loop .inv .1, c .before .before .loop .inv .2 .1, c .before .before .loop .inv .3 .1, c .before .before .loop .inv .4 .1, c .before .before .before .pre .1, c .before .before .before .pre .2, c .before .before .before .pre .3, c .before .before .before .pre .4, c .before .loop-test .taken)
+add-lasts c = omega arith
 
 mul-lasts-2 : tie.Need-mul-lasts-2 Inv-loop μ-loop
-mul-lasts-2 c =
-    omega (arith, c .before .before .loop .inv .0, c .before .before .loop .inv .1, c .before .before .loop .inv .2 .1, c .before .before .loop .inv .3 .1, c .before .before .loop .inv .4 .1, c .before .before .before .pre .1, c .before .before .before .pre .2, c .before .before .before .pre .3, c .before .before .before .pre .4, c .before .loop-test .taken)
+mul-lasts-2 c = omega arith
 
 slice-copy-out-lasts : tie.Need-slice-copy-out-lasts Inv-loop μ-loop
-slice-copy-out-lasts c =
-    omega (arith, c .before .before .loop .inv .0, c .before .before .loop .inv .1, c .before .before .loop .inv .2 .1, c .before .before .loop .inv .3 .1, c .before .before .loop .inv .4 .1, c .before .before .before .pre .1, c .before .before .before .pre .2, c .before .before .before .pre .3, c .before .before .before .pre .4, c .before .loop-test .taken)
+slice-copy-out-lasts c = omega arith
 
 mul-t9 : tie.Need-mul-t9 Inv-loop μ-loop
-mul-t9 c =
-    omega (arith, c .before .before .before .loop .inv .0, c .before .before .before .loop .inv .1, c .before .before .before .loop .inv .2 .1, c .before .before .before .loop .inv .3 .1, c .before .before .before .loop .inv .4 .1, c .before .before .before .before .pre .1, c .before .before .before .before .pre .2, c .before .before .before .before .pre .3, c .before .before .before .before .pre .4, c .before .before .loop-test .taken)
+mul-t9 c = omega arith
 
 slice-set-from-lasts-2 : tie.Need-slice-set-from-lasts-2 Inv-loop μ-loop
-slice-set-from-lasts-2 c =
-    omega (arith, c .before .before .before .loop .inv .0, c .before .before .before .loop .inv .1, c .before .before .before .loop .inv .2 .1, c .before .before .before .loop .inv .3 .1, c .before .before .before .loop .inv .4 .1, c .before .before .before .before .pre .1, c .before .before .before .before .pre .2, c .before .before .before .before .pre .3, c .before .before .before .before .pre .4, c .before .before .loop-test .taken)
+slice-set-from-lasts-2 c = omega arith
 
 add-ids : tie.Need-add-ids Inv-loop μ-loop
-add-ids c =
-    omega (arith, c .before .before .before .loop .inv .0, c .before .before .before .loop .inv .1, c .before .before .before .loop .inv .2 .1, c .before .before .before .loop .inv .3 .1, c .before .before .before .loop .inv .4 .1, c .before .before .before .before .pre .1, c .before .before .before .before .pre .2, c .before .before .before .before .pre .3, c .before .before .before .before .pre .4, c .before .before .loop-test .taken)
+add-ids c = omega arith
 
 mul-ids : tie.Need-mul-ids Inv-loop μ-loop
-mul-ids c =
-    omega (arith, c .before .before .before .loop .inv .0, c .before .before .before .loop .inv .1, c .before .before .before .loop .inv .2 .1, c .before .before .before .loop .inv .3 .1, c .before .before .before .loop .inv .4 .1, c .before .before .before .before .pre .1, c .before .before .before .before .pre .2, c .before .before .before .before .pre .3, c .before .before .before .before .pre .4, c .before .before .loop-test .taken)
+mul-ids c = omega arith
 
 slice-read-ids : tie.Need-slice-read-ids Inv-loop μ-loop
-slice-read-ids c =
-    omega (arith, c .before .before .before .before .loop .inv .0, c .before .before .before .before .loop .inv .1, c .before .before .before .before .loop .inv .2 .1, c .before .before .before .before .loop .inv .3 .1, c .before .before .before .before .loop .inv .4 .1, c .before .before .before .before .before .pre .1, c .before .before .before .before .before .pre .2, c .before .before .before .before .before .pre .3, c .before .before .before .before .before .pre .4, c .before .before .before .loop-test .taken)
+slice-read-ids c = omega arith
 
 mul-ids-2 : tie.Need-mul-ids-2 Inv-loop μ-loop
-mul-ids-2 c =
-    omega (arith, c .before .before .before .before .loop .inv .0, c .before .before .before .before .loop .inv .1, c .before .before .before .before .loop .inv .2 .1, c .before .before .before .before .loop .inv .3 .1, c .before .before .before .before .loop .inv .4 .1, c .before .before .before .before .before .pre .1, c .before .before .before .before .before .pre .2, c .before .before .before .before .before .pre .3, c .before .before .before .before .before .pre .4, c .before .before .before .loop-test .taken)
+mul-ids-2 c = omega arith
 
 slice-write-ids : tie.Need-slice-write-ids Inv-loop μ-loop
-slice-write-ids c =
-    omega (arith, c .before .before .before .before .loop .inv .0, c .before .before .before .before .loop .inv .1, c .before .before .before .before .loop .inv .2 .1, c .before .before .before .before .loop .inv .3 .1, c .before .before .before .before .loop .inv .4 .1, c .before .before .before .before .before .pre .1, c .before .before .before .before .before .pre .2, c .before .before .before .before .before .pre .3, c .before .before .before .before .before .pre .4, c .before .before .before .loop-test .taken)
+slice-write-ids c = omega arith
 
 add-i : tie.Need-add-i Inv-loop μ-loop
-add-i c =
-    omega (arith, c .before .before .before .before .loop .inv .0, c .before .before .before .before .loop .inv .1, c .before .before .before .before .loop .inv .2 .1, c .before .before .before .before .loop .inv .3 .1, c .before .before .before .before .loop .inv .4 .1, c .before .before .before .before .before .pre .1, c .before .before .before .before .before .pre .2, c .before .before .before .before .before .pre .3, c .before .before .before .before .before .pre .4, c .before .before .before .loop-test .taken)
+add-i c = omega arith
 
 loop-less : tie.Need-loop-less Inv-loop μ-loop
 loop-less c = omega arith
@@ -105,9 +88,9 @@ loop-again c =
     let g = c .before .before .before .loop-test .taken in (
       omega arith,
       omega arith,
-      (lowered (pos 0) (s .args .firsts .now) at n i h g (omega (arith, s .pre .1, s .pre .2)) (toZ-ofZ w32 _ (record { sfits = c .before .before .firsts .given })) (l .loop .inv .2 .0), length-set (l .loop .firsts) _ _ ∙ l .loop .inv .2 .1),
-      (lowered (pos 0) (s .args .lasts .now) at n i h g (omega (arith, s .pre .1, s .pre .3)) (toZ-ofZ w32 _ (record { sfits = c .before .lasts .given })) (l .loop .inv .3 .0), length-set (l .loop .lasts) _ _ ∙ l .loop .inv .3 .1),
-      (lowered 0 (s .args .ids .now) at n i h g (omega (arith, s .pre .1, s .pre .4)) refl (l .loop .inv .4 .0), length-set (l .loop .ids) _ _ ∙ l .loop .inv .4 .1),
+      (lowered (pos 0) (s .args .firsts .now) at n i h g (omega arith) (toZ-ofZ w32 _ (record { sfits = c .before .before .firsts .given })) (l .loop .inv .2 .0), length-set (l .loop .firsts) _ _ ∙ l .loop .inv .2 .1),
+      (lowered (pos 0) (s .args .lasts .now) at n i h g (omega arith) (toZ-ofZ w32 _ (record { sfits = c .before .lasts .given })) (l .loop .inv .3 .0), length-set (l .loop .lasts) _ _ ∙ l .loop .inv .3 .1),
+      (lowered 0 (s .args .ids .now) at n i h g (omega arith) refl (l .loop .inv .4 .0), length-set (l .loop .ids) _ _ ∙ l .loop .inv .4 .1),
     )
 
 same-length : tie.Need-same-length Inv-loop μ-loop
@@ -123,7 +106,7 @@ returns : tie.Need-returns Inv-loop μ-loop
 returns c =
     let l = c .before in
     let s = l .before in
-    let e : l .loop .i + 1 ≡ s .args .n = omega (arith, l .loop .inv .1, c .loop-test .left) in (
+    let e : l .loop .i + 1 ≡ s .args .n = omega arith in (
       l .loop .inv .2 .0 ∙ ap (λ (k : ℕ). removed (s .args .firsts .now) k (s .args .at)) e,
       l .loop .inv .3 .0 ∙ ap (λ (k : ℕ). removed (s .args .lasts .now) k (s .args .at)) e,
       l .loop .inv .4 .0 ∙ ap (λ (k : ℕ). removed (s .args .ids .now) k (s .args .at)) e,

@@ -23,7 +23,7 @@ loop-holds c = (sym (zero-add _), omega arith)
 
 entry-at-requires : tie.Need-entry-at-requires Inv-loop μ-loop
 entry-at-requires c κs =
-    (omega (arith, c .loop-test .taken, c .before .before .before .pre .0), c .before .before .before .pre .1 .of-firsts, c .before .before .before .pre .1 .of-lasts, c .before .before .before .pre .1 .of-ids)
+    (omega arith, c .before .before .before .pre .1 .of-firsts, c .before .before .before .pre .1 .of-lasts, c .before .before .before .pre .1 .of-ids)
 
 stops-requires : tie.Need-stops-requires Inv-loop μ-loop
 stops-requires c κs = search needs
@@ -38,7 +38,7 @@ returns c =
 
 add-i : tie.Need-add-i Inv-loop μ-loop
 add-i c =
-    omega (arith, c .before .before .before .loop-test .taken, c .before .before .before .before .before .before .pre .0)
+    omega arith
 
 loop-less : tie.Need-loop-less Inv-loop μ-loop
 loop-less c = omega arith

@@ -11,13 +11,13 @@ stop-at-requires c κs = search needs
 
 entry-at-requires : tie.Need-entry-at-requires
 entry-at-requires c κs =
-    let s = c .before .before .before .before in (omega (arith, c .if1 .taken, s .pre .0), s .pre .1 .of-firsts, s .pre .1 .of-lasts, s .pre .1 .of-ids)
+    let s = c .before .before .before .before in (omega arith, s .pre .1 .of-firsts, s .pre .1 .of-lasts, s .pre .1 .of-ids)
 
 touches-requires : tie.Need-touches-requires
 touches-requires c κs = search needs
 
 add-t11 : tie.Need-add-t11
-add-t11 c = let t = c .before .before in omega (arith, t .if1 .taken, t .before .before .before .before .pre .0)
+add-t11 c = let t = c .before .before in omega arith
 
 returns : tie.Need-returns
 returns c =

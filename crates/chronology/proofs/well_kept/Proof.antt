@@ -34,7 +34,7 @@ kept-at-requires : tie.Need-kept-at-requires Inv-loop μ-loop
 kept-at-requires c κs =
     let l = c .before .before in
     let s = l .before .before .before in
-    (omega (arith, l .loop .inv .3, c .before .loop-test .taken), s .pre .0, s .pre .1, marked-here _ (room _ (s .pre .1) (s .pre .0)) (l .loop .marks) (l .loop .i) (c .before .loop-test .taken) (l .loop .inv .3) (l .loop .inv .1))
+    (omega arith, s .pre .0, s .pre .1, marked-here _ (room _ (s .pre .1) (s .pre .0)) (l .loop .marks) (l .loop .i) (c .before .loop-test .taken) (l .loop .inv .3) (l .loop .inv .1))
 
 returns : tie.Need-returns Inv-loop μ-loop
 returns c =
@@ -44,14 +44,14 @@ returns c =
     pass-stops _ (room _ (s .pre .1) (s .pre .0)) (l .loop .marks) (l .loop .i) (t .loop-test .taken) (l .loop .inv .3) (sym (c .before .kept-at .ensures) ∙ not-true _ (c .if1 .taken))
 
 mul-id : tie.Need-mul-id Inv-loop μ-loop
-mul-id c = let l = c .before .before .before .before in omega (arith, l .loop .inv .3, l .before .before .before .pre .0)
+mul-id c = let l = c .before .before .before .before in omega arith
 
 shared-slice-read-id : tie.Need-shared-slice-read-id Inv-loop μ-loop
 shared-slice-read-id c =
     let t = c .before .before .before .before in
     let l = t .before in
     let s = l .before .before .before in
-    omega (arith, t .loop-test .taken, l .loop .inv .3, s .pre .0, s .pre .1 .of-ids)
+    omega arith
 
 mark-of-requires : tie.Need-mark-of-requires Inv-loop μ-loop
 mark-of-requires c κs = search needs
@@ -72,15 +72,15 @@ loop-again c =
     let h = t .loop-test .taken in
     let at = c .mark-of .ensures in (
       pass-goes _ r (l .loop .marks) (l .loop .i) h (l .loop .inv .3) (sym (b .kept-at .ensures) ∙ not-false _ (c .before .before .if1 .left)) (l .loop .inv .0),
-      pass-marks _ r (l .loop .marks) (l .loop .i) h (l .loop .inv .3) (at .0) (omega (arith, at .1, l .loop .inv .2)) (l .loop .inv .1),
+      pass-marks _ r (l .loop .marks) (l .loop .i) h (l .loop .inv .3) (at .0) (omega arith) (l .loop .inv .1),
       length-set (l .loop .marks) _ _ ∙ l .loop .inv .2,
-      omega (arith, l .loop .inv .3),
+      omega arith,
     )
 
 returns-2 : tie.Need-returns-2 Inv-loop μ-loop
 returns-2 c =
     let l = c .before in
-    let z : l .loop .i ≡ 0 = omega (arith, c .loop-test .left) in
+    let z : l .loop .i ≡ 0 = omega arith in
     sym (rw z at (l .loop .inv .0))
 
 pub well-kept-spec : {M : Type 1} → statement M
