@@ -71,7 +71,7 @@ static int stays(const char *text)
 /* Whether one reader refuses a text so, with no place and no date. */
 static int refuses(knobstream_answer a, unsigned refusal)
 {
-    static const knobstream_date none;
+    static knobstream_date none; /* all zeros */
     return a.refusal == refusal && a.start == 0 && a.end == 0 && memcmp(&a.date, &none, sizeof none) == 0;
 }
 
@@ -129,6 +129,88 @@ static void self_check_level_one(void)
           "one byte too few for a season");
 }
 
+/* Whether a call on a chronology answered so. */
+static int answered(knobstream_entries e, unsigned refusal, size_t entries)
+{
+    return e.refusal == refusal && e.entries == entries;
+}
+
+/* Whether the question was answered so. */
+static int told(knobstream_reply r, unsigned refusal, unsigned found, size_t read)
+{
+    return r.refusal == refusal && r.found == found && r.read == read;
+}
+
+static void self_check_chronology(void)
+{
+    static knobstream_chronology c, before;
+    static int64_t out[KNOBSTREAM_LIST_ROOM];
+    check(answered(knobstream_chronology_count(&c), KNOBSTREAM_OK, 0), "zeros are an empty chronology");
+    check(told(knobstream_chronology_any_dated(&c, 0, 0), KNOBSTREAM_OK, 0, 0), "nothing is dated in it");
+    /* 2000-01-01 is day 730485 */
+    check(answered(knobstream_chronology_add(&c, 730485, 730850, 7), 0, 1)
+              && answered(knobstream_chronology_add(&c, -5, -1, 4000000000u), 0, 2)
+              && answered(knobstream_chronology_add(&c, 730485, 730485, 9), 0, 3),
+          "three entries are added");
+    check(answered(knobstream_chronology_list(&c, out, 9), 0, 3), "just enough room for the list");
+    static const int64_t list[9] = { -5, -1, 4000000000, 730485, 730485, 9, 730485, 730850, 7 };
+    check(memcmp(out, list, sizeof list) == 0 && out[9] == 0, "the list is in order");
+
+    before = c;
+    memset(out, 0, sizeof out);
+    check(answered(knobstream_chronology_list(&c, out, 8), KNOBSTREAM_NO_ROOM, 0) && out[0] == 0, "no room for the list");
+    check(answered(knobstream_chronology_list(&c, NULL, 0), KNOBSTREAM_NO_ROOM, 0), "no room, by a null pointer");
+    check(answered(knobstream_chronology_add(&c, 1, 0, 7), KNOBSTREAM_BAD_PERIOD, 0)
+              && answered(knobstream_chronology_add(&c, 0, 3652425, 8), KNOBSTREAM_BAD_PERIOD, 0)
+              && answered(knobstream_chronology_add(&c, -3652060, 0, 8), KNOBSTREAM_BAD_PERIOD, 0),
+          "bad periods");
+    check(answered(knobstream_chronology_add(&c, 0, 0, 7), KNOBSTREAM_DUPLICATE_ENTRY, 0), "an identifier twice");
+    check(answered(knobstream_chronology_remove(&c, 8), KNOBSTREAM_UNKNOWN_ENTRY, 0), "an unknown identifier");
+    check(memcmp(&c, &before, sizeof c) == 0, "a refusal changes nothing");
+
+    check(told(knobstream_chronology_any_dated(&c, -9, -5), 0, 1, 1), "the first entry touches");
+    check(told(knobstream_chronology_any_dated(&c, 0, 730484), 0, 0, 2), "the second begins after");
+    check(told(knobstream_chronology_any_dated(&c, 730486, 730486), 0, 1, 3), "the third touches");
+    check(told(knobstream_chronology_any_dated(&c, 730851, 730851), 0, 0, 3), "none touches");
+    check(told(knobstream_chronology_any_dated(&c, 1, 0), KNOBSTREAM_BAD_PERIOD, 0, 0), "no period is asked about");
+
+    check(answered(knobstream_chronology_remove(&c, 4000000000u), 0, 2)
+              && answered(knobstream_chronology_count(&c), 0, 2) && c.ids[0] == 9 && c.ids[1] == 7,
+          "an entry is removed");
+
+    /* full, and room that was freed is used again */
+    c.count = 0;
+    int all = 1;
+    for (uint32_t i = 0; i < KNOBSTREAM_ENTRIES; i++)
+        all &= answered(knobstream_chronology_add(&c, -(int32_t)i, (int32_t)i, i), 0, i + 1);
+    check(all, "512 entries are added");
+    check(answered(knobstream_chronology_add(&c, 0, 0, 512), KNOBSTREAM_CHRONOLOGY_FULL, 0)
+              && answered(knobstream_chronology_add(&c, 0, 0, 511), KNOBSTREAM_DUPLICATE_ENTRY, 0),
+          "there is no room for more");
+    check(answered(knobstream_chronology_list(&c, out, KNOBSTREAM_LIST_ROOM), 0, 512) && out[0] == -511 && out[1] == 511
+              && out[2] == 511 && out[1533] == 0,
+          "the full list");
+    check(answered(knobstream_chronology_remove(&c, 300), 0, 511)
+              && answered(knobstream_chronology_add(&c, 3, 3, 600), 0, 512),
+          "room is used again");
+
+    /* what is no chronology */
+    before = c;
+    c.ids[1] = c.ids[0];
+    check(answered(knobstream_chronology_count(&c), KNOBSTREAM_BAD_CHRONOLOGY, 0), "an identifier twice in the store");
+    c = before;
+    c.firsts[511] = c.firsts[0];
+    check(answered(knobstream_chronology_list(&c, out, KNOBSTREAM_LIST_ROOM), KNOBSTREAM_BAD_CHRONOLOGY, 0), "out of order");
+    c = before;
+    c.lasts[0] = c.firsts[0] - 1;
+    check(told(knobstream_chronology_any_dated(&c, 1, 0), KNOBSTREAM_BAD_CHRONOLOGY, 0, 0), "a bad period in the store");
+    c = before;
+    c.count = 513;
+    check(answered(knobstream_chronology_add(&c, 1, 0, 0), KNOBSTREAM_BAD_CHRONOLOGY, 0)
+              && answered(knobstream_chronology_remove(&c, 0), KNOBSTREAM_BAD_CHRONOLOGY, 0) && c.count == 513,
+          "a count of 513");
+}
+
 static void self_check(void)
 {
     check(knobstream_version() == KNOBSTREAM_VERSION, "the library is that of the header");
@@ -148,12 +230,13 @@ static void self_check(void)
     knobstream_parse((const uint8_t *)"2000/1900-02-29", 15, at_100, 4, &a);
     check(a.refusal == KNOBSTREAM_DAY_OUT_OF_RANGE && a.start == 105 && a.end == 115, "the second half's place");
 
-    knobstream_parse_strict((const uint8_t *)"49", 2, (const uint64_t[4]){ 0, 2, 0, 2 }, 4, &a);
+    const uint64_t two[4] = { KNOBSTREAM_NORMAL, 2, 0, 2 };
+    knobstream_parse_strict((const uint8_t *)"49", 2, two, 4, &a);
     check(a.refusal == KNOBSTREAM_NOT_STRICT && a.start == 0 && a.end == 0, "49 is not strict");
 
     knobstream_parse(NULL, 0, NULL, 0, &a);
     check(a.refusal == KNOBSTREAM_INVALID_FORMAT, "the empty list, by null pointers");
-    knobstream_parse(NULL, 0, (const uint64_t[3]){ 0, 0, 0 }, 3, &a);
+    knobstream_parse(NULL, 0, two, 3, &a);
     check(a.refusal == KNOBSTREAM_BAD_CHUNKS, "a table of three numbers");
 
     const uint64_t four[4] = { KNOBSTREAM_NORMAL, 4, 0, 4 }, three[4] = { KNOBSTREAM_NORMAL, 3, 5, 8 },
@@ -187,6 +270,7 @@ static void self_check(void)
     check(w.refusal == KNOBSTREAM_RUST_PANICS && w.length == 0, "month 255 has no length");
 
     self_check_level_one();
+    self_check_chronology();
 
     const knobstream_datetime year = read_text("2000").date.first, month = read_text("2000-02").date.first,
                               later = read_text("2000-03").date.first;

@@ -1,23 +1,24 @@
-/* Reads, writes and compares the dates of bibliographies. The functions are
- * in libknobstream.a, for x86-64 and Arm (aarch64) Linux; their contracts are
- * in crates/knobstream/src/lib.rt, and each is proved.
+/* Reads, writes and compares the dates of bibliographies, and keeps a
+ * chronology of entries. The functions are in libknobstream.a, for x86-64 and
+ * Arm (aarch64) Linux; their contracts are in crates/knobstream/src/, and each
+ * is proved.
  *
  * What is lent. A slice is a pointer and a number of elements. It is lent for
- * the one call: nothing of it is kept, and nothing but `out` and `answer` is
- * stored to. An empty slice may have any pointer, NULL too. A struct of at most
+ * the one call: nothing of it is kept, and nothing but `out`, `answer` and a
+ * chronology that is added to or removed from is stored to. An empty slice may have any pointer, NULL too. A struct of at most
  * 16 bytes goes in or comes out by value; an answer is stored into a struct
  * that is lent, every byte of it, so that it need not have values before.
  *
  * No call allocates, keeps state, takes a lock or traps: every number and
- * every byte has an answer. A call uses at most 8,192 bytes of stack, the one
- * that answers a frame at most 65,536; this is measured, not proved. Calls may
- * run at once in any number of threads, if no two of them have the same `out`
- * or `answer`.
+ * every byte has an answer. A call uses at most 8,192 bytes of stack, one on a
+ * chronology at most 16,384, the one that answers a frame at most 65,536; this
+ * is measured, not proved. Calls may run at once in any number of threads, if
+ * nothing that one of them stores to is lent to another.
  *
- * What the caller owes: a pointer that is readable (for `out` and `answer`
- * writable) for as many elements as are said, `answer` never NULL; a table that
- * is aligned as uint64_t is; an `out` or `answer` that overlaps nothing else
- * that is lent; and for a struct that goes in members that have values.
+ * What the caller owes: a pointer that is readable (writable for what is stored
+ * to) for as many elements as are said, `answer`, a count and a column never
+ * NULL; each aligned as its type is; what is stored to overlaps nothing else
+ * that is lent; and what goes in has values, all 512 numbers of a column too.
  */
 #ifndef KNOBSTREAM_H
 #define KNOBSTREAM_H
@@ -31,11 +32,11 @@ extern "C" {
 
 /* The version of the calls and structs below, and of those in the library: a
  * program that finds them different was made for another library. */
-enum { KNOBSTREAM_VERSION = 3 };
+enum { KNOBSTREAM_VERSION = 4 };
 uint32_t knobstream_version(void);
 
-/* Why a call refuses. 0 is no refusal. Those from 17 to 22, and 25 and 26, are
- * of calls in Rattle that this library does not have yet. */
+/* Why a call refuses. 0 is no refusal. 17, 22 and 25 are of calls in Rattle that
+ * this library does not have yet. */
 enum {
     KNOBSTREAM_OK = 0,
     KNOBSTREAM_UNDEFINED_RANGE = 1,       /* a range that is open on both sides */
@@ -103,7 +104,9 @@ static inline const char *knobstream_refusal_name(unsigned refusal)
 
 /* The limits of a chunk list, the room that every written text, all written
  * fields, every text of level one and every answer to a frame have enough of,
- * and the stack that a call uses at most, and the one that answers a frame. */
+ * the entries that a chronology has room for, the numbers that every list of
+ * them has enough of, and the stack that a call uses at most, one on a
+ * chronology, and the one that answers a frame. */
 enum {
     KNOBSTREAM_MAX_CHUNKS = 64,
     KNOBSTREAM_MAX_BYTES = 4096,
@@ -111,7 +114,10 @@ enum {
     KNOBSTREAM_FIELDS_ROOM = 79,
     KNOBSTREAM_LEVEL_ONE_ROOM = 42,
     KNOBSTREAM_LINE_ROOM = 147,
+    KNOBSTREAM_ENTRIES = 512,
+    KNOBSTREAM_LIST_ROOM = 1536,
     KNOBSTREAM_STACK = 8192,
+    KNOBSTREAM_CHRONOLOGY_STACK = 16384,
     KNOBSTREAM_FRAME_STACK = 65536
 };
 
@@ -188,6 +194,35 @@ typedef struct {
     uint8_t refusal;
 } knobstream_written;
 
+/* A chronology: up to 512 entries, each with an identifier and its days from a
+ * first to a last, in list order: by first day, last day, identifier. Day 0 is
+ * 0000-01-01; a day is one of the years -9999 to 9999, from -3652059 to 3652424.
+ * The caller keeps it. One that is all zeros is empty, and one is emptied by the
+ * count 0: what stands behind the count is no entry, but must have values. */
+typedef struct {
+    size_t count;
+    int32_t firsts[KNOBSTREAM_ENTRIES];
+    int32_t lasts[KNOBSTREAM_ENTRIES];
+    uint32_t ids[KNOBSTREAM_ENTRIES];
+} knobstream_chronology;
+
+/* What a call on a chronology answers. If `refusal` is 0, `entries` is how many
+ * there are now, or were listed; else it is 0, and nothing was changed or
+ * stored. */
+typedef struct {
+    size_t entries;
+    uint8_t refusal;
+} knobstream_entries;
+
+/* Whether anything is dated in a period. If `refusal` is 0, `found` is 1 if an
+ * entry has a day in common with it and else 0, and `read` is how many entries
+ * were read to tell; else both are 0. */
+typedef struct {
+    size_t read;
+    uint8_t found;
+    uint8_t refusal;
+} knobstream_reply;
+
 /* The layout, of which the contracts speak: an answer is seven words of eight
  * bytes, the lowest first, and a datetime two of them. */
 #if defined __BYTE_ORDER__ && __BYTE_ORDER__ != __ORDER_LITTLE_ENDIAN__
@@ -205,6 +240,9 @@ KNOBSTREAM_HOLDS(sizeof(knobstream_date) == 36 && offsetof(knobstream_date, seco
 KNOBSTREAM_HOLDS(offsetof(knobstream_date, shape) == 32 && offsetof(knobstream_date, approximate) == 34);
 KNOBSTREAM_HOLDS(sizeof(knobstream_answer) == 56 && offsetof(knobstream_answer, date) == 16);
 KNOBSTREAM_HOLDS(offsetof(knobstream_answer, refusal) == 52 && sizeof(knobstream_written) == 16);
+KNOBSTREAM_HOLDS(sizeof(knobstream_chronology) == 6152 && offsetof(knobstream_chronology, ids) == 4104);
+KNOBSTREAM_HOLDS(sizeof(knobstream_entries) == 16 && sizeof(knobstream_reply) == 16);
+KNOBSTREAM_HOLDS(offsetof(knobstream_reply, found) == 8 && offsetof(knobstream_reply, refusal) == 9);
 #undef KNOBSTREAM_HOLDS
 #endif
 
@@ -329,6 +367,68 @@ int32_t knobstream_compare(knobstream_datetime first, knobstream_datetime second
 knobstream_written knobstream_answer_frame(
     const uint8_t *line, size_t line_len,
     uint8_t *out, size_t out_len);
+
+/* The calls on a chronology, on its count and its three columns of
+ * KNOBSTREAM_ENTRIES numbers. Each first refuses with BadChronology what is none:
+ * a count above 512, entries out of list order, an identifier twice, days that
+ * are no period. A period is days of those years, the last not before the
+ * first. */
+
+/* Adds an entry. Refuses BadPeriod, then DuplicateEntry, then ChronologyFull. */
+knobstream_entries knobstream_add_entry(
+    size_t *count, int32_t *firsts, int32_t *lasts, uint32_t *ids,
+    int32_t first, int32_t last, uint32_t id);
+
+/* Removes the entry of an identifier. Refuses UnknownEntry. */
+knobstream_entries knobstream_remove_entry(
+    size_t *count, int32_t *firsts, int32_t *lasts, uint32_t *ids,
+    uint32_t id);
+
+/* How many entries there are. */
+knobstream_entries knobstream_count_entries(
+    const size_t *count, const int32_t *firsts, const int32_t *lasts, const uint32_t *ids);
+
+/* The entries in list order at the front of `out`, three numbers each: first
+ * day, last day, identifier. Refuses NoRoom below three numbers an entry. */
+knobstream_entries knobstream_list_entries(
+    const size_t *count, const int32_t *firsts, const int32_t *lasts, const uint32_t *ids,
+    int64_t *out, size_t out_len);
+
+/* Whether anything is dated in a period. The entries are read in list order up
+ * to the first that touches the period or begins after it, or all of them.
+ * Refuses BadPeriod. */
+knobstream_reply knobstream_any_dated(
+    const size_t *count, const int32_t *firsts, const int32_t *lasts, const uint32_t *ids,
+    int32_t first, int32_t last);
+
+/* The same of a chronology as a struct. */
+static inline knobstream_entries knobstream_chronology_add(
+    knobstream_chronology *c, int32_t first, int32_t last, uint32_t id)
+{
+    return knobstream_add_entry(&c->count, c->firsts, c->lasts, c->ids, first, last, id);
+}
+
+static inline knobstream_entries knobstream_chronology_remove(knobstream_chronology *c, uint32_t id)
+{
+    return knobstream_remove_entry(&c->count, c->firsts, c->lasts, c->ids, id);
+}
+
+static inline knobstream_entries knobstream_chronology_count(const knobstream_chronology *c)
+{
+    return knobstream_count_entries(&c->count, c->firsts, c->lasts, c->ids);
+}
+
+static inline knobstream_entries knobstream_chronology_list(
+    const knobstream_chronology *c, int64_t *out, size_t out_len)
+{
+    return knobstream_list_entries(&c->count, c->firsts, c->lasts, c->ids, out, out_len);
+}
+
+static inline knobstream_reply knobstream_chronology_any_dated(
+    const knobstream_chronology *c, int32_t first, int32_t last)
+{
+    return knobstream_any_dated(&c->count, c->firsts, c->lasts, c->ids, first, last);
+}
 
 #ifdef __cplusplus
 }

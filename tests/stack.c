@@ -28,6 +28,10 @@ static int32_t order;
 static uint8_t out[KNOBSTREAM_LINE_ROOM];
 static uint8_t line[2 * 8192];
 static size_t digits;
+static knobstream_chronology entries;
+static knobstream_entries counted;
+static knobstream_reply reply;
+static int64_t list[KNOBSTREAM_LIST_ROOM];
 
 #define LENT(l) (l).bytes, (l).length, (l).table, (l).rows
 
@@ -61,6 +65,11 @@ ON_A_THREAD(write_level_one, written = knobstream_date_level_one_text(&date, out
 ON_A_THREAD(answer_frame, written = knobstream_answer_frame(line, digits, out, sizeof out))
 ON_A_THREAD(version, order = (int32_t)knobstream_version())
 ON_A_THREAD(compare, order = knobstream_compare(date.first, date.second))
+ON_A_THREAD(add_entry, counted = knobstream_chronology_add(&entries, 0, 3652424, 1000))
+ON_A_THREAD(remove_entry, counted = knobstream_chronology_remove(&entries, 1000))
+ON_A_THREAD(count_entries, counted = knobstream_chronology_count(&entries))
+ON_A_THREAD(list_entries, counted = knobstream_chronology_list(&entries, list, KNOBSTREAM_LIST_ROOM))
+ON_A_THREAD(any_dated, reply = knobstream_chronology_any_dated(&entries, 3652424, 3652424))
 
 static struct {
     const char *name;
@@ -79,6 +88,11 @@ static struct {
     { "knobstream_write_level_one", write_level_one, KNOBSTREAM_STACK, 0 },
     { "knobstream_compare", compare, KNOBSTREAM_STACK, 0 },
     { "knobstream_answer_frame", answer_frame, KNOBSTREAM_FRAME_STACK, 0 },
+    { "knobstream_add_entry", add_entry, KNOBSTREAM_CHRONOLOGY_STACK, 0 },
+    { "knobstream_remove_entry", remove_entry, KNOBSTREAM_CHRONOLOGY_STACK, 0 },
+    { "knobstream_count_entries", count_entries, KNOBSTREAM_CHRONOLOGY_STACK, 0 },
+    { "knobstream_list_entries", list_entries, KNOBSTREAM_CHRONOLOGY_STACK, 0 },
+    { "knobstream_any_dated", any_dated, KNOBSTREAM_CHRONOLOGY_STACK, 0 },
 };
 
 #define COUNT(array) (sizeof(array) / sizeof *(array))
@@ -200,6 +214,16 @@ int main(void)
     date.first.year = date.second.year = INT32_MIN;
     measure();
     date.first.season = date.second.season = KNOBSTREAM_NO_SEASON;
+    measure();
+    /* chronologies: the above were empty, or had the one entry; 511 entries, 512, and what is none. Each remainder by 8191 is that of two. */
+    for (entries.count = 0; entries.count < KNOBSTREAM_ENTRIES - 1; entries.count++) {
+        const uint32_t i = (uint32_t)entries.count;
+        entries.firsts[i] = (int32_t)i;
+        entries.lasts[i] = 3652424;
+        entries.ids[i] = 2000 + i / 2 + i % 2 * 8191;
+    }
+    measure();
+    entries.count = 600;
     measure();
 
     int over = 0;

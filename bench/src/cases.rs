@@ -417,6 +417,89 @@ fn compare(a: &str, b: &str) -> Case {
     }
 }
 
+/// Chronologies of so many entries, for C and for the crate: ten days from one to the next, and identifiers by their place.
+fn entries(n: usize, id: impl Fn(u32) -> u32) -> (ffi::Store, ours::Chronology) {
+    let (mut store, mut chronology) = (ffi::Store::EMPTY, ours::Chronology::new());
+    for i in 0..n as u32 {
+        let first = 700_000 + 10 * i as i32;
+        store.add(first, first + 5, id(i)).unwrap();
+        chronology.add(first..=first + 5, id(i)).unwrap();
+    }
+    (store, chronology)
+}
+
+/// The same identifiers at each run, without an order. An odd factor keeps them apart.
+fn random(i: u32) -> u32 {
+    let x = i.wrapping_mul(2654435769).wrapping_add(7);
+    let x = (x ^ (x >> 15)).wrapping_mul(2246822519);
+    (x ^ (x >> 13)).wrapping_mul(3266489917)
+}
+
+/// Whether anything is dated behind all entries: each is read. The Rust has no chronology.
+fn any_dated(name: &str, n: usize, id: impl Fn(u32) -> u32) -> Case {
+    let (store, chronology) = keep(entries(n, id));
+    let day = 800_000;
+    Case {
+        group: "chronology",
+        name: format!("any_dated, {name}"),
+        counted: 100,
+        inputs: 1,
+        sides: [
+            Some(Box::new(move |n| times(n, || black_box(store).any_dated(day, day)))),
+            Some(Box::new(move |n| times(n, || black_box(chronology).any_dated(day..=day)))),
+            None,
+        ],
+        says: [
+            Some(Box::new(move || format!("{:?}", store.any_dated(day, day).unwrap()))),
+            Some(Box::new(move || {
+                let a = chronology.any_dated(day..=day).unwrap();
+                format!("{:?}", (a.found, a.read))
+            })),
+            None,
+        ],
+    }
+}
+
+/// An entry in the middle of 511, added and removed.
+fn add_and_remove() -> Case {
+    let (store, chronology) = keep(entries(511, |i| i));
+    let (day, id) = (702_557, 1000);
+    Case {
+        group: "chronology",
+        name: "add and remove among 511 entries".to_string(),
+        counted: 100,
+        inputs: 1,
+        sides: [
+            Some(Box::new(move |n| {
+                let mut c = store.clone();
+                for _ in 0..n {
+                    let r = (black_box(&mut c).add(day, day, id), c.remove(id));
+                    black_box(&r);
+                }
+            })),
+            Some(Box::new(move |n| {
+                let mut c = chronology.clone();
+                for _ in 0..n {
+                    let r = (black_box(&mut c).add(day..=day, id), c.remove(id));
+                    let _ = black_box(&r);
+                }
+            })),
+            None,
+        ],
+        says: [
+            Some(Box::new(move || {
+                let mut c = store.clone();
+                format!("{:?}", (c.add(day, day, id).unwrap(), c.remove(id).unwrap()))
+            })),
+            Some(Box::new(move || {
+                let mut c = chronology.clone();
+                format!("{:?}", (c.add(day..=day, id).unwrap(), c.remove(id).unwrap()))
+            })),
+            None,
+        ],
+    }
+}
+
 /// The lengths of a series: what grows with the text, and how.
 const LENGTHS: [usize; 4] = [64, 256, 1024, 4096];
 
@@ -485,5 +568,9 @@ pub fn all() -> Vec<Case> {
     all.push(compare("1999", "2000"));
     all.push(compare("2000-02-28", "2000-02-29"));
     all.push(compare("2000-02-29T10:20:30Z", "2000-02-29T12:20:30+02:00"));
+    all.push(any_dated("512 entries, serial identifiers", 512, |i| i));
+    all.push(any_dated("512 entries, random identifiers", 512, random));
+    all.push(any_dated("16 entries", 16, |i| i));
+    all.push(add_and_remove());
     all
 }

@@ -51,12 +51,44 @@ pub struct Written {
     pub refusal: u8,
 }
 
+/// How many entries a chronology has room for.
+pub const ENTRIES: usize = 512;
+
+/// A chronology. It is one at any time: it is empty at first, only the calls
+/// below change it, and by their contracts each leaves one.
+#[repr(C)]
+#[derive(Clone)]
+pub struct Store {
+    count: usize,
+    firsts: [i32; ENTRIES],
+    lasts: [i32; ENTRIES],
+    ids: [u32; ENTRIES],
+}
+
+/// What a call on a chronology answers.
+#[repr(C)]
+pub struct Entries {
+    pub entries: usize,
+    pub refusal: u8,
+}
+
+/// Whether anything is dated in a period.
+#[repr(C)]
+pub struct Reply {
+    pub read: usize,
+    pub found: u8,
+    pub refusal: u8,
+}
+
 const _: () = assert!(size_of::<Datetime>() == 16 && size_of::<Date>() == 36);
 const _: () = assert!(size_of::<Answer>() == 56 && size_of::<Written>() == 16);
 const _: () = assert!(offset_of!(Datetime, has_month) == 4 && offset_of!(Datetime, has_time) == 8);
 const _: () = assert!(offset_of!(Datetime, season) == 15);
 const _: () = assert!(offset_of!(Date, second) == 16 && offset_of!(Date, shape) == 32);
 const _: () = assert!(offset_of!(Answer, date) == 16 && offset_of!(Answer, refusal) == 52);
+const _: () = assert!(size_of::<Store>() == 6152 && offset_of!(Store, ids) == 4104);
+const _: () = assert!(size_of::<Entries>() == 16 && size_of::<Reply>() == 16);
+const _: () = assert!(offset_of!(Reply, found) == 8 && offset_of!(Reply, refusal) == 9);
 const _: () = assert!(cfg!(target_endian = "little"));
 
 /// A reader of one chunk list: its bytes and its table.
@@ -157,6 +189,45 @@ extern "C" {
         out: *mut u8,
         out_len: usize,
     ) -> Written;
+    fn knobstream_add_entry(
+        count: *mut usize,
+        firsts: *mut i32,
+        lasts: *mut i32,
+        ids: *mut u32,
+        first: i32,
+        last: i32,
+        id: u32,
+    ) -> Entries;
+    fn knobstream_remove_entry(
+        count: *mut usize,
+        firsts: *mut i32,
+        lasts: *mut i32,
+        ids: *mut u32,
+        id: u32,
+    ) -> Entries;
+    #[cfg(test)]
+    fn knobstream_count_entries(
+        count: *const usize,
+        firsts: *const i32,
+        lasts: *const i32,
+        ids: *const u32,
+    ) -> Entries;
+    fn knobstream_list_entries(
+        count: *const usize,
+        firsts: *const i32,
+        lasts: *const i32,
+        ids: *const u32,
+        out: *mut i64,
+        out_len: usize,
+    ) -> Entries;
+    fn knobstream_any_dated(
+        count: *const usize,
+        firsts: *const i32,
+        lasts: *const i32,
+        ids: *const u32,
+        first: i32,
+        last: i32,
+    ) -> Reply;
 }
 
 /// The bytes of a chunk list and its table.
@@ -282,9 +353,90 @@ pub fn answer_frame<'a>(line: &[u8], out: &'a mut [u8]) -> Result<&'a str, u8> {
     text(w, out)
 }
 
+impl Store {
+    /// One without entries.
+    pub const EMPTY: Self =
+        Self { count: 0, firsts: [0; ENTRIES], lasts: [0; ENTRIES], ids: [0; ENTRIES] };
+
+    /// The first days, the last days and the identifiers of the entries.
+    pub fn rows(&self) -> (&[i32], &[i32], &[u32]) {
+        let n = self.count;
+        (&self.firsts[..n], &self.lasts[..n], &self.ids[..n])
+    }
+
+    pub fn add(&mut self, first: i32, last: i32, id: u32) -> Result<usize, u8> {
+        let Self { count, firsts, lasts, ids } = self;
+        let (fs, ls, ds) = (firsts.as_mut_ptr(), lasts.as_mut_ptr(), ids.as_mut_ptr());
+        // SAFETY: the count and the columns, of 512 numbers each, are readable and
+        // writable for the call and do not overlap. It keeps nothing of them,
+        // stores within them alone, and takes any numbers.
+        counted(unsafe { knobstream_add_entry(count, fs, ls, ds, first, last, id) })
+    }
+
+    pub fn remove(&mut self, id: u32) -> Result<usize, u8> {
+        let Self { count, firsts, lasts, ids } = self;
+        let (fs, ls, ds) = (firsts.as_mut_ptr(), lasts.as_mut_ptr(), ids.as_mut_ptr());
+        // SAFETY: as for `add`.
+        counted(unsafe { knobstream_remove_entry(count, fs, ls, ds, id) })
+    }
+
+    #[cfg(test)]
+    fn count(&self) -> Result<usize, u8> {
+        let (fs, ls, ds) = (self.firsts.as_ptr(), self.lasts.as_ptr(), self.ids.as_ptr());
+        // SAFETY: as for `any_dated`.
+        counted(unsafe { knobstream_count_entries(&self.count, fs, ls, ds) })
+    }
+
+    pub fn list(&self, out: &mut [i64]) -> Result<usize, u8> {
+        let (fs, ls, ds) = (self.firsts.as_ptr(), self.lasts.as_ptr(), self.ids.as_ptr());
+        let (numbers, room) = (out.as_mut_ptr(), out.len());
+        // SAFETY: as for `any_dated`, and `out` is readable and writable for the
+        // call, which stores within it alone.
+        counted(unsafe { knobstream_list_entries(&self.count, fs, ls, ds, numbers, room) })
+    }
+
+    /// Whether there is such an entry, and how many were read to tell.
+    pub fn any_dated(&self, first: i32, last: i32) -> Result<(bool, usize), u8> {
+        let (fs, ls, ds) = (self.firsts.as_ptr(), self.lasts.as_ptr(), self.ids.as_ptr());
+        // SAFETY: the count and the columns, of 512 numbers each, are readable for
+        // the call. It keeps nothing of them, stores nothing there, and takes any
+        // numbers.
+        let r = unsafe { knobstream_any_dated(&self.count, fs, ls, ds, first, last) };
+        if r.refusal == 0 {
+            Ok((r.found != 0, r.read))
+        } else {
+            Err(r.refusal)
+        }
+    }
+}
+
+/// How many entries, or why not.
+fn counted(e: Entries) -> Result<usize, u8> {
+    if e.refusal == 0 {
+        Ok(e.entries)
+    } else {
+        Err(e.refusal)
+    }
+}
+
 #[cfg(test)]
 #[test]
 fn the_library_is_of_this_version() {
     // SAFETY: the call takes nothing.
-    assert_eq!(unsafe { knobstream_version() }, 3);
+    assert_eq!(unsafe { knobstream_version() }, 4);
+}
+
+#[cfg(test)]
+#[test]
+fn entries_are_counted() {
+    let mut store = Store::EMPTY;
+    assert_eq!(store.count(), Ok(0));
+    assert_eq!(store.add(1, 2, 3), Ok(1));
+    assert_eq!(store.count(), Ok(1));
+    // what no caller of the crate can make
+    store.lasts[0] = 0;
+    assert_eq!((store.count(), store.any_dated(0, 0)), (Err(26), Err(26)));
+    store.count = 513;
+    assert_eq!((store.count(), store.list(&mut [0; 3])), (Err(26), Err(26)));
+    assert_eq!((store.add(1, 2, 3), store.remove(3)), (Err(26), Err(26)));
 }

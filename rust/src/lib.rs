@@ -1,5 +1,6 @@
 //! Reads, writes and compares the dates of bibliographies as the crate
-//! biblatex does, by a static library of which every function is proved.
+//! biblatex does, and keeps a [`Chronology`] of entries, by a static library of
+//! which every function is proved.
 //!
 //! ```
 //! use knobstream::{Date, DateValue};
@@ -19,8 +20,11 @@
 #![warn(missing_docs)]
 #![deny(unsafe_code)]
 
+mod chronology;
 #[allow(unsafe_code)]
 mod ffi;
+
+pub use chronology::{AnyDated, Chronology, Entry};
 
 use std::cmp::Ordering;
 use std::fmt::{self, Display, Formatter};
@@ -208,7 +212,7 @@ pub enum TimeOffset {
     },
 }
 
-/// Why a field is not read or a date is not written, and where.
+/// Why a field is not read, a date is not written or a call on a chronology is refused, and where.
 #[derive(Debug, Clone, Eq, PartialEq)]
 pub struct TypeError {
     /// Where in the file; of [`TypeErrorKind::UnsupportedChar`], and of a day that a
@@ -298,16 +302,12 @@ kinds! {
     /// No call of this crate refuses so.
     NotACalendarDate = 17, "not a date of the calendar from -9999 to 9999";
     /// The last day is before the first, or a day is outside the years -9999 to 9999. No place.
-    /// No call of this crate refuses so.
     BadPeriod = 18, "not a period of the calendar from -9999 to 9999";
     /// The identifier is in the chronology. No place.
-    /// No call of this crate refuses so.
     DuplicateEntry = 19, "the identifier is in the chronology";
     /// The chronology has 512 entries. No place.
-    /// No call of this crate refuses so.
     ChronologyFull = 20, "the chronology has 512 entries";
     /// The identifier is not in the chronology. No place.
-    /// No call of this crate refuses so.
     UnknownEntry = 21, "the identifier is not in the chronology";
     /// A time without a day beside a month, or with a part or an offset out of range. No place.
     /// No call of this crate refuses so.
@@ -319,8 +319,7 @@ kinds! {
     /// The day, the time or its offset is absent, so there is no instant. No place.
     /// No call of this crate refuses so.
     NoInstant = 25, "no day, no time or no offset";
-    /// What was lent is no chronology. No place.
-    /// No call of this crate refuses so.
+    /// What was lent is no chronology. No place. No [`Chronology`] is refused so.
     BadChronology = 26, "not a chronology";
 }
 

@@ -1,3 +1,4 @@
 pub mod Plain
 pub mod Layout
 pub mod Back
+pub mod Entries

@@ -35,6 +35,8 @@ use quick::UsualText;
 use writer::Measured;
 use writer::Written;
 
+mod entries;
+
 // A Datetime. A part that is absent has 0 in its `has_` number and in its own.
 #[repr(C)]
 pub struct PlainDatetime {
@@ -557,12 +559,12 @@ fn date_of(p: PlainDate) -> Date
 
 // ---- the calls
 
-const VERSION: u32 = 3;
+const VERSION: u32 = 4;
 
 // The version of these calls and of their structs: a caller that was made for another must not go on.
 #[no_mangle]
 pub extern "C" fn knobstream_version() -> u32
-    ensures { λ r. ⌜ r ≡ 3 ⌝ }
+    ensures { λ r. ⌜ r ≡ 4 ⌝ }
 {
     VERSION
 }
