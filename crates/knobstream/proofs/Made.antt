@@ -8,8 +8,8 @@ use lib.Dec.{eqb}
 use lib.ListN.{length}
 use lib.IntN.{ℤ, pos}
 use mir.Syntax.{w32}
-use mir.Val.{toZ, ofZ}
-use mir.ValLaws.{toZ-pos}
+use mir.Val.{SFits, toZ, ofZ}
+use mir.ValLaws.{toZ-pos, toZ-ofZ}
 use Rattle.chars.specs.Pick.{pick}
 use Rattle.chars.proofs.Cases.{of-test}
 use Rattle.refusals.specs.declared.Refusal.{Refusal}
@@ -24,6 +24,8 @@ use Rattle.dates.specs.declared.DateValue.the-variants.{At, After, Before, Betw
 use Rattle.dates.specs.declared.Date.{Date}
 use Rattle.dates.specs.Time.{time}
 use Rattle.dates.specs.Value.{seasonNumber, hasSeason, anySeason}
+use Rattle.days.specs.declared.Period.{Period}
+use Rattle.days.specs.Covered.{period}
 use Rattle.order.specs.declared.Order.{Order}
 use Rattle.order.specs.declared.Order.the-variants.{Less, Equal, Greater, None}
 use Rattle.order.specs.declared.Compared.{Compared}
@@ -144,3 +146,7 @@ module _ (p : PlainDate) where
   pub same-level-text : levelText (dateBy dayOnly p) ≡ levelText (dateOf p)
   unfolding levelText dateBy levelValue levelEnd behindText partsOf dayOnly datetimeOf
   same-level-text = ap (λ (t : List ℕ). t ++ markText (isSet (p .uncertain)) (isSet (p .approximate))) (by-shape levelValue refl refl refl refl)
+
+-- the days of a period, as the machine has them, are those that were passed
+pub same-days : (first last : ℤ) → SFits w32 first → SFits w32 last → {A : Type 0} (f : Period → A) → f (period (toZ w32 (ofZ w32 first)) (toZ w32 (ofZ w32 last))) ≡ f (period first last)
+same-days first last a b f = rw (toZ-ofZ w32 first a, toZ-ofZ w32 last b)

@@ -1,5 +1,8 @@
 use mathlib.Core.Path.{ap, _∙_}
+use Rattle.chronology.specs.Store.{store}
+use Rattle.chronology.specs.Asked.{reply}
 use Rattle.knobstream.specs.Entries.{told}
+use Rattle.knobstream.proofs.Made.{same-days}
 use borrow.Author.Needs.{needs}
 use Rattle.knobstream.proofs.entries.knobstream_any_dated.Statement.{statement}
 use Rattle.knobstream.proofs.entries.knobstream_any_dated.Tie as tie
@@ -11,7 +14,11 @@ plain-reply-requires : tie.Need-plain-reply-requires
 plain-reply-requires c κs = search needs
 
 returns : tie.Need-returns
-returns c = c .plain-reply .ensures ∙ ap told (c .before .any-dated .ensures)
+returns c =
+    let b = c .before .before in
+    let a = b .args in
+    let s = store (a .count .now) (a .firsts .now) (a .lasts .now) (a .ids .now) in
+    c .plain-reply .ensures ∙ (ap told (c .before .any-dated .ensures) ∙ same-days (a .first) (a .last) (b .fits .first) (b .fits .last) (λ p. told (reply s p)))
 
 pub knobstream-any-dated-spec : {M : Type 1} → statement M
 knobstream-any-dated-spec = tie.close (tie.spec any-dated-requires plain-reply-requires returns)
