@@ -35,6 +35,7 @@ use quick::UsualText;
 use writer::Measured;
 use writer::Written;
 
+// The calls on a chronology.
 mod entries;
 
 // A Datetime. A part that is absent has 0 in its `has_` number and in its own.
