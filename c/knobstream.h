@@ -10,9 +10,8 @@
  * that is lent, every byte of it, so that it need not have values before.
  *
  * No call allocates, keeps state, takes a lock or traps: every number and
- * every byte has an answer. A call uses at most 8,192 bytes of stack, one on a
- * chronology at most 16,384, the one that answers a frame at most 65,536; this
- * is measured, not proved. Calls may run at once in any number of threads, if
+ * every byte has an answer. A call uses at most 8,192 bytes of stack, the one
+ * that answers a frame at most 65,536; this is measured, not proved. Calls may run at once in any number of threads, if
  * nothing that one of them stores to is lent to another.
  *
  * What the caller owes: a pointer that is readable (writable for what is stored
@@ -117,7 +116,6 @@ enum {
     KNOBSTREAM_ENTRIES = 512,
     KNOBSTREAM_LIST_ROOM = 1536,
     KNOBSTREAM_STACK = 8192,
-    KNOBSTREAM_CHRONOLOGY_STACK = 16384,
     KNOBSTREAM_FRAME_STACK = 65536
 };
 

@@ -88,11 +88,11 @@ static struct {
     { "knobstream_write_level_one", write_level_one, KNOBSTREAM_STACK, 0 },
     { "knobstream_compare", compare, KNOBSTREAM_STACK, 0 },
     { "knobstream_answer_frame", answer_frame, KNOBSTREAM_FRAME_STACK, 0 },
-    { "knobstream_add_entry", add_entry, KNOBSTREAM_CHRONOLOGY_STACK, 0 },
-    { "knobstream_remove_entry", remove_entry, KNOBSTREAM_CHRONOLOGY_STACK, 0 },
-    { "knobstream_count_entries", count_entries, KNOBSTREAM_CHRONOLOGY_STACK, 0 },
-    { "knobstream_list_entries", list_entries, KNOBSTREAM_CHRONOLOGY_STACK, 0 },
-    { "knobstream_any_dated", any_dated, KNOBSTREAM_CHRONOLOGY_STACK, 0 },
+    { "knobstream_add_entry", add_entry, KNOBSTREAM_STACK, 0 },
+    { "knobstream_remove_entry", remove_entry, KNOBSTREAM_STACK, 0 },
+    { "knobstream_count_entries", count_entries, KNOBSTREAM_STACK, 0 },
+    { "knobstream_list_entries", list_entries, KNOBSTREAM_STACK, 0 },
+    { "knobstream_any_dated", any_dated, KNOBSTREAM_STACK, 0 },
 };
 
 #define COUNT(array) (sizeof(array) / sizeof *(array))
@@ -215,12 +215,12 @@ int main(void)
     measure();
     date.first.season = date.second.season = KNOBSTREAM_NO_SEASON;
     measure();
-    /* chronologies: the above were empty, or had the one entry; 511 entries, 512, and what is none. Each remainder by 8191 is that of two. */
+    /* chronologies: the above were empty, or had the one entry; 511 entries, 512, and what is none. Each of them has both its remainders, by 4096 and by 4093, with another. */
     for (entries.count = 0; entries.count < KNOBSTREAM_ENTRIES - 1; entries.count++) {
         const uint32_t i = (uint32_t)entries.count;
         entries.firsts[i] = (int32_t)i;
         entries.lasts[i] = 3652424;
-        entries.ids[i] = 2000 + i / 2 + i % 2 * 8191;
+        entries.ids[i] = 2000 + i / 2 + i % 2 * 4096 * 4093;
     }
     measure();
     entries.count = 600;

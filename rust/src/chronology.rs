@@ -33,7 +33,7 @@ pub struct AnyDated {
 /// days of the years -9999 to 9999 ([`Chronology::DAYS`]), the last not before
 /// the first. A call that is refused changes nothing, and names no place. The
 /// entries stand in the value itself, which has 6,152 bytes; a call takes up to
-/// 16 KiB of stack.
+/// 8 KiB of stack.
 ///
 /// ```
 /// use knobstream::{AnyDated, Chronology, Entry, TypeErrorKind};

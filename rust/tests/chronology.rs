@@ -55,14 +55,14 @@ fn bad_periods() {
 #[test]
 fn identifiers() {
     let mut c = Chronology::new();
-    for id in [u32::MAX, 0, 8191, 16382] {
+    for id in [u32::MAX, 0, 16764928, 33529856] {
         refuses(&mut c, |c| c.remove(id), UnknownEntry);
         c.add(3..=4, id).unwrap();
         refuses(&mut c, |c| c.add(1..=2, id), DuplicateEntry);
     }
-    assert_eq!(c.iter().map(|e| e.id).collect::<Vec<_>>(), [0, 8191, 16382, u32::MAX]);
-    assert_eq!(c.remove(8191), Ok(3));
-    refuses(&mut c, |c| c.remove(8191), UnknownEntry);
+    assert_eq!(c.iter().map(|e| e.id).collect::<Vec<_>>(), [0, 16764928, 33529856, u32::MAX]);
+    assert_eq!(c.remove(16764928), Ok(3));
+    refuses(&mut c, |c| c.remove(16764928), UnknownEntry);
 }
 
 #[test]

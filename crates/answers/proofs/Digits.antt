@@ -22,12 +22,11 @@ use Rattle.dates.specs.declared.Datetime.{Datetime}
 use Rattle.dates.specs.declared.DateValue.{DateValue}
 use Rattle.dates.specs.declared.DateValue.the-variants.{At, After, Before, Between}
 use Rattle.dates.specs.declared.Date.{Date}
-use Rattle.dates.specs.declared.OptionSeason.{OptionSeason}
 use Rattle.dates.specs.Value.{seasonNumber}
 use Rattle.refusals.specs.declared.Refusal.{Refusal}
 use Rattle.refusals.specs.Refusal.{number}
-use Rattle.writer.specs.Answers.{Put}
-use Rattle.writer.proofs.Puts.{as-text, both, kept}
+use Rattle.puts.specs.Answers.{Put}
+use Rattle.puts.proofs.Puts.{as-text, both, kept}
 use Rattle.answers.specs.Answer.{glyph, hexText, wordBytes, twos, monthByte, dayByte, bit, marks, shiftBytes, offsetBytes, timeBytes, datetimeBytes, endBytes, endLength, shape, endsBytes, longBytes, bytesWith, acceptedBytes, refusedBytes, lineOf, oneLine, twoLine, acceptedLine}
 
 -- two digits a byte

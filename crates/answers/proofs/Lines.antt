@@ -5,7 +5,6 @@ use mathlib.Core.List.{List, _++_}
 use Prim.Native.Nat.{ℕ, _+_, _*_, _≤_, _<_}
 use native.Mathlib.Omega.{arith}
 use borrow.Author.Tests.{lt-leb, le-leb}
-use lib.Dec.{leb}
 use lib.ListN.{length, take, drop, length-append}
 use lib.Seq.{take-at}
 use Rattle.chars.specs.Pick.{pick}
@@ -14,16 +13,18 @@ use Rattle.refusals.specs.declared.Refusal.{Refusal}
 use Rattle.refusals.specs.declared.Kind.the-variants.{RustPanics}
 use Rattle.dates.specs.declared.Date.{Date}
 use Rattle.dates.specs.Value.{anySeason}
-use Rattle.datefield.specs.declared.ReadDate.{ReadDate}
-use Rattle.datefield.specs.declared.ReadDate.the-variants.{Accepted, Refused as NotRead}
-use Rattle.writer.specs.declared.Measured.{Measured}
-use Rattle.writer.specs.declared.Measured.the-variants.{Length, NoLength}
-use Rattle.writer.specs.declared.Written.{Written}
-use Rattle.writer.specs.declared.Written.the-variants.{Done, Refused}
-use Rattle.writer.specs.Answers.{refused, measured, decided, answer, afterwards, dateMeasured, dateAnswer, dateAfterwards, Put}
+use Rattle.refusals.specs.declared.ReadDate.{ReadDate}
+use Rattle.refusals.specs.declared.ReadDate.the-variants.{Accepted, Refused as NotRead}
+use Rattle.puts.specs.declared.Measured.{Measured}
+use Rattle.puts.specs.declared.Measured.the-variants.{Length, NoLength}
+use Rattle.puts.specs.declared.Written.{Written}
+use Rattle.puts.specs.declared.Written.the-variants.{Done, Refused}
+use Rattle.puts.specs.Answers.{measured, decided, answer, afterwards, Put}
+use Rattle.refusals.specs.Refusal.{nowhere}
+use Rattle.writer.specs.Answers.{dateMeasured, dateAnswer, dateAfterwards}
 use Rattle.writer.specs.Texts.{dateText, panics}
 use Rattle.writer.specs.Level.{levelText, levelPanics}
-use Rattle.writer.proofs.Answered.{has-length, done}
+use Rattle.puts.proofs.Answered.{has-length, done}
 use Rattle.writer.proofs.Bounds.{Ends}
 use Rattle.writer.proofs.Levels.{season-refused, else-as-before, level-most}
 use Rattle.answers.specs.Answer.{endLength, refusedBytes, refusedLine, acceptedLine, measuredLine, answerLine, levelLine}
@@ -141,7 +142,7 @@ unfolding measuredLine answerLine
 no-text-line d em en = ap (λ (x : Measured). measuredLine false d (dateText d) x) (sym en ∙ em)
 
 -- the line of a Date without a season: that of RustPanics, or of the Date with its text
-pub former-line : (d : Date) → anySeason (d .value) ≡ false → answerLine (Accepted d) ≡ pick (panics d) (refusedLine (refused RustPanics)) (acceptedLine false d (dateText d))
+pub former-line : (d : Date) → anySeason (d .value) ≡ false → answerLine (Accepted d) ≡ pick (panics d) (refusedLine (nowhere RustPanics)) (acceptedLine false d (dateText d))
 unfolding answerLine measuredLine measured pick
 former-line d q =
     ap (λ (m : Measured). measuredLine false d (dateText d) m) (else-as-before d (dateText d) q .0)

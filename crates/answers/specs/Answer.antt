@@ -1,4 +1,5 @@
 -- The answer to a frame: bytes, and the line of hexadecimal digits that says them.
+use Prim.Native.Char.{code}
 use Prim.Native.Nat.{ℕ, _+_, _-_, _*_, _/_, _%_}
 use mathlib.Core.Bool.{Bool, true, false}
 use mathlib.Core.List.{List, [], _∷_, _++_}
@@ -22,17 +23,18 @@ use Rattle.dates.specs.declared.DateValue.{DateValue}
 use Rattle.dates.specs.declared.DateValue.the-variants.{At, After, Before, Between}
 use Rattle.dates.specs.declared.Date.{Date}
 use Rattle.dates.specs.Value.{seasonNumber}
-use Rattle.datefield.specs.declared.ReadDate.{ReadDate}
-use Rattle.datefield.specs.declared.ReadDate.the-variants.{Accepted, Refused}
-use Rattle.writer.specs.declared.Measured.{Measured}
-use Rattle.writer.specs.declared.Measured.the-variants.{Length, NoLength}
+use Rattle.refusals.specs.declared.ReadDate.{ReadDate}
+use Rattle.refusals.specs.declared.ReadDate.the-variants.{Accepted, Refused}
+use Rattle.puts.specs.declared.Measured.{Measured}
+use Rattle.puts.specs.declared.Measured.the-variants.{Length, NoLength}
 use Rattle.writer.specs.Texts.{dateText}
-use Rattle.writer.specs.Answers.{measured, dateMeasured}
+use Rattle.puts.specs.Answers.{measured}
+use Rattle.writer.specs.Answers.{dateMeasured}
 use Rattle.writer.specs.Level.{levelText, levelPanics}
 
 -- a hexadecimal digit, in lower case
 unfoldable pub glyph : ℕ → ℕ
-glyph d = pick (ltb d 10) (0x30 + d) (0x61 + (d - 10))
+glyph d = pick (ltb d 10) (code "0" + d) (code "a" + (d - 10))
 
 -- bytes as digits, the high one first
 unfoldable pub hexText : List ℕ → List ℕ

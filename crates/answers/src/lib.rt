@@ -2,16 +2,15 @@
 // a buffer with the room for it give the place behind it.
 ghost use mathlib.Core.Path.{_≡_};
 ghost use mathlib.Core.Bool.{false};
-ghost use mathlib.Core.List.{[], _∷_, _++_};
+ghost use mathlib.Core.List.{[], _∷_};
 ghost use Prim.Native.Nat.{_+_, _*_, _/_, _%_, _≤_, _<_};
 ghost use lib.Dec.{ltb};
 ghost use lib.ListN.{length};
-ghost use Rattle.writer.specs.Answers as writing;
-ghost use Rattle.writer.specs.Answers.{Put};
-ghost use Rattle.datefield.specs.declared.ReadDate.the-variants.{Accepted};
-ghost use Rattle.writer.specs.declared.Measured.the-variants.{Length};
+ghost use Rattle.puts.specs.Answers as writing;
+ghost use Rattle.puts.specs.Answers.{Put};
+ghost use Rattle.refusals.specs.declared.ReadDate.the-variants.{Accepted};
+ghost use Rattle.puts.specs.declared.Measured.the-variants.{Length};
 ghost use Rattle.answers.specs.Answer as spec;
-use datefield::ReadDate;
 use dates::Date;
 use dates::DateValue;
 use dates::Datetime;
@@ -21,11 +20,11 @@ use dates::OptionOffset;
 use dates::OptionTime;
 use dates::TimeOffset;
 use dates::season_number;
-use refusals::FileSpan;
+use puts::Measured;
+use puts::Written;
 use refusals::Kind;
+use refusals::ReadDate;
 use refusals::Refusal;
-use writer::Measured;
-use writer::Written;
 
 // ---- the bytes of an answer
 
@@ -272,7 +271,7 @@ fn put_refused(e: Refusal, out: &mut [u8]) -> usize
 fn no_room() -> Written
     ensures { λ r. ⌜ r ≡ writing.decided (Length 1) 0 ⌝ }
 {
-    Written::Refused(refusals::refuse(Kind::NoRoom, FileSpan(0, 0)))
+    Written::Refused(refusals::nowhere(Kind::NoRoom))
 }
 
 // The line of a refusal, if there is room for it.

@@ -13,4 +13,4 @@ ascii (c ◁ s) = code c ∷ ascii s
 
 -- what a byte says as a digit, and 10 for any other byte
 unfoldable pub digitOf : ℕ → ℕ
-digitOf b = pick (ltb b 0x30) 10 (pick (ltb b 0x3A) (b - 0x30) 10)
+digitOf b = pick (ltb b (code "0")) 10 (pick (ltb b (code ":")) (b - code "0") 10)

@@ -4,3 +4,4 @@ pub mod Table
 pub mod Classes
 pub mod Upper
 pub mod Ascii
+pub mod Signs

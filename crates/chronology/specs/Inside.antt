@@ -31,9 +31,9 @@ beforeAt s i = beforeNext (rowAt s i) (drop (suc i) (contents s))
 unfoldable pub keptAt : Store → ℕ → Bool
 keptAt s i = keptFirst (rowAt s i) (drop (suc i) (contents s))
 
--- each of some numbers is marked: a mark stands at its remainder
+-- each of some numbers is marked: a mark stands at each of its two remainders
 abbrev pub Marked : List ℕ → List ℕ → Type 0
-Marked marks l = (d : ℕ) → among d l ≡ true → getD marks (d % 8191) 0 ≡ 1
+Marked marks l = (d : ℕ) → among d l ≡ true → (getD marks (d % 4096) 0 ≡ 1) × (getD marks (d % 4093) 0 ≡ 1)
 
 -- the walk's reply: the entry at which it stops decides
 unfoldable pub walked : Store → Period → Reply

@@ -13,10 +13,9 @@ ghost use Rattle.chronology.specs.Calls as calls;
 ghost use Rattle.chronology.specs.Asked as asked;
 ghost use Rattle.chronology.specs.Inside as inside;
 use days::Period;
-use refusals::FileSpan;
 use refusals::Kind;
 use refusals::Refusal;
-use refusals::refuse;
+use refusals::nowhere;
 
 // How many entries there is room for.
 const ENTRIES: usize = 512;
@@ -53,14 +52,14 @@ pub enum Reply {
 fn refused(kind: Kind) -> Answer
     ensures { λ r. ⌜ r ≡ calls.refused kind ⌝ }
 {
-    Answer::Refused(refuse(kind, FileSpan(0, 0)))
+    Answer::Refused(nowhere(kind))
 }
 
 // The refusal of the question.
 fn untold(kind: Kind) -> Reply
     ensures { λ r. ⌜ r ≡ asked.untold kind ⌝ }
 {
-    Reply::Untold(refuse(kind, FileSpan(0, 0)))
+    Reply::Untold(nowhere(kind))
 }
 
 // ---- entries
@@ -146,15 +145,35 @@ fn find(ids: &[u32], from: usize, count: usize, id: u32) -> usize
     i
 }
 
-// The place of an identifier's mark.
-fn mark_of(id: u32) -> usize
-    ensures { λ r. ⌜ (r ≡ id % 8191) × (r < 8191) ⌝ }
+// Whether an identifier is among those of a column from a place on. All are looked at, so that many are compared at once.
+fn occurs(ids: &[u32], from: usize, count: usize, id: u32) -> bool
+    requires { ⌜ (from ≤ count) × (count ≤ 512) × (length (now ids) ≡ 512) ⌝ }
+    ensures { λ r. ⌜ r ≡ entries.among id (drop from (take count (now (ids .entry)))) ⌝ }
 {
-    (id % 8191) as usize
+    let mut found = false;
+    let mut i = from;
+    while i < count {
+        found = found | (ids[i] == id);
+        i += 1;
+    }
+    found
 }
 
-// Whether an identifier is that of no entry from a place on, all of which are marked: without a mark it is that of none.
-fn alone(ids: &[u32], from: usize, count: usize, id: u32, marks: &[u8; 8191]) -> bool
+// The places of an identifier's two marks.
+fn mark_of(id: u32) -> usize
+    ensures { λ r. ⌜ (r ≡ id % 4096) × (r < 4096) ⌝ }
+{
+    (id % 4096) as usize
+}
+
+fn other_mark_of(id: u32) -> usize
+    ensures { λ r. ⌜ (r ≡ id % 4093) × (r < 4096) ⌝ }
+{
+    (id % 4093) as usize
+}
+
+// Whether an identifier is that of no entry from a place on, all of which are marked: without one of its marks it is that of none.
+fn alone(ids: &[u32], from: usize, count: usize, id: u32, marks: &[u8; 4096]) -> bool
     requires { ⌜ (from ≤ count) × (count ≤ 512) × (length (now ids) ≡ 512) × inside.Marked (now marks) (drop from (take count (now ids))) ⌝ }
     ensures { λ r. ⌜ r ≡ not (entries.among id (drop from (take count (now (ids .entry))))) ⌝ }
 {
@@ -162,7 +181,11 @@ fn alone(ids: &[u32], from: usize, count: usize, id: u32, marks: &[u8; 8191]) ->
     if marks[at] == 0 {
         return true;
     }
-    find(ids, from, count, id) == count
+    let other = other_mark_of(id);
+    if marks[other] == 0 {
+        return true;
+    }
+    !occurs(ids, from, count, id)
 }
 
 // Whether the entry at a place stands before the next one.
@@ -185,7 +208,7 @@ fn kept_at(
     lasts: &[i32],
     ids: &[u32],
     i: usize,
-    marks: &[u8; 8191],
+    marks: &[u8; 4096],
 ) -> bool
     requires { ⌜ (i < now count) × (now count ≤ 512) × spec.Wide (lent count firsts lasts ids) × inside.Marked (now marks) (drop (i + 1) (take (now count) (now ids))) ⌝ }
     ensures { λ r. ⌜ r ≡ inside.keptAt (before count firsts lasts ids) i ⌝ }
@@ -206,7 +229,7 @@ fn well_kept(count: &usize, firsts: &[i32], lasts: &[i32], ids: &[u32]) -> bool
     requires { ⌜ (now count ≤ 512) × spec.Wide (lent count firsts lasts ids) ⌝ }
     ensures { λ r. ⌜ r ≡ entries.wellKept (spec.contents (before count firsts lasts ids)) ⌝ }
 {
-    let mut marks = [0u8; 8191];
+    let mut marks = [0u8; 4096];
     let mut i = *count;
     while 0 < i {
         i -= 1;
@@ -216,6 +239,8 @@ fn well_kept(count: &usize, firsts: &[i32], lasts: &[i32], ids: &[u32]) -> bool
         let id = ids[i];
         let at = mark_of(id);
         marks[at] = 1;
+        let other = other_mark_of(id);
+        marks[other] = 1;
     }
     true
 }

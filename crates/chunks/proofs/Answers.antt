@@ -21,7 +21,7 @@ use Rattle.chunks.specs.Chunks.{chunksOf, fits, isShort}
 use Rattle.chunks.specs.Check.{faultOf, checked}
 use Rattle.chunks.specs.Format.{formatted}
 use Rattle.chunks.specs.Upper.{uppercase}
-use Rattle.chunks.specs.Answer.{textOf, roomOf, answered, answer, stored}
+use Rattle.chunks.specs.Answer.{textOf, roomOf, answered, formatAnswer, bufferAfter}
 use Rattle.chunks.proofs.Tables.{count}
 use Rattle.chunks.proofs.Room.{text-short}
 use Rattle.chunks.proofs.Fill.{stored-front, held}
@@ -58,16 +58,16 @@ module _ (b table : List ℕ) where
   same-long false e = refl
 
   module _ (u : Bool) (buf : List ℕ) where
-    pub faulted : {e : Refusal} → checked b table ≡ Faulty e → (Refused e ≡ answer u b table buf) × (buf ≡ stored (Refused e) (textOf u b table) buf)
-    unfolding answer answered stored
+    pub faulted : {e : Refusal} → checked b table ≡ Faulty e → (Refused e ≡ formatAnswer u b table buf) × (buf ≡ bufferAfter (Refused e) (textOf u b table) buf)
+    unfolding formatAnswer answered bufferAfter
     faulted h = rw h (refl, refl)
 
-    pub no-room : {e : Refusal} → checked b table ≡ Clean → length buf < roomOf b table → e ≡ refusal NoRoom (fileSpan 0 0) → (Refused e ≡ answer u b table buf) × (buf ≡ stored (Refused e) (textOf u b table) buf)
-    unfolding answer answered stored pick
+    pub no-room : {e : Refusal} → checked b table ≡ Clean → length buf < roomOf b table → e ≡ refusal NoRoom (fileSpan 0 0) → (Refused e ≡ formatAnswer u b table buf) × (buf ≡ bufferAfter (Refused e) (textOf u b table) buf)
+    unfolding formatAnswer answered bufferAfter pick
     no-room h l e = rw (h, lt-leb _ _ l, e) (refl, refl)
 
-    pub texted : (n : ℕ) (last : List ℕ) → checked b table ≡ Clean → roomOf b table ≤ length buf → n ≡ length (textOf u b table) → last ≡ sets buf 0 (textOf u b table) → (Text n ≡ answer u b table buf) × (last ≡ stored (Text n) (textOf u b table) buf)
-    unfolding answer answered stored pick
+    pub texted : (n : ℕ) (last : List ℕ) → checked b table ≡ Clean → roomOf b table ≤ length buf → n ≡ length (textOf u b table) → last ≡ sets buf 0 (textOf u b table) → (Text n ≡ formatAnswer u b table buf) × (last ≡ bufferAfter (Text n) (textOf u b table) buf)
+    unfolding formatAnswer answered bufferAfter pick
     texted n last h l e g =
         rw (h, le-leb _ _ l, e)
         (refl, g ∙ stored-front buf (textOf u b table) (omega (arith, same-long u h, text-short b table)))
@@ -113,8 +113,8 @@ module _ (u : Bool) (b table buf : List ℕ) where
     pub front : take n last ≡ textOf u b table
     pub within : n ≤ length last
 
-  pub given : (n : ℕ) (last : List ℕ) → Text n ≡ answer u b table buf → last ≡ stored (Text n) (textOf u b table) buf → Given n last
-  unfolding answer stored
+  pub given : (n : ℕ) (last : List ℕ) → Text n ≡ formatAnswer u b table buf → last ≡ bufferAfter (Text n) (textOf u b table) buf → Given n last
+  unfolding formatAnswer bufferAfter
   given n last e g =
       let t = text-of (checked b table) (leb (roomOf b table) (length buf)) (length (textOf u b table)) n e in
       let z = t .2 in
@@ -125,8 +125,8 @@ module _ (u : Bool) (b table buf : List ℕ) where
       }
 
   -- a refusal: it is the list's fault
-  pub not-given : {e : Refusal} → Refused e ≡ answer u b table buf → (isShort b table ≡ true → roomOf b table ≤ length buf) → checked b table ≡ Faulty e
-  unfolding answer
+  pub not-given : {e : Refusal} → Refused e ≡ formatAnswer u b table buf → (isShort b table ≡ true → roomOf b table ≤ length buf) → checked b table ≡ Faulty e
+  unfolding formatAnswer
   not-given e h =
       refused-of (checked b table) (leb (roomOf b table) (length buf)) (length (textOf u b table)) e
       (λ k. le-leb (roomOf b table) (length buf) (h (clean-short b table k)))

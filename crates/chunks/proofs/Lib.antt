@@ -10,3 +10,4 @@ pub mod Turn
 pub mod Proper
 pub mod Answers
 pub mod Reached
+pub mod Buffers

@@ -1,7 +1,7 @@
 -- What formatting a list answers, and what the lent buffer holds then.
 use Prim.Native.Nat.{ℕ, _+_, _*_}
-use mathlib.Core.Bool.{Bool, true, false}
-use mathlib.Core.List.{List, [], _++_}
+use mathlib.Core.Bool.{Bool}
+use mathlib.Core.List.{List, _++_}
 use lib.Dec.{leb}
 use lib.ListN.{length, drop}
 use Rattle.chars.specs.Pick.{pick}
@@ -30,10 +30,10 @@ answered (Faulty e) room n = Refused e
 answered Clean room n = pick room (Text n) (Refused (refusal NoRoom (fileSpan 0 0)))
 
 -- faults come before NoRoom, and room is judged by what a list may need, not by its text
-unfoldable pub answer : Bool → List ℕ → List ℕ → List ℕ → Formatted
-answer upper b table buf = answered (checked b table) (leb (roomOf b table) (length buf)) (length (textOf upper b table))
+unfoldable pub formatAnswer : Bool → List ℕ → List ℕ → List ℕ → Formatted
+formatAnswer upper b table buf = answered (checked b table) (leb (roomOf b table) (length buf)) (length (textOf upper b table))
 
 -- the buffer afterwards: the text at its front and the bytes behind it as they were; after a refusal nothing has changed
-unfoldable pub stored : Formatted → List ℕ → List ℕ → List ℕ
-stored (Text n) text buf = text ++ drop (length text) buf
-stored (Refused e) text buf = buf
+unfoldable pub bufferAfter : Formatted → List ℕ → List ℕ → List ℕ
+bufferAfter (Text n) text buf = text ++ drop (length text) buf
+bufferAfter (Refused e) text buf = buf

@@ -1,4 +1,5 @@
 -- The formatted text of a chunk list. The flag says whether the previous character was white space; it is clear at first.
+use Prim.Native.Char.{code}
 use Prim.Native.Nat.{ℕ}
 use mathlib.Core.Bool.{Bool, true, false, _||_}
 use mathlib.Core.List.{List, [], _∷_, _++_}
@@ -16,7 +17,7 @@ isBreak c = eqb c 0x0A || eqb c 0x0D
 
 -- what a character of a Normal chunk puts out: a line break becomes a space, or is dropped if the flag is set
 unfoldable pub oneOut : Bool → ℕ → List ℕ
-oneOut white c = pick (isBreak c) (pick white [] (0x20 ∷ [])) (encode c)
+oneOut white c = pick (isBreak c) (pick white [] (code " " ∷ [])) (encode c)
 
 -- the flag behind it: each character put out sets it anew, and behind a dropped line break it is still set
 unfoldable pub oneFlag : ℕ → Bool
@@ -39,7 +40,7 @@ lastWhite white (c ∷ cs) = lastWhite (isWhitespace c) cs
 
 -- what a chunk puts out: Normal by its characters, Verbatim as it is, Math between two dollar signs
 unfoldable pub chunkOut : Bool → ℕ → List ℕ → List ℕ
-chunkOut white kind t = pick (eqb kind 0) (normal white (codes t)) (pick (eqb kind 1) t (0x24 ∷ (t ++ 0x24 ∷ [])))
+chunkOut white kind t = pick (eqb kind 0) (normal white (codes t)) (pick (eqb kind 1) t (code "$" ∷ (t ++ code "$" ∷ [])))
 
 -- the flag behind it: of Verbatim that of its last character, false if it is empty; Math leaves it
 unfoldable pub chunkFlag : Bool → ℕ → List ℕ → Bool

@@ -1,7 +1,8 @@
 -- The usual list, one Normal chunk of ASCII, in one pass. What this gives is proved to be what the definitions of `Format` and `Upper`
 -- give; no other crate's contract rests on it.
+use Prim.Native.Char.{code}
 use Prim.Native.Nat.{ℕ, _-_}
-use mathlib.Core.Bool.{Bool, true, false, _&&_}
+use mathlib.Core.Bool.{Bool, true, _&&_}
 use mathlib.Core.List.{List, [], _∷_, _++_}
 use lib.Dec.{ltb, leb, eqb}
 use lib.ListN.{length, getD}
@@ -20,11 +21,11 @@ isPlain b table =
 
 -- an ASCII letter in upper case, where that is asked; any other byte as it is
 unfoldable pub plainByte : Bool → ℕ → ℕ
-plainByte upper b = pick upper (pick (leb 0x61 b && leb b 0x7A) (b - 32) b) b
+plainByte upper b = pick upper (pick (leb (code "a") b && leb b (code "z")) (b - 32) b) b
 
 -- what a byte puts out
 unfoldable pub plainOut : Bool → Bool → ℕ → List ℕ
-plainOut upper white b = pick (isBreak b) (pick white [] (0x20 ∷ [])) (plainByte upper b ∷ [])
+plainOut upper white b = pick (isBreak b) (pick white [] (code " " ∷ [])) (plainByte upper b ∷ [])
 
 -- what the bytes put out
 unfoldable pub plainText : Bool → Bool → List ℕ → List ℕ

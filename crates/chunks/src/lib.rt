@@ -22,6 +22,15 @@ use chars::wide;
 use refusals::FileSpan;
 use refusals::Kind;
 use refusals::Refusal;
+use refusals::nowhere;
+
+const SPACE: u32 = b' ' as u32;
+
+const DOLLAR: u32 = b'$' as u32;
+
+const LINE_FEED: u32 = b'\n' as u32;
+
+const CARRIAGE_RETURN: u32 = b'\r' as u32;
 
 // Whether a list may be read, or what is wrong with it.
 pub enum Checked {
@@ -121,13 +130,6 @@ fn faulty(kind: Kind, at: usize, len: usize) -> Checked
     Checked::Faulty(refusals::refuse(kind, FileSpan(start, end)))
 }
 
-// A refusal that names no place.
-fn refused(kind: Kind) -> Refusal
-    ensures { λ r. ⌜ r ≡ refusal kind (fileSpan 0 0) ⌝ }
-{
-    refusals::refuse(kind, FileSpan(0, 0))
-}
-
 // Whether the list keeps within the limits: 64 chunks and 4,096 bytes.
 fn is_short(bytes: &[u8], table: &[u64]) -> bool
     ensures { λ r. ⌜ r ≡ chunks_.isShort (now (bytes .entry)) (now (table .entry)) ⌝ }
@@ -146,9 +148,9 @@ pub fn check(bytes: &[u8], table: &[u64]) -> Checked
         if is_short(bytes, table) {
             return check_characters(bytes, table);
         }
-        return Checked::Faulty(refused(Kind::TooLong));
+        return Checked::Faulty(nowhere(Kind::TooLong));
     }
-    Checked::Faulty(refused(Kind::BadChunks))
+    Checked::Faulty(nowhere(Kind::BadChunks))
 }
 
 // The span of a list: from its first chunk's start to its last one's end, and 0, 0 of no chunk.
@@ -195,10 +197,7 @@ fn put_char(buf: &mut [u8], n: usize, code: u32) -> usize
 fn is_break(code: u32) -> bool
     ensures { λ r. ⌜ r ≡ format_.isBreak code ⌝ }
 {
-    if code == 0x0A {
-        return true;
-    }
-    code == 0x0D
+    code == LINE_FEED || code == CARRIAGE_RETURN
 }
 
 // Puts one character of a Normal chunk: a line break as a space, or not at all behind white space.
@@ -213,7 +212,7 @@ fn put_one(buf: &mut [u8], n: usize, white: bool, code: u32) -> Put
                 prev_was_whitespace: true,
             };
         }
-        let m = put_char(buf, n, 0x20);
+        let m = put_char(buf, n, SPACE);
         return Put {
             n: m,
             prev_was_whitespace: true,
@@ -312,9 +311,9 @@ fn put_chunk(buf: &mut [u8], n: usize, kind: u64, t: &[u8], white: bool) -> Put
             prev_was_whitespace: w,
         };
     }
-    let m = put_char(buf, n, 0x24);
+    let m = put_char(buf, n, DOLLAR);
     let p = put_bytes(buf, m, t);
-    let q = put_char(buf, p, 0x24);
+    let q = put_char(buf, p, DOLLAR);
     Put {
         n: q,
         prev_was_whitespace: white,
@@ -412,8 +411,8 @@ fn plain_byte(upper: bool, b: u8) -> u8
     ensures { λ r. ⌜ r ≡ plain_.plainByte upper b ⌝ }
 {
     if upper {
-        if 0x61 <= b {
-            if b <= 0x7A {
+        if b'a' <= b {
+            if b <= b'z' {
                 return b - 32;
             }
         }
@@ -427,7 +426,7 @@ fn put_plain_byte(buf: &mut [u8], n: usize, upper: bool, white: bool, b: u8) -> 
     ensures { λ r. ⌜ (r .n ≡ n + length (plain_.plainOut upper white b)) × (r .«prev_was_whitespace» ≡ format_.oneFlag b) × (now (buf .exit) ≡ sets (now (buf .entry)) n (plain_.plainOut upper white b)) ⌝ }
 {
     let u = plain_byte(upper, b);
-    if 0x20 < b {
+    if b' ' < b {
         buf[n] = u;
         return Put {
             n: n + 1,
@@ -442,7 +441,7 @@ fn put_plain_byte(buf: &mut [u8], n: usize, upper: bool, white: bool, b: u8) -> 
                 prev_was_whitespace: true,
             };
         }
-        buf[n] = 0x20;
+        buf[n] = b' ';
         return Put {
             n: n + 1,
             prev_was_whitespace: true,
@@ -475,14 +474,14 @@ fn put_plain(buf: &mut [u8], t: &[u8], upper: bool) -> usize
 
 // The text of any list.
 fn format_any(bytes: &[u8], table: &[u64], upper: bool, buf: &mut [u8]) -> Formatted
-    ensures { λ r. ⌜ r ≡ answer_.answer upper (now (bytes .entry)) (now (table .entry)) (now (buf .entry)) ⌝ }
-    ensures { λ r. ⌜ now (buf .exit) ≡ answer_.stored r (answer_.textOf upper (now (bytes .entry)) (now (table .entry))) (now (buf .entry)) ⌝ }
+    ensures { λ r. ⌜ r ≡ answer_.formatAnswer upper (now (bytes .entry)) (now (table .entry)) (now (buf .entry)) ⌝ }
+    ensures { λ r. ⌜ now (buf .exit) ≡ answer_.bufferAfter r (answer_.textOf upper (now (bytes .entry)) (now (table .entry))) (now (buf .entry)) ⌝ }
 {
     match check(bytes, table) {
         Checked::Faulty(e) => Formatted::Refused(e),
         Checked::Clean => {
             if buf.len() < bytes.len() + table.len() / 4 * 2 {
-                return Formatted::Refused(refused(Kind::NoRoom));
+                return Formatted::Refused(nowhere(Kind::NoRoom));
             }
             let n = put_list(bytes, table, buf);
             if upper {
@@ -495,12 +494,12 @@ fn format_any(bytes: &[u8], table: &[u64], upper: bool, buf: &mut [u8]) -> Forma
 
 // The text of a list: the usual one in one pass, any other by the way for all.
 fn format(bytes: &[u8], table: &[u64], upper: bool, buf: &mut [u8]) -> Formatted
-    ensures { λ r. ⌜ r ≡ answer_.answer upper (now (bytes .entry)) (now (table .entry)) (now (buf .entry)) ⌝ }
-    ensures { λ r. ⌜ now (buf .exit) ≡ answer_.stored r (answer_.textOf upper (now (bytes .entry)) (now (table .entry))) (now (buf .entry)) ⌝ }
+    ensures { λ r. ⌜ r ≡ answer_.formatAnswer upper (now (bytes .entry)) (now (table .entry)) (now (buf .entry)) ⌝ }
+    ensures { λ r. ⌜ now (buf .exit) ≡ answer_.bufferAfter r (answer_.textOf upper (now (bytes .entry)) (now (table .entry))) (now (buf .entry)) ⌝ }
 {
     if is_plain(bytes, table) {
         if buf.len() < bytes.len() + 2 {
-            return Formatted::Refused(refused(Kind::NoRoom));
+            return Formatted::Refused(nowhere(Kind::NoRoom));
         }
         return Formatted::Text(put_plain(buf, bytes, upper));
     }
@@ -509,16 +508,16 @@ fn format(bytes: &[u8], table: &[u64], upper: bool, buf: &mut [u8]) -> Formatted
 
 // The formatted text of a list.
 pub fn format_verbatim(bytes: &[u8], table: &[u64], buf: &mut [u8]) -> Formatted
-    ensures { λ r. ⌜ r ≡ answer_.answer false (now (bytes .entry)) (now (table .entry)) (now (buf .entry)) ⌝ }
-    ensures { λ r. ⌜ now (buf .exit) ≡ answer_.stored r (answer_.textOf false (now (bytes .entry)) (now (table .entry))) (now (buf .entry)) ⌝ }
+    ensures { λ r. ⌜ r ≡ answer_.formatAnswer false (now (bytes .entry)) (now (table .entry)) (now (buf .entry)) ⌝ }
+    ensures { λ r. ⌜ now (buf .exit) ≡ answer_.bufferAfter r (answer_.textOf false (now (bytes .entry)) (now (table .entry))) (now (buf .entry)) ⌝ }
 {
     format(bytes, table, false, buf)
 }
 
 // The formatted text of a list, in upper case.
 pub fn format_uppercase(bytes: &[u8], table: &[u64], buf: &mut [u8]) -> Formatted
-    ensures { λ r. ⌜ r ≡ answer_.answer true (now (bytes .entry)) (now (table .entry)) (now (buf .entry)) ⌝ }
-    ensures { λ r. ⌜ now (buf .exit) ≡ answer_.stored r (answer_.textOf true (now (bytes .entry)) (now (table .entry))) (now (buf .entry)) ⌝ }
+    ensures { λ r. ⌜ r ≡ answer_.formatAnswer true (now (bytes .entry)) (now (table .entry)) (now (buf .entry)) ⌝ }
+    ensures { λ r. ⌜ now (buf .exit) ≡ answer_.bufferAfter r (answer_.textOf true (now (bytes .entry)) (now (table .entry))) (now (buf .entry)) ⌝ }
 {
     format(bytes, table, true, buf)
 }

@@ -8,7 +8,7 @@ use lib.ListN.{length, take}
 use Rattle.chars.specs.Pick.{pick}
 use Rattle.refusals.specs.declared.FileSpan.{FileSpan}
 use Rattle.datefield.specs.declared.ReadValue.{ReadValue}
-use Rattle.datefield.specs.declared.ReadDate.{ReadDate}
+use Rattle.refusals.specs.declared.ReadDate.{ReadDate}
 use Rattle.datefield.specs.Text.{lastByte, isUncertain, isApproximate, unmarked}
 use Rattle.datefield.specs.Value.{value, marked, trimmedDate}
 

@@ -1,4 +1,5 @@
 -- A date field's text, in upper case: what it says, or the refusal with its place in the file. The span is the chunk list's.
+use Prim.Native.Char.{code}
 use Prim.Native.Nat.{ℕ, _+_}
 use mathlib.Core.Bool.{Bool}
 use mathlib.Core.List.{List}
@@ -12,7 +13,6 @@ use Rattle.refusals.specs.declared.TextRefusal.{TextRefusal}
 use Rattle.refusals.specs.Refusal.{refusal}
 use Rattle.refusals.specs.Offset.{offset, offsetSecond}
 use Rattle.dates.specs.declared.Datetime.{Datetime}
-use Rattle.dates.specs.declared.DateValue.{DateValue}
 use Rattle.dates.specs.declared.DateValue.the-variants.{At, After, Before, Between}
 use Rattle.dates.specs.Value.{date}
 use Rattle.points.specs.declared.ReadPoint.{ReadPoint}
@@ -25,8 +25,8 @@ use Rattle.datefield.specs.declared.ReadHalf.{ReadHalf}
 use Rattle.datefield.specs.declared.ReadHalf.the-variants.{Half, NoHalf}
 use Rattle.datefield.specs.declared.ReadValue.{ReadValue}
 use Rattle.datefield.specs.declared.ReadValue.the-variants.{Read, NoValue}
-use Rattle.datefield.specs.declared.ReadDate.{ReadDate}
-use Rattle.datefield.specs.declared.ReadDate.the-variants.{Accepted, Refused}
+use Rattle.refusals.specs.declared.ReadDate.{ReadDate}
+use Rattle.refusals.specs.declared.ReadDate.the-variants.{Accepted, Refused}
 use Rattle.datefield.specs.Text.{trimmed, lastByte, isUncertain, isApproximate, unmarked, firstOf, isOpen}
 
 -- a point, or its refusal moved to its place in the file
@@ -66,8 +66,8 @@ xRange span (NoRange e) = NoValue (offset e (span .0))
 -- an X anywhere: an X range; else a slash: a range; else a point
 unfoldable pub value : FileSpan → List ℕ → ReadValue
 value span s =
-    pick (ltb (firstOf 0x58 s) (length s)) (xRange span (rangeDates s))
-    (pick (ltb (firstOf 0x2F s) (length s)) (halves span s (firstOf 0x2F s))
+    pick (ltb (firstOf (code "X") s) (length s)) (xRange span (rangeDates s))
+    (pick (ltb (firstOf (code "/") s) (length s)) (halves span s (firstOf (code "/") s))
     (onHalf (moved (point s) λ e. offset e (span .0)) λ d. Read (At d)))
 
 -- the marks are those of the whole Date, not of one end

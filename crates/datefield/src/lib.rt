@@ -11,6 +11,7 @@ use dates::Datetime;
 use points::ReadPoint;
 use refusals::FileSpan;
 use refusals::Kind;
+use refusals::ReadDate;
 use refusals::Refusal;
 use scanner::Cursor;
 use xranges::ReadRange;
@@ -25,12 +26,6 @@ pub enum ReadHalf {
 pub enum ReadValue {
     Read(DateValue),
     NoValue(Refusal),
-}
-
-// What a text says, or why it is refused.
-pub enum ReadDate {
-    Accepted(Date),
-    Refused(Refusal),
 }
 
 // The place of the first byte that is b, or the end.
@@ -69,10 +64,7 @@ fn is_dots(s: &[u8]) -> bool
 fn is_open_range(s: &[u8]) -> bool
     ensures { λ r. ⌜ r ≡ text.isOpen (now (s .entry)) ⌝ }
 {
-    if is_blank(s) {
-        return true;
-    }
-    is_dots(s)
+    is_blank(s) || is_dots(s)
 }
 
 // A point of the text; a refusal has its place moved by the span's start.
@@ -168,19 +160,13 @@ fn read_value(s: &[u8], span: FileSpan) -> ReadValue
 fn is_uncertain(mark: u8) -> bool
     ensures { λ r. ⌜ r ≡ text.isUncertain mark ⌝ }
 {
-    if mark == b'?' {
-        return true;
-    }
-    mark == b'%'
+    mark == b'?' || mark == b'%'
 }
 
 fn is_approximate(mark: u8) -> bool
     ensures { λ r. ⌜ r ≡ text.isApproximate mark ⌝ }
 {
-    if mark == b'~' {
-        return true;
-    }
-    mark == b'%'
+    mark == b'~' || mark == b'%'
 }
 
 // The last byte; 0 of no byte.
@@ -228,7 +214,7 @@ fn read_trimmed(s: &[u8], span: FileSpan) -> ReadDate
 pub fn parse_text(s: &[u8], span: FileSpan) -> ReadDate
     ensures { λ r. ⌜ r ≡ spec.parseText span (now (s .entry)) ⌝ }
 {
-    let end = strs::trim_end(s);
+    let end = numbers::trim_end(s);
     let n = end.0;
     read_trimmed(&s[..n], span)
 }

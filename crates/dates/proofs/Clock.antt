@@ -11,7 +11,7 @@ use mir.Val.{SFits, ofZ, toZ}
 use mir.ValLaws.{toZ-ofZ, toZ-pos}
 use Rattle.dates.specs.declared.TimeOffset.{TimeOffset}
 use Rattle.dates.specs.declared.TimeOffset.the-variants.{Offset}
-use Rattle.dates.specs.Time.{seconds, signed, offsetSeconds}
+use Rattle.dates.specs.Time.{seconds, aheadOrBehind, offsetSeconds}
 use Rattle.dates.proofs.Signs.{difference-mag}
 
 -- a difference of two numbers below a million
@@ -33,11 +33,11 @@ behind-fits n h = rw (cast n h) (less-fits (pos 0) (pos n) (omega arith) h)
 -- an offset of n seconds, ahead or behind
 module _ {o : TimeOffset} {b : Bool} {hours minutes n : ℕ} (is : o ≡ Offset b hours minutes) (en : n ≡ seconds hours minutes 0) (h : n < 1000000) where
   pub ahead : b ≡ true → (toZ w64 n ≡ offsetSeconds o) × (mag (toZ w64 n) < 1000000)
-  unfolding offsetSeconds signed
+  unfolding offsetSeconds aheadOrBehind
   ahead e = rw (cast n h, is, e) (ap pos en, h)
 
   pub behind : b ≡ false → (toZ w64 (ofZ w64 (pos 0 -ℤ toZ w64 n)) ≡ offsetSeconds o) × (mag (toZ w64 (ofZ w64 (pos 0 -ℤ toZ w64 n))) < 1000000)
-  unfolding offsetSeconds signed
+  unfolding offsetSeconds aheadOrBehind
   behind e =
       rw (toZ-ofZ w64 (pos 0 -ℤ toZ w64 n) (behind-fits n h), cast n h, +ℤ-idl (negℤ (pos n)), is, e)
       (ap (λ (m : ℕ). negℤ (pos m)) en, small n h)

@@ -29,14 +29,14 @@ unfoldable pub seconds : ℕ → ℕ → ℕ → ℕ
 seconds h m s = h * 3600 + m * 60 + s
 
 -- a number, or what it is below zero
-unfoldable pub signed : Bool → ℕ → ℤ
-signed true n = pos n
-signed false n = negℤ (pos n)
+unfoldable pub aheadOrBehind : Bool → ℕ → ℤ
+aheadOrBehind true n = pos n
+aheadOrBehind false n = negℤ (pos n)
 
 -- the seconds that an offset is ahead of UTC; negative if it is behind
 unfoldable pub offsetSeconds : TimeOffset → ℤ
 offsetSeconds Utc = pos 0
-offsetSeconds (Offset positive h m) = signed positive (seconds h m 0)
+offsetSeconds (Offset positive h m) = aheadOrBehind positive (seconds h m 0)
 
 -- the same of an offset that may be absent, which is ahead by nothing
 unfoldable pub aheadOf : OptionOffset → ℤ

@@ -3,9 +3,10 @@ ghost use mathlib.Core.Path.{_≡_};
 ghost use Prim.Native.Nat.{_<_};
 ghost use lib.Signed.{mag};
 ghost use Rattle.dates.specs.Calendar.{leapYear, monthLength};
+ghost use Rattle.dates.specs.declared.OptionOffset.the-variants.{NoOffset, SomeOffset};
 ghost use Rattle.dates.specs.Value as spec;
 ghost use Rattle.dates.specs.Time as clock;
-ghost use Rattle.dates.specs.declared.OptionOffset.the-variants.{NoOffset, SomeOffset};
+ghost use Rattle.dates.specs.Clocks as good;
 
 // A month as it is stored, counted from zero.
 pub struct Month(pub u8);
@@ -292,4 +293,88 @@ pub fn days_in_month(month: Month, year: i32) -> u8
         return 30 + m % 2;
     }
     0
+}
+
+// ---- which times are good: beside a day, and with all parts in range; who writes a time or counts by it asks here
+
+// Whether the hours and minutes of an offset are in range.
+fn offset_in(o: TimeOffset) -> bool
+    ensures { λ r. ⌜ r ≡ good.offsetIn o ⌝ }
+{
+    match o {
+        TimeOffset::Utc => true,
+        TimeOffset::Offset {
+            positive: _,
+            hours,
+            minutes,
+        } => {
+            if hours <= 23 {
+                return minutes <= 59;
+            }
+            false
+        }
+    }
+}
+
+// The same of an offset that may be absent.
+fn zone_in(o: OptionOffset) -> bool
+    ensures { λ r. ⌜ r ≡ good.zoneIn o ⌝ }
+{
+    match o {
+        OptionOffset::NoOffset => true,
+        OptionOffset::SomeOffset(o) => offset_in(o),
+    }
+}
+
+// Whether all parts of a time are in range.
+fn clock_in(t: Time) -> bool
+    ensures { λ r. ⌜ r ≡ good.clockIn t ⌝ }
+{
+    let offset = t.offset;
+    if t.hour <= 23 {
+        if t.minute <= 59 {
+            if t.second <= 59 {
+                return zone_in(offset);
+            }
+        }
+    }
+    false
+}
+
+// Whether there is a day beside a month.
+fn on_day(month: OptionMonth, day: OptionDay) -> bool
+    ensures { λ r. ⌜ r ≡ good.dayBesideMonth month day ⌝ }
+{
+    match month {
+        OptionMonth::NoMonth => false,
+        OptionMonth::SomeMonth(_) => match day {
+            OptionDay::NoDay => false,
+            OptionDay::SomeDay(_) => true,
+        },
+    }
+}
+
+// Whether a time is bad: without a day, or out of range.
+fn bad_time(dated: bool, t: OptionTime) -> bool
+    ensures { λ r. ⌜ r ≡ good.badTime dated t ⌝ }
+{
+    match t {
+        OptionTime::NoTime => false,
+        OptionTime::SomeTime(t) => {
+            if dated {
+                return !clock_in(t);
+            }
+            true
+        }
+    }
+}
+
+// Whether a Datetime has a bad time.
+pub fn has_bad_time(d: Datetime) -> bool
+    ensures { λ r. ⌜ r ≡ good.hasBadTime d ⌝ }
+{
+    let month = d.month;
+    let day = d.day;
+    let time = d.time;
+    bad_time(on_day(month, day), time)
 }

@@ -13,14 +13,14 @@ use Rattle.scanner.specs.Scan.{lenIn, matchLen, walk, eatWhile, eatIf, begins, 
 use Rattle.refusals.specs.declared.Kind.the-variants.{DayOutOfRange, InvalidNumber, MissingNumber, WrongNumberOfDigits, InvalidFormat, YearZeroCE}
 use Rattle.refusals.specs.declared.FileSpan.{FileSpan}
 use Rattle.refusals.specs.Refusal.{fileSpan, refusal}
-use Rattle.numbers.specs.Number.{admits, runOf, runAt, parseUnsignedInt, valueOf as valueIn}
+use Rattle.numbers.specs.Number.{admits, runOf, runAt, parseUnsignedInt, runValue as valueIn}
 use Rattle.dates.specs.declared.OptionMonth.{OptionMonth}
 use Rattle.dates.specs.declared.OptionMonth.the-variants.{NoMonth}
 use Rattle.dates.specs.declared.OptionDay.the-variants.{NoDay}
 use Rattle.dates.specs.Value.{day}
 use Rattle.chars.specs.Ascii.{ascii, digitOf}
-use Rattle.strs.specs.Trim.{stepBy, stepOver, trimStep, trimFrom, trimEnd, trim}
-use Rattle.strs.specs.Parse.{valueOf, digitsFrom, parse}
+use Rattle.numbers.specs.Trim.{stepBy, stepOver, trimStep, trimFrom, trimEnd, trim}
+use Rattle.numbers.specs.Parse.{wholeValue, digitsFrom, parse}
 use Rattle.fields.specs.declared.ReadYear.{ReadYear}
 use Rattle.fields.specs.declared.ReadYear.the-variants.{Year, NoYear}
 use Rattle.fields.specs.declared.ReadMonth.the-variants.{MonthRead, NoMonthRead}
@@ -30,7 +30,7 @@ use Rattle.fields.specs.declared.ReadDayField.{ReadDayField}
 use Rattle.fields.specs.declared.ReadDayField.the-variants.{Given}
 use Rattle.refusals.specs.Offset.{textRefusal as refused, panics}
 use Rattle.fields.specs.Year.{onPast, eraEnd, negativeEra, eraAt, parseEraMarker, ended, withEra, behindDigits, onNumber, yearDigits, yearFrom, behindSign, yearAt, getYear}
-use Rattle.months.specs.Names.{stored, lower, sameLetters, monthIn, getMonthForName, getMonthForAbbr, orElse, monthFor}
+use Rattle.fields.specs.Names.{storedMonth, lower, sameLetters, monthIn, getMonthForName, getMonthForAbbr, orElse, monthFor}
 use Rattle.fields.specs.Month.{named, monthOf, monthField}
 use Rattle.fields.specs.Day.{notGiven, isDay, dayOf, dayDigits, dayBehind, dayAt, dayFrom, dayInMonthField, dayGiven, dayField}
 
@@ -66,7 +66,7 @@ years =
     ∷ []
 
 pub year-examples : map (λ (e : YearExample). getYear (ascii (e .text))) years ≡ map (λ (e : YearExample). e .says) years
-unfolding pick within isWhitespace isAsciiDigit isNumeric isAsciiAlphabetic isAlphabetic isAlphanumeric lenOf isCont two decode first decodeAt inClass lenIn matchLen walk eatWhile eatIf begins eatText standsAt doneAt part digitOf valueOf digitsFrom parse onPast eraEnd negativeEra eraAt parseEraMarker ended withEra behindDigits onNumber yearDigits yearFrom behindSign yearAt getYear
+unfolding pick within isWhitespace isAsciiDigit isNumeric isAsciiAlphabetic isAlphabetic isAlphanumeric lenOf isCont two decode first decodeAt inClass lenIn matchLen walk eatWhile eatIf begins eatText standsAt doneAt part digitOf wholeValue digitsFrom parse onPast eraEnd negativeEra eraAt parseEraMarker ended withEra behindDigits onNumber yearDigits yearFrom behindSign yearAt getYear
 year-examples = refl
 
 -- a month field, its month, the place behind it, and the day that it holds there
@@ -78,23 +78,23 @@ pub record MonthExample : Type 0 where
 
 abbrev pub months : List MonthExample
 months =
-    record { text = ascii "13"; month = stored 12; next = 2; holds = DayRead NoDay }
-    ∷ record { text = ascii "74"; month = stored 73; next = 2; holds = DayRead NoDay }
-    ∷ record { text = ascii "7 4"; month = stored 6; next = 1; holds = DayRead (day 3) }
-    ∷ record { text = ascii "4 july"; month = stored 3; next = 1; holds = DayRead NoDay }
-    ∷ record { text = ascii " jUL "; month = stored 6; next = 4; holds = DayRead NoDay }
-    ∷ record { text = ascii "SEPT"; month = stored 8; next = 4; holds = DayRead NoDay }
+    record { text = ascii "13"; month = storedMonth 12; next = 2; holds = DayRead NoDay }
+    ∷ record { text = ascii "74"; month = storedMonth 73; next = 2; holds = DayRead NoDay }
+    ∷ record { text = ascii "7 4"; month = storedMonth 6; next = 1; holds = DayRead (day 3) }
+    ∷ record { text = ascii "4 july"; month = storedMonth 3; next = 1; holds = DayRead NoDay }
+    ∷ record { text = ascii " jUL "; month = storedMonth 6; next = 4; holds = DayRead NoDay }
+    ∷ record { text = ascii "SEPT"; month = storedMonth 8; next = 4; holds = DayRead NoDay }
     ∷ record { text = ascii "febr"; month = NoMonth; next = 4; holds = DayRead NoDay }
-    ∷ record { text = ascii "july4"; month = stored 6; next = 4; holds = DayRead (day 3) }
-    ∷ record { text = ascii "jul-4,"; month = stored 6; next = 3; holds = DayRead (day 3) }
-    ∷ record { text = ascii "jul,4"; month = stored 6; next = 3; holds = DayRead NoDay }
-    ∷ record { text = ascii "123jul-4"; month = stored 6; next = 6; holds = DayRead (day 3) }
+    ∷ record { text = ascii "july4"; month = storedMonth 6; next = 4; holds = DayRead (day 3) }
+    ∷ record { text = ascii "jul-4,"; month = storedMonth 6; next = 3; holds = DayRead (day 3) }
+    ∷ record { text = ascii "jul,4"; month = storedMonth 6; next = 3; holds = DayRead NoDay }
+    ∷ record { text = ascii "123jul-4"; month = storedMonth 6; next = 6; holds = DayRead (day 3) }
     ∷ record { text = ascii "123 jul"; month = NoMonth; next = 3; holds = DayRead NoDay }
     ∷ record { text = ascii "123 4"; month = NoMonth; next = 3; holds = DayRead (day 3) }
-    ∷ record { text = ascii "jul-"; month = stored 6; next = 3; holds = NoDayRead (refused MissingNumber 4 4) }
-    ∷ record { text = ascii "jul" ++ (0xC2 ∷ 0xA0 ∷ ascii " 4"); month = stored 6; next = 3; holds = NoDayRead (refused MissingNumber 5 5) }
-    ∷ record { text = ascii "jul-32"; month = stored 6; next = 3; holds = NoDayRead (refused DayOutOfRange 4 6) }
-    ∷ record { text = ascii "july 2020"; month = stored 6; next = 4; holds = NoDayRead panics }
+    ∷ record { text = ascii "jul-"; month = storedMonth 6; next = 3; holds = NoDayRead (refused MissingNumber 4 4) }
+    ∷ record { text = ascii "jul" ++ (0xC2 ∷ 0xA0 ∷ ascii " 4"); month = storedMonth 6; next = 3; holds = NoDayRead (refused MissingNumber 5 5) }
+    ∷ record { text = ascii "jul-32"; month = storedMonth 6; next = 3; holds = NoDayRead (refused DayOutOfRange 4 6) }
+    ∷ record { text = ascii "july 2020"; month = storedMonth 6; next = 4; holds = NoDayRead panics }
     ∷ []
 
 pub month-examples : map (λ (e : MonthExample). monthField (e .text)) months ≡ map (λ (e : MonthExample). MonthRead (e .month) (record { 0 = e .next })) months
@@ -102,7 +102,7 @@ unfolding pick within isWhitespace isAsciiDigit isNumeric isAsciiAlphabetic lenO
 month-examples = refl
 
 pub day-examples : map (λ (e : MonthExample). dayInMonthField (e .text) (e .next)) months ≡ map (λ (e : MonthExample). e .holds) months
-unfolding pick within isWhitespace isAsciiDigit lenOf isCont two decode first decodeAt inClass lenIn matchLen walk eatWhile part digitOf valueOf digitsFrom parse isDay dayOf dayDigits dayBehind dayAt dayFrom dayInMonthField
+unfolding pick within isWhitespace isAsciiDigit lenOf isCont two decode first decodeAt inClass lenIn matchLen walk eatWhile part digitOf wholeValue digitsFrom parse isDay dayOf dayDigits dayBehind dayAt dayFrom dayInMonthField
 day-examples = refl
 
 -- month fields that the ported code panics at: zeros, and the character ½
@@ -135,5 +135,5 @@ dayFields =
     ∷ []
 
 pub day-field-examples : map (λ (e : DayExample). dayField (ascii (e .text)) (e .span)) dayFields ≡ map (λ (e : DayExample). e .says) dayFields
-unfolding pick within isWhitespace lenOf decode first decodeAt inClass lenIn matchLen walk eatWhile part stepBy stepOver trimStep trimFrom trimEnd trim digitOf valueOf digitsFrom parse refusal isDay dayGiven dayField
+unfolding pick within isWhitespace lenOf decode first decodeAt inClass lenIn matchLen walk eatWhile part stepBy stepOver trimStep trimFrom trimEnd trim digitOf wholeValue digitsFrom parse refusal isDay dayGiven dayField
 day-field-examples = refl

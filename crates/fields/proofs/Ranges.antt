@@ -24,13 +24,13 @@ use Rattle.dates.specs.Value.{month, day}
 use Rattle.numbers.specs.declared.Digits.the-variants.{OneOrTwo}
 use Rattle.numbers.specs.declared.Parsed.{Parsed}
 use Rattle.numbers.proofs.Laws.{Below, number, wrong, panics, unsigned-below}
-use Rattle.strs.specs.declared.ParsedNumber.{ParsedNumber}
-use Rattle.strs.specs.declared.ParsedNumber.the-variants.{Value, NoValue}
-use Rattle.strs.specs.Trim.{trim}
-use Rattle.strs.specs.Parse.{parse}
-use Rattle.strs.proofs.Digits.{AtMost, at-most, no-number, parse-most}
-use Rattle.months.specs.Names.{monthFor}
-use Rattle.months.proofs.Named.{MonthBelow, named-below}
+use Rattle.numbers.specs.declared.ParsedNumber.{ParsedNumber}
+use Rattle.numbers.specs.declared.ParsedNumber.the-variants.{Value, NoValue}
+use Rattle.numbers.specs.Trim.{trim}
+use Rattle.numbers.specs.Parse.{parse}
+use Rattle.numbers.proofs.Whole.{AtMost, at-most, no-number, parse-most}
+use Rattle.fields.specs.Names.{monthFor}
+use Rattle.fields.proofs.Named.{MonthBelow, named-below}
 use Rattle.fields.specs.declared.Sign.{Sign}
 use Rattle.fields.specs.declared.Sign.the-variants.{NoSign, Plus, Minus}
 use Rattle.fields.specs.declared.ReadEra.{ReadEra}
@@ -43,7 +43,7 @@ use Rattle.fields.specs.declared.ReadDay.{ReadDay}
 use Rattle.fields.specs.declared.ReadDay.the-variants.{DayRead, NoDayRead}
 use Rattle.fields.specs.declared.ReadDayField.{ReadDayField}
 use Rattle.fields.specs.declared.ReadDayField.the-variants.{Given, NotGiven}
-use Rattle.fields.specs.Year.{signed, beforeChrist, onPast, ended, withEra, behindDigits, onNumber, yearDigits, yearFrom, behindSign, yearAt, getYear}
+use Rattle.fields.specs.Year.{signedBy, beforeChrist, onPast, ended, withEra, behindDigits, onNumber, yearDigits, yearFrom, behindSign, yearAt, getYear}
 use Rattle.fields.specs.Month.{named, monthOf, monthField}
 use Rattle.fields.specs.Day.{isDay, dayOf, dayDigits, dayBehind, dayAt, dayFrom, dayInMonthField, dayGiven, dayField}
 use Rattle.fields.proofs.Days.{day-in}
@@ -55,7 +55,7 @@ pub data YearIn : ReadYear → Type 0 where
   year : {y : ℤ} → natAbs y < 10000 → YearIn (Year y)
   no-year : {e : TextRefusal} → YearIn (NoYear e)
 
-signed-in : (sign : Sign) (n : ℕ) → n < 10000 → natAbs (signed sign n) < 10000
+signed-in : (sign : Sign) (n : ℕ) → n < 10000 → natAbs (signedBy sign n) < 10000
 signed-in NoSign n h = h
 signed-in Plus n h = h
 signed-in Minus zero h = h
@@ -80,7 +80,7 @@ era-in s idx sign n h (Era positive c) =
     by-test YearIn _ (λ _. no-year) λ _.
     by-test YearIn _ (λ _. no-year) λ _.
     by-test YearIn _ (λ _. ended-in s idx (c .0) (pos n) h) (λ _. year (before-in n h))
-era-in s idx sign n h (NoEra c) = ended-in s idx (c .0) (signed sign n) (signed-in sign n h)
+era-in s idx sign n h (NoEra c) = ended-in s idx (c .0) (signedBy sign n) (signed-in sign n h)
 era-in s idx sign n h (BadEra e) = no-year
 
 number-in : {p : ParsedNumber} {go : ℕ → ReadYear} → AtMost 9999 p → ((n : ℕ) → n < 10000 → YearIn (go n)) → YearIn (onNumber p go)

@@ -14,10 +14,10 @@ use Rattle.refusals.specs.Refusal.{refusal}
 use Rattle.refusals.specs.Offset.{textRefusal, panics}
 use Rattle.dates.specs.declared.OptionDay.the-variants.{NoDay}
 use Rattle.dates.specs.Value.{day}
-use Rattle.strs.specs.declared.ParsedNumber.{ParsedNumber}
-use Rattle.strs.specs.declared.ParsedNumber.the-variants.{Value, NoValue}
-use Rattle.strs.specs.Trim.{trim}
-use Rattle.strs.specs.Parse.{parse}
+use Rattle.numbers.specs.declared.ParsedNumber.{ParsedNumber}
+use Rattle.numbers.specs.declared.ParsedNumber.the-variants.{Value, NoValue}
+use Rattle.numbers.specs.Trim.{trim}
+use Rattle.numbers.specs.Parse.{parse}
 use Rattle.fields.specs.declared.ReadDay.{ReadDay}
 use Rattle.fields.specs.declared.ReadDay.the-variants.{DayRead, NoDayRead}
 use Rattle.fields.specs.declared.ReadDayField.{ReadDayField}

@@ -1,3 +1,4 @@
 pub mod Year
 pub mod Month
 pub mod Day
+pub mod Names

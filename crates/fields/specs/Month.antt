@@ -12,7 +12,7 @@ use Rattle.numbers.specs.declared.Parsed.the-variants.{Number, Wrong, Panics}
 use Rattle.numbers.specs.Number.{parseUnsignedInt}
 use Rattle.fields.specs.declared.ReadMonth.{ReadMonth}
 use Rattle.fields.specs.declared.ReadMonth.the-variants.{MonthRead, NoMonthRead}
-use Rattle.months.specs.Names.{stored, monthFor}
+use Rattle.fields.specs.Names.{storedMonth, monthFor}
 
 -- the letters from a place to another: the month that they name, if they name one
 unfoldable pub named : List ℕ → ℕ → ℕ → ReadMonth
@@ -21,7 +21,7 @@ named s start end = MonthRead (monthFor (part s start end)) (record { 0 = end })
 -- a number is the month less 1, with no upper bound, and 0 panics; where no number of one or two bytes stands, the letters behind
 -- what stands there
 unfoldable pub monthOf : List ℕ → Parsed → ReadMonth
-monthOf s (Number v c) = pick (eqb v 0) (NoMonthRead panics) (MonthRead (stored (v - 1)) c)
+monthOf s (Number v c) = pick (eqb v 0) (NoMonthRead panics) (MonthRead (storedMonth (v - 1)) c)
 monthOf s (Wrong c) = named s (c .0) (eatWhile AsciiAlphabetic s (c .0))
 monthOf s Panics = NoMonthRead panics
 

@@ -1,4 +1,5 @@
 -- The year field: a sign, one to four digits, and an era.
+use Prim.Native.Char.{code}
 use Prim.Native.Nat.{ℕ}
 use mathlib.Core.Bool.{Bool, true, false}
 use mathlib.Core.List.{List}
@@ -12,9 +13,9 @@ use Rattle.scanner.specs.declared.EatIf.the-variants.{Past, Kept}
 use Rattle.scanner.specs.Scan.{eatWhile, eatIf, eatText, standsAt, doneAt, part}
 use Rattle.refusals.specs.declared.Kind.the-variants.{WrongNumberOfDigits, InvalidFormat, YearZeroCE}
 use Rattle.refusals.specs.Offset.{textRefusal, panics}
-use Rattle.strs.specs.declared.ParsedNumber.{ParsedNumber}
-use Rattle.strs.specs.declared.ParsedNumber.the-variants.{Value, NoValue}
-use Rattle.strs.specs.Parse.{parse}
+use Rattle.numbers.specs.declared.ParsedNumber.{ParsedNumber}
+use Rattle.numbers.specs.declared.ParsedNumber.the-variants.{Value, NoValue}
+use Rattle.numbers.specs.Parse.{parse}
 use Rattle.fields.specs.declared.Sign.{Sign}
 use Rattle.fields.specs.declared.Sign.the-variants.{NoSign, Plus, Minus}
 use Rattle.fields.specs.declared.ReadEra.{ReadEra}
@@ -30,10 +31,10 @@ hasSign Plus = true
 hasSign Minus = true
 
 -- a number behind its sign: it is the year, whatever its number of digits
-abbrev pub signed : Sign → ℕ → ℤ
-signed NoSign n = pos n
-signed Plus n = pos n
-signed Minus n = negℤ (pos n)
+abbrev pub signedBy : Sign → ℕ → ℤ
+signedBy NoSign n = pos n
+signedBy Plus n = pos n
+signedBy Minus n = negℤ (pos n)
 
 -- n BC is 1 - n
 abbrev pub beforeChrist : ℕ → ℤ
@@ -77,7 +78,7 @@ withEra s idx sign n (Era positive c) =
     pick (hasSign sign) (NoYear (textRefusal InvalidFormat idx (c .0)))
     (pick (eqb n 0) (NoYear (textRefusal YearZeroCE idx (c .0)))
     (pick positive (ended s idx (c .0) (pos n)) (Year (beforeChrist n))))
-withEra s idx sign n (NoEra c) = ended s idx (c .0) (signed sign n)
+withEra s idx sign n (NoEra c) = ended s idx (c .0) (signedBy sign n)
 withEra s idx sign n (BadEra e) = NoYear e
 
 -- behind the digits an era may stand, and decides what the digits mean
@@ -107,8 +108,8 @@ behindSign s idx at sign = yearFrom s idx at sign (eatWhile Whitespace s at)
 -- a sign or none at a place, and what follows it
 unfoldable pub yearAt : List ℕ → ℕ → ReadYear
 yearAt s idx =
-    onPast (eatIf (Is 0x2D) s idx) (λ c. behindSign s idx c Minus)
-    (onPast (eatIf (Is 0x2B) s idx) (λ c. behindSign s idx c Plus) (behindSign s idx idx NoSign))
+    onPast (eatIf (Is (code "-")) s idx) (λ c. behindSign s idx c Minus)
+    (onPast (eatIf (Is (code "+")) s idx) (λ c. behindSign s idx c Plus) (behindSign s idx idx NoSign))
 
 -- the year of a year field: not windowed, 49 is 49. A refused year's place starts behind the white space at the front
 unfoldable pub getYear : List ℕ → ReadYear

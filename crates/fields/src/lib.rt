@@ -1,8 +1,9 @@
 // The fields of a date: year, month and day, each a formatted text. They are not in upper case.
 ghost use mathlib.Core.Path.{_≡_};
 ghost use Prim.Native.Nat.{_<_};
+ghost use lib.ListN.{drop};
 ghost use Rattle.fields.specs.Year as spec;
-ghost use Rattle.months.specs.Names as names;
+ghost use Rattle.fields.specs.Names as names;
 ghost use Rattle.fields.specs.Day as days;
 ghost use Rattle.fields.specs.Month as month;
 use dates::Day;
@@ -11,6 +12,7 @@ use dates::OptionDay;
 use dates::OptionMonth;
 use numbers::Digits;
 use numbers::Parsed;
+use numbers::ParsedNumber;
 use refusals::FileSpan;
 use refusals::Kind;
 use refusals::Refusal;
@@ -20,7 +22,10 @@ use refusals::refuse_text;
 use scanner::Class;
 use scanner::Cursor;
 use scanner::EatIf;
-use strs::ParsedNumber;
+
+const HYPHEN: u32 = b'-' as u32;
+
+const PLUS: u32 = b'+' as u32;
 
 // The year of a year field, or why there is none.
 pub enum ReadYear {
@@ -75,7 +80,7 @@ fn has_sign(sign: Sign) -> bool
 // A number of four digits at most, behind its sign.
 fn signed(sign: Sign, n: u32) -> i32
     requires { ⌜ n < 10000 ⌝ }
-    ensures { λ r. ⌜ r ≡ spec.signed sign n ⌝ }
+    ensures { λ r. ⌜ r ≡ spec.signedBy sign n ⌝ }
 {
     let year = n as i32;
     match sign {
@@ -184,7 +189,7 @@ fn behind_sign(s: &[u8], idx: Cursor, c: Cursor, sign: Sign) -> ReadYear
     if start.0 != c.0 {
         return ReadYear::NoYear(panics());
     }
-    match strs::parse(digits, 9999) {
+    match numbers::parse(digits, 9999) {
         ParsedNumber::Value(n) => behind_digits(s, idx, next, sign, n),
         ParsedNumber::NoValue => ReadYear::NoYear(panics()),
     }
@@ -195,10 +200,10 @@ pub fn get_year(s: &[u8]) -> ReadYear
     ensures { λ r. ⌜ r ≡ spec.getYear (now (s .entry)) ⌝ }
 {
     let idx = scanner::eat_whitespace(s, Cursor(0));
-    match scanner::eat_if(s, idx, Class::Is(0x2D)) {
+    match scanner::eat_if(s, idx, Class::Is(HYPHEN)) {
         EatIf::Past(c) => behind_sign(s, idx, c, Sign::Minus),
         EatIf::Kept => {
-            match scanner::eat_if(s, idx, Class::Is(0x2B)) {
+            match scanner::eat_if(s, idx, Class::Is(PLUS)) {
                 EatIf::Past(c) => behind_sign(s, idx, c, Sign::Plus),
                 EatIf::Kept => behind_sign(s, idx, idx, Sign::NoSign),
             }
@@ -210,9 +215,9 @@ pub fn get_year(s: &[u8]) -> ReadYear
 fn month_for(t: &[u8]) -> OptionMonth
     ensures { λ r. ⌜ r ≡ names.monthFor (now (t .entry)) ⌝ }
 {
-    match months::get_month_for_name(t) {
+    match get_month_for_name(t) {
         OptionMonth::SomeMonth(m) => OptionMonth::SomeMonth(m),
-        OptionMonth::NoMonth => months::get_month_for_abbr(t),
+        OptionMonth::NoMonth => get_month_for_abbr(t),
     }
 }
 
@@ -249,7 +254,7 @@ fn is_day(d: u32) -> bool
 fn day_digits(s: &[u8], start: Cursor, c: Cursor) -> ReadDay
     ensures { λ r. ⌜ r ≡ days.dayDigits (now (s .entry)) (start .0) (c .0) ⌝ }
 {
-    match strs::parse(scanner::from(s, start, c), 255) {
+    match numbers::parse(scanner::from(s, start, c), 255) {
         ParsedNumber::Value(d) => {
             if is_day(d) {
                 return ReadDay::DayRead(OptionDay::SomeDay(Day((d - 1) as u8)));
@@ -289,7 +294,7 @@ fn not_given(kind: Kind, span: FileSpan) -> ReadDayField
 pub fn day_field(s: &[u8], span: FileSpan) -> ReadDayField
     ensures { λ r. ⌜ r ≡ days.dayField (now (s .entry)) span ⌝ }
 {
-    match strs::parse(strs::trim(s), 255) {
+    match numbers::parse(numbers::trim(s), 255) {
         ParsedNumber::Value(d) => {
             if is_day(d) {
                 return ReadDayField::Given(Day((d - 1) as u8));
@@ -302,5 +307,171 @@ pub fn day_field(s: &[u8], span: FileSpan) -> ReadDayField
             }
             not_given(Kind::MissingNumber, span)
         }
+    }
+}
+
+// ---- the English names of the months, and their abbreviations, in any mixture of cases
+
+// A letter in lower case; any other byte as it is.
+fn lower(b: u8) -> u8
+    ensures { λ r. ⌜ r ≡ names.lower b ⌝ }
+{
+    if b < b'A' {
+        return b;
+    }
+    if b'Z' < b {
+        return b;
+    }
+    b + 32
+}
+
+// Whether a text is a name in any mixture of cases. The name is given in lower case, and the letters are compared as they stand.
+fn same_letters(t: &[u8], name: &[u8]) -> bool
+    ensures { λ r. ⌜ r ≡ names.sameLetters (now (name .entry)) (now (t .entry)) ⌝ }
+{
+    let mut i = 0;
+    while i < name.len() {
+        if t.len() <= i {
+            return false;
+        }
+        let b = lower(t[i]);
+        if name[i] != b {
+            return false;
+        }
+        i = i + 1;
+    }
+    t.len() <= i
+}
+
+fn stored(m: u8) -> OptionMonth
+    ensures { λ r. ⌜ r ≡ names.storedMonth m ⌝ }
+{
+    OptionMonth::SomeMonth(Month(m))
+}
+
+// The month of an abbreviation, tried from October on. The words are tried a quarter of the year at a time, since one long chain takes
+// far longer to check than four short ones.
+fn abbr_from_october(t: &[u8]) -> OptionMonth
+    ensures { λ r. ⌜ r ≡ names.monthIn (drop 12 names.abbreviations) (now (t .entry)) ⌝ }
+{
+    if same_letters(t, b"oct") {
+        stored(9)
+    } else if same_letters(t, b"nov") {
+        stored(10)
+    } else if same_letters(t, b"dec") {
+        stored(11)
+    } else {
+        OptionMonth::NoMonth
+    }
+}
+
+// Tried from July on.
+fn abbr_from_july(t: &[u8]) -> OptionMonth
+    ensures { λ r. ⌜ r ≡ names.monthIn (drop 7 names.abbreviations) (now (t .entry)) ⌝ }
+{
+    if same_letters(t, b"jul") {
+        stored(6)
+    } else if same_letters(t, b"july") {
+        stored(6)
+    } else if same_letters(t, b"aug") {
+        stored(7)
+    } else if same_letters(t, b"sep") {
+        stored(8)
+    } else if same_letters(t, b"sept") {
+        stored(8)
+    } else {
+        abbr_from_october(t)
+    }
+}
+
+// Tried from April on.
+fn abbr_from_april(t: &[u8]) -> OptionMonth
+    ensures { λ r. ⌜ r ≡ names.monthIn (drop 3 names.abbreviations) (now (t .entry)) ⌝ }
+{
+    if same_letters(t, b"apr") {
+        stored(3)
+    } else if same_letters(t, b"may") {
+        stored(4)
+    } else if same_letters(t, b"jun") {
+        stored(5)
+    } else if same_letters(t, b"june") {
+        stored(5)
+    } else {
+        abbr_from_july(t)
+    }
+}
+
+// The month of an abbreviation: the first three letters of its name, and june, july and sept.
+pub fn get_month_for_abbr(t: &[u8]) -> OptionMonth
+    ensures { λ r. ⌜ r ≡ names.getMonthForAbbr (now (t .entry)) ⌝ }
+{
+    if same_letters(t, b"jan") {
+        stored(0)
+    } else if same_letters(t, b"feb") {
+        stored(1)
+    } else if same_letters(t, b"mar") {
+        stored(2)
+    } else {
+        abbr_from_april(t)
+    }
+}
+
+// The month of a name, tried from October on.
+fn name_from_october(t: &[u8]) -> OptionMonth
+    ensures { λ r. ⌜ r ≡ names.monthIn (drop 9 names.names) (now (t .entry)) ⌝ }
+{
+    if same_letters(t, b"october") {
+        stored(9)
+    } else if same_letters(t, b"november") {
+        stored(10)
+    } else if same_letters(t, b"december") {
+        stored(11)
+    } else {
+        OptionMonth::NoMonth
+    }
+}
+
+// Tried from July on.
+fn name_from_july(t: &[u8]) -> OptionMonth
+    ensures { λ r. ⌜ r ≡ names.monthIn (drop 6 names.names) (now (t .entry)) ⌝ }
+{
+    if same_letters(t, b"july") {
+        stored(6)
+    } else if same_letters(t, b"august") {
+        stored(7)
+    } else if same_letters(t, b"september") {
+        stored(8)
+    } else {
+        name_from_october(t)
+    }
+}
+
+// Tried from April on.
+fn name_from_april(t: &[u8]) -> OptionMonth
+    ensures { λ r. ⌜ r ≡ names.monthIn (drop 3 names.names) (now (t .entry)) ⌝ }
+{
+    if same_letters(t, b"april") {
+        stored(3)
+    } else if same_letters(t, b"may") {
+        stored(4)
+    } else if same_letters(t, b"june") {
+        stored(5)
+    } else {
+        name_from_july(t)
+    }
+}
+
+// The month that a name in full says, in either case.
+pub fn get_month_for_name(t: &[u8]) -> OptionMonth
+    ensures { λ r. ⌜ r ≡ names.getMonthForName (now (t .entry)) ⌝ }
+{
+    if same_letters(t, b"january") {
+        stored(0)
+    } else if same_letters(t, b"february") {
+        stored(1)
+    } else if same_letters(t, b"march") {
+        stored(2)
+    } else {
+        name_from_april(t)
     }
 }

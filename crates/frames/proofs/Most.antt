@@ -19,26 +19,27 @@ use Rattle.dates.specs.declared.Datetime.{Datetime}
 use Rattle.dates.specs.declared.DateValue.the-variants.{Between}
 use Rattle.dates.specs.declared.Date.{Date}
 use Rattle.dates.specs.Value.{datetime, date}
-use Rattle.datefield.specs.declared.ReadDate.{ReadDate}
-use Rattle.datefield.specs.declared.ReadDate.the-variants.{Accepted}
+use Rattle.refusals.specs.declared.ReadDate.{ReadDate}
+use Rattle.refusals.specs.declared.ReadDate.the-variants.{Accepted}
 use Rattle.hexes.specs.Hex.{isDigit, digitOf, allDigits, isHex, bytesOf}
-use Rattle.reader.specs.Field.{parsedLevelOne}
-use Rattle.writer.specs.Numbers.{count, digitCount, width, decimal}
-use Rattle.writer.specs.Texts.{minus, yearText, monthParts, partsOf, partsText, markText, tooLarge, endPanics}
-use Rattle.writer.specs.Answers.{measured}
+use Rattle.reading_laws.specs.Field.{parsedLevelOne}
+use Rattle.puts.specs.Numbers.{count, digitCount, width, decimal}
+use Rattle.writer.specs.Texts.{minus, yearText, monthParts, partsOf, partsText, tooLarge, endPanics}
+use Rattle.puts.specs.Marks.{markText}
+use Rattle.puts.specs.Answers.{measured}
 use Rattle.writer.specs.Level.{longSign, behindText, levelEnd, levelValue, levelText, levelEndPanics, levelValuePanics, levelPanics}
 use Rattle.writer.proofs.Bounds.{NarrowEnds, text-short}
-use Rattle.roundtrip.specs.Level.{InLevel, of-long-year}
-use Rattle.roundtrip.proofs.Narrow.{parsed-narrow, strict-narrow, three-narrow, level-narrow}
-use Rattle.roundtrip.proofs.LevelBack.{level-back}
+use Rattle.roundtrip_laws.specs.Level.{InLevel, of-long-year}
+use Rattle.roundtrip_laws.proofs.Narrow.{parsed-narrow, strict-narrow, three-narrow, level-narrow}
+use Rattle.roundtrip_laws.proofs.LevelBack.{level-back}
 use Rattle.answers.specs.Answer.{endLength, shape, endsBytes, marks, acceptedBytes, acceptedLine, measuredLine, answerLine, levelLine}
 use Rattle.answers.proofs.Digits.{length-two}
 use Rattle.answers.proofs.Lines.{refused-length, line-most, level-line-most}
 use Rattle.frames.specs.declared.Operation.{Operation}
 use Rattle.frames.specs.declared.Operation.the-variants.{Ported, Strict, LevelOne, ThreeFields, Unknown}
-use Rattle.frames.specs.Lists.{byteAt, wordAt, endOf, rowAt, tableOf, textOf}
+use Rattle.frames.specs.Lists.{wordAt, endOf, rowAt, tableOf, textOf}
 use Rattle.frames.specs.Room.{operationOf}
-use Rattle.frames.specs.Frame.{oneFills, formed, readOf, badFrame, frameRead, lineBy, frameAnswer, lineAnswer}
+use Rattle.frames.specs.Frame.{readOf, badFrame, frameRead, lineBy, frameAnswer, lineAnswer}
 use Rattle.frames.proofs.Operations.{by-level-one}
 
 -- so many characters an answer has at most, by the operation

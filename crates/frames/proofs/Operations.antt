@@ -10,13 +10,13 @@ use Rattle.chars.proofs.Cases.{by-test, of-test}
 use Rattle.refusals.specs.declared.Kind.the-variants.{RustPanics}
 use Rattle.dates.specs.declared.Date.{Date}
 use Rattle.dates.specs.Value.{anySeason}
-use Rattle.datefield.specs.declared.ReadDate.{ReadDate}
-use Rattle.datefield.specs.declared.ReadDate.the-variants.{Accepted, Refused}
+use Rattle.refusals.specs.declared.ReadDate.{ReadDate}
+use Rattle.refusals.specs.declared.ReadDate.the-variants.{Accepted, Refused}
 use Rattle.hexes.specs.Hex.{isHex, bytesOf}
-use Rattle.reader.specs.Field.{parsedLevelOne}
+use Rattle.reading_laws.specs.Field.{parsedLevelOne}
 use Rattle.writer.specs.Texts.{dateText, panics}
-use Rattle.writer.specs.Answers.{refused}
-use Rattle.roundtrip.proofs.Seasons.{ported-none, strict-none, three-none}
+use Rattle.refusals.specs.Refusal.{nowhere}
+use Rattle.roundtrip_laws.proofs.Seasons.{ported-none, strict-none, three-none}
 use Rattle.answers.specs.Answer.{refusedLine, acceptedLine, answerLine, levelLine}
 use Rattle.answers.proofs.Lines.{former-line}
 use Rattle.frames.specs.declared.Operation.{Operation}
@@ -55,7 +55,7 @@ not-level n h = ap isLevel (others-asked n h) ∙ former
 
 -- the line of an answer before there were seasons
 abbrev pub formerLine : ReadDate → List ℕ
-formerLine (Accepted d) = pick (panics d) (refusedLine (refused RustPanics)) (acceptedLine false d (dateText d))
+formerLine (Accepted d) = pick (panics d) (refusedLine (nowhere RustPanics)) (acceptedLine false d (dateText d))
 formerLine (Refused e) = refusedLine e
 
 -- where no season is given it is the line still

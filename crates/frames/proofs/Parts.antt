@@ -1,23 +1,23 @@
 -- What was put into a buffer, as the parts of it that are lent on. Assumes nothing.
 use mathlib.Core.Path.{_≡_, refl, sym, ap, _∙_}
 use mathlib.Core.Bool.{Bool, true, false, _&&_, false≢true}
-use mathlib.Core.List.{List, [], _∷_, _++_, append-assoc, append-nil}
+use mathlib.Core.List.{List, _++_, append-assoc, append-nil}
 use Prim.Native.Nat.{ℕ, _+_, _-_, _*_, _%_, _≤_, _<_}
 use native.Mathlib.Omega.{arith}
 use borrow.Author.Tests.{eqb-true, leb-true, le-leb, lt-leb}
 use lib.Dec.{eqb, leb}
 use lib.ListN.{length, take, drop, length-append}
-use lib.Seq.{take-at, drop-at, length-take-le}
+use lib.Seq.{take-at, drop-at}
 use Rattle.chars.specs.Pick.{pick}
 use Rattle.chars.proofs.Cases.{by-test, of-test}
 use Rattle.hexes.specs.declared.Hex.{Hex}
 use Rattle.hexes.specs.declared.Hex.the-variants.{Bytes, Bad}
 use Rattle.hexes.specs.Hex.{isHex, bytesOf, half, decoded, decodedInto}
 use Rattle.hexes.proofs.Laws.{length-bytes}
-use Rattle.writer.specs.Answers.{Put}
-use Rattle.writer.proofs.Puts.{kept, both, at-front}
-use Rattle.reader.specs.Fields.{threeFields}
-use Rattle.datefield.specs.declared.ReadDate.{ReadDate}
+use Rattle.puts.specs.Answers.{Put}
+use Rattle.puts.proofs.Puts.{kept, both, at-front}
+use Rattle.reading_laws.specs.Fields.{threeFields}
+use Rattle.refusals.specs.declared.ReadDate.{ReadDate}
 use Rattle.answers.specs.Answer.{answerLine}
 use Rattle.frames.specs.declared.Operation.{Operation}
 use Rattle.frames.specs.declared.Operation.the-variants.{Ported, Strict, LevelOne, ThreeFields, Unknown}

@@ -1,15 +1,14 @@
 -- The lists of a frame chunk by chunk: places, and what is put. Assumes nothing.
-use mathlib.Core.Path.{_≡_, refl, sym, ap, _∙_}
+use mathlib.Core.Path.{_≡_, refl, sym, _∙_}
 use mathlib.Core.Bool.{true, false}
-use mathlib.Core.List.{List, [], _∷_, _++_}
+use mathlib.Core.List.{List, [], _∷_}
 use Prim.Native.Nat.{ℕ, zero, suc, _+_, _-_, _*_, _≤_, _<_}
-use native.Mathlib.Nat.{add-zero}
 use native.Mathlib.Omega.{arith}
-use lib.ListN.{length, getD, take, drop, set, length-append, length-drop}
+use lib.ListN.{length, getD, drop, set, length-append, length-drop}
 use lib.Seq.{sets, drop-cons, length-take-le}
-use Rattle.writer.specs.Answers.{Put}
+use Rattle.puts.specs.Answers.{Put}
 use Rattle.chars.specs.Pick.{pick}
-use Rattle.writer.proofs.Puts.{sets-append, as-text, nothing}
+use Rattle.puts.proofs.Puts.{sets-append, as-text, nothing}
 use Rattle.frames.specs.Lists.{byteAt, behind, endOf, rowAt, tableOf, partAt, textAt, textOf, listEnd, listTable, listText, hasList, optionalEnd, optionalTable, optionalText}
 use Rattle.frames.specs.Room.{Room}
 

@@ -1,6 +1,6 @@
 -- A frame with one Normal chunk whose text is a usual one: what is read of it, and so its answer. Assumes nothing.
-use mathlib.Core.Path.{_≡_, refl, sym, ap, _∙_}
-use mathlib.Core.Bool.{Bool, true, false, false≢true, _&&_}
+use mathlib.Core.Path.{_≡_, refl, sym, _∙_}
+use mathlib.Core.Bool.{true, false, false≢true}
 use mathlib.Core.List.{List}
 use Prim.Native.Nat.{ℕ, _-_, _≤_}
 use native.Mathlib.Omega.{arith}
@@ -11,17 +11,14 @@ use borrow.Author.Tests.{leb-true, eqb-true, eq-eqb}
 use Rattle.chars.specs.Pick.{pick}
 use Rattle.chars.proofs.Cases.{and-true}
 use Rattle.dates.specs.declared.Datetime.{Datetime}
-use Rattle.dates.specs.declared.DateValue.the-variants.{Between}
 use Rattle.dates.specs.declared.Date.{Date}
-use Rattle.dates.specs.Value.{date, fromDatetime}
-use Rattle.datefield.specs.declared.ReadDate.{ReadDate}
-use Rattle.datefield.specs.declared.ReadDate.the-variants.{Accepted}
-use Rattle.reader.specs.Field.{parsed, parsedStrict}
+use Rattle.refusals.specs.declared.ReadDate.the-variants.{Accepted}
+use Rattle.reading_laws.specs.Field.{parsed, parsedStrict}
 use Rattle.quick.specs.declared.UsualText.the-variants.{One, Two}
 use Rattle.quick.specs.Quick.{usualText}
-use Rattle.roundtrip.proofs.Seasons.{ported-none}
-use Rattle.usual.specs.Once.{oneNormal}
-use Rattle.usual.proofs.Quick.{Usually, one-usual, two-usual, both-ported, both-strict, calm}
+use Rattle.roundtrip_laws.proofs.Seasons.{ported-none}
+use Rattle.reader.specs.Once.{oneNormal}
+use Rattle.reader.proofs.Quick.{Usually, one-usual, two-usual, both-ported, both-strict, calm}
 use Rattle.answers.specs.Answer.{marks, bit, shape, endsBytes, acceptedBytes, acceptedLine, oneLine, twoLine, answerLine}
 use Rattle.answers.proofs.Lines.{former-line}
 use Rattle.frames.specs.declared.Operation.{Operation}

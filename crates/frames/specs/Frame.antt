@@ -7,11 +7,11 @@ use lib.ListN.{length}
 use Rattle.chars.specs.Pick.{pick}
 use Rattle.refusals.specs.declared.Kind.the-variants.{BadFrame}
 use Rattle.refusals.specs.Refusal.{fileSpan, refusal}
-use Rattle.datefield.specs.declared.ReadDate.{ReadDate}
-use Rattle.datefield.specs.declared.ReadDate.the-variants.{Refused}
+use Rattle.refusals.specs.declared.ReadDate.{ReadDate}
+use Rattle.refusals.specs.declared.ReadDate.the-variants.{Refused}
 use Rattle.hexes.specs.Hex.{isHex, bytesOf}
-use Rattle.reader.specs.Field.{parsed, parsedStrict, parsedLevelOne}
-use Rattle.reader.specs.Fields.{threeFields}
+use Rattle.reading_laws.specs.Field.{parsed, parsedStrict, parsedLevelOne}
+use Rattle.reading_laws.specs.Fields.{threeFields}
 use Rattle.answers.specs.Answer.{answerLine, levelLine}
 use Rattle.frames.specs.declared.Operation.{Operation}
 use Rattle.frames.specs.declared.Operation.the-variants.{Ported, Strict, LevelOne, ThreeFields, Unknown}

@@ -6,9 +6,9 @@ use mathlib.Core.List.{List}
 use lib.Dec.{eqb, leb}
 use lib.ListN.{length, take, drop}
 use Rattle.chars.specs.Pick.{pick}
-use Rattle.datefield.specs.declared.ReadDate.{ReadDate}
-use Rattle.reader.specs.Field.{parsed, parsedStrict, parsedLevelOne}
-use Rattle.reader.specs.Fields.{threeFields}
+use Rattle.refusals.specs.declared.ReadDate.{ReadDate}
+use Rattle.reading_laws.specs.Field.{parsed, parsedStrict, parsedLevelOne}
+use Rattle.reading_laws.specs.Fields.{threeFields}
 use Rattle.frames.specs.declared.Unpacked.{Unpacked}
 use Rattle.frames.specs.declared.Operation.{Operation}
 use Rattle.frames.specs.declared.Operation.the-variants.{Ported, Strict, LevelOne, ThreeFields, Unknown}

@@ -4,19 +4,18 @@ ghost use mathlib.Core.Bool.{true, false};
 ghost use Prim.Native.Nat.{_+_, _*_, _≤_, _<_};
 ghost use lib.ListN.{length};
 ghost use Rattle.hexes.specs.Hex.{isHex};
-ghost use Rattle.writer.specs.Answers as writing;
-ghost use Rattle.writer.specs.Answers.{Put};
+ghost use Rattle.puts.specs.Answers as writing;
+ghost use Rattle.puts.specs.Answers.{Put};
 ghost use Rattle.answers.specs.Answer.{answerLine};
 ghost use Rattle.frames.specs.Lists as list;
 ghost use Rattle.frames.specs.Room.{Room, operationOf, readsList, readBy, listBy, readLists, isSingle, textStart, rowLength, Threefold, readsUsual, isUsual};
 ghost use Rattle.frames.specs.declared.Operation.the-variants.{ThreeFields};
 ghost use Rattle.frames.specs.Frame as spec;
-use datefield::ReadDate;
 use hexes::Hex;
+use puts::Written;
 use quick::UsualText;
-use refusals::FileSpan;
 use refusals::Kind;
-use writer::Written;
+use refusals::ReadDate;
 
 // What a frame asks for.
 pub enum Operation {
@@ -265,16 +264,16 @@ fn unpack_optional(
 fn bad_frame() -> ReadDate
     ensures { λ r. ⌜ r ≡ spec.badFrame ⌝ }
 {
-    ReadDate::Refused(refusals::refuse(Kind::BadFrame, FileSpan(0, 0)))
+    ReadDate::Refused(refusals::nowhere(Kind::BadFrame))
 }
 
-// A list, by the reader that an operation asks for.
+// A list, by the reader that an operation asks for. A frame of one usual text is answered before it comes here.
 fn read_by(op: Operation, bytes: &[u8], table: &[u64]) -> ReadDate
     ensures { λ r. ⌜ r ≡ readBy op (now (bytes .entry)) (now (table .entry)) ⌝ }
 {
     match op {
-        Operation::Ported => usual::parse(bytes, table),
-        Operation::Strict => usual::parse_strict(bytes, table),
+        Operation::Ported => reader::parse_unusual(bytes, table),
+        Operation::Strict => reader::parse_strict_unusual(bytes, table),
         Operation::LevelOne => reader::parse_level_one(bytes, table),
         Operation::ThreeFields => bad_frame(),
         Operation::Unknown => bad_frame(),

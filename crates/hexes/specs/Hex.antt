@@ -1,4 +1,5 @@
 -- Hexadecimal lines: the bytes that a line of digits stands for.
+use Prim.Native.Char.{code}
 use Prim.Native.Nat.{ℕ, _+_, _-_, _*_, _/_, _%_}
 use mathlib.Core.Bool.{Bool, true, _&&_, _||_}
 use mathlib.Core.List.{List, [], _∷_, _++_}
@@ -14,11 +15,11 @@ within low high b = leb low b && leb b high
 
 -- whether a byte is a digit: 0 to 9, and a to f in either case
 unfoldable pub isDigit : ℕ → Bool
-isDigit b = within 0x30 0x39 b || (within 0x61 0x66 b || within 0x41 0x46 b)
+isDigit b = within (code "0") (code "9") b || (within (code "a") (code "f") b || within (code "A") (code "F") b)
 
 -- the value of a digit; it is asked of digits only
 unfoldable pub digitOf : ℕ → ℕ
-digitOf b = pick (within 0x30 0x39 b) (b - 0x30) (pick (within 0x61 0x66 b) (b - 0x61 + 10) (b - 0x41 + 10))
+digitOf b = pick (within (code "0") (code "9") b) (b - code "0") (pick (within (code "a") (code "f") b) (b - code "a" + 10) (b - code "A" + 10))
 
 -- whether every byte is a digit
 unfoldable pub allDigits : List ℕ → Bool

@@ -19,7 +19,7 @@ use Rattle.dates.specs.declared.OptionSeason.the-variants.{Spring, Winter}
 use Rattle.dates.specs.declared.Datetime.{Datetime}
 use Rattle.dates.specs.Calendar.{multiple, leapYear, february, monthLengths, monthLength}
 use Rattle.dates.specs.Value.{month, day, datetime, seasonOf, hasSeason}
-use Rattle.dates.specs.Time.{time, inRange, seconds, signed, offsetSeconds, aheadOf, utcSeconds}
+use Rattle.dates.specs.Time.{time, inRange, seconds, aheadOrBehind, offsetSeconds, aheadOf, utcSeconds}
 use Rattle.days.specs.Days.{total, yearLength}
 use Rattle.days.specs.Covered.{yearIn, notADate, seasoned, covered}
 use Rattle.days.specs.Counts.{counted, askedMonth, askedYear, asked, numbered, periodFrom}
@@ -27,12 +27,12 @@ use Rattle.days.proofs.Counts.{answer}
 use Rattle.days.proofs.Engines.{byFormula, formula-covers}
 use Rattle.order.specs.declared.Order.the-variants.{Less, Greater}
 use Rattle.order.specs.Order as ported
-use Rattle.clocks.specs.Clocks.{offsetIn, zoneIn, clockIn, hasBadTime}
-use Rattle.clocks.specs.Clocks as clocks
+use Rattle.dates.specs.Clocks.{offsetIn, zoneIn, clockIn, hasBadTime}
+use Rattle.dates.specs.Clocks as clocks
 use Rattle.instants.specs.declared.Instant.{Instant}
 use Rattle.instants.specs.declared.Instant.the-variants.{Seconds}
 use Rattle.order.specs.declared.Compared.the-variants.{Stands, Refused}
-use Rattle.instants.specs.Instants.{refused, secondsAt, onTime, onDay, onCovered, instantOf, both, compared}
+use Rattle.instants.specs.Instants.{refusedInstant, secondsAt, onTime, onDayAndTime, onCovered, instantOf, both, compared}
 
 abbrev at : ℕ → ℕ → ℕ → OptionOffset → OptionTime
 at h m s o = SomeTime (time h m s o)
@@ -53,16 +53,16 @@ unfolding instantOf covered
 counting d = rw (formula-covers d)
 
 late-is : instantOf late ≡ Seconds (pos 63113986800)
-unfolding seasoned asked askedYear askedMonth yearIn counted yearLength total numbered periodFrom notADate multiple leapYear february monthLengths monthLength pick refused secondsAt onTime onDay onCovered inRange seconds signed offsetSeconds aheadOf utcSeconds offsetIn zoneIn clockIn clocks.onDay clocks.badTime hasBadTime
+unfolding seasoned asked askedYear askedMonth yearIn counted yearLength total numbered periodFrom notADate multiple leapYear february monthLengths monthLength pick refusedInstant secondsAt onTime onDayAndTime onCovered inRange seconds aheadOrBehind offsetSeconds aheadOf utcSeconds offsetIn zoneIn clockIn clocks.dayBesideMonth clocks.badTime hasBadTime
 late-is = counting late ∙ refl
 
 ahead-is : instantOf ahead ≡ Seconds (pos 63113985000)
-unfolding seasoned asked askedYear askedMonth yearIn counted yearLength total numbered periodFrom notADate multiple leapYear february monthLengths monthLength pick refused secondsAt onTime onDay onCovered inRange seconds signed offsetSeconds aheadOf utcSeconds offsetIn zoneIn clockIn clocks.onDay clocks.badTime hasBadTime
+unfolding seasoned asked askedYear askedMonth yearIn counted yearLength total numbered periodFrom notADate multiple leapYear february monthLengths monthLength pick refusedInstant secondsAt onTime onDayAndTime onCovered inRange seconds aheadOrBehind offsetSeconds aheadOf utcSeconds offsetIn zoneIn clockIn clocks.dayBesideMonth clocks.badTime hasBadTime
 ahead-is = counting ahead ∙ refl
 
 -- the second is before the first, by half an hour; the ported order, which looks at the stored days first, has it behind
 pub across-midnight : (compared late ahead ≡ Stands Greater) × (ported.order late ahead ≡ Less)
-unfolding compared both ported.order ported.number ported.inTurn ported.fromMonth ported.both ported.monthOf ported.fromDay ported.dayOf pick
+unfolding compared both ported.order ported.numberOrder ported.inTurn ported.fromMonth ported.both ported.monthOf ported.fromDay ported.dayOf pick
 across-midnight = (rw (late-is, ahead-is), refl)
 
 -- a year, which is no instant
@@ -99,8 +99,8 @@ all-counted : (l : List Example) → map (λ (e : Example). instantOf (e .of)) l
 all-counted [] = refl
 all-counted (e ∷ l) = rw (counting (e .of), all-counted l)
 
-pub all-refused : map (λ (e : Example). instantOf (e .of)) examples ≡ map (λ (e : Example). refused (e .why)) examples
-unfolding seasoned asked askedYear askedMonth yearIn counted yearLength total numbered periodFrom notADate multiple leapYear february monthLengths monthLength pick refused secondsAt onTime onDay onCovered inRange seconds signed offsetSeconds aheadOf utcSeconds offsetIn zoneIn clockIn clocks.onDay clocks.badTime hasBadTime
+pub all-refused : map (λ (e : Example). instantOf (e .of)) examples ≡ map (λ (e : Example). refusedInstant (e .why)) examples
+unfolding seasoned asked askedYear askedMonth yearIn counted yearLength total numbered periodFrom notADate multiple leapYear february monthLengths monthLength pick refusedInstant secondsAt onTime onDayAndTime onCovered inRange seconds aheadOrBehind offsetSeconds aheadOf utcSeconds offsetIn zoneIn clockIn clocks.dayBesideMonth clocks.badTime hasBadTime
 all-refused = all-counted examples ∙ refl
 
 -- two that are not compared, and why
@@ -127,5 +127,5 @@ each-counted [] = refl
 each-counted (e ∷ l) = rw (counting (e .first), counting (e .second), each-counted l)
 
 pub none-compared : map (λ (e : Refusals). compared (e .first) (e .second)) refusals ≡ map (λ (e : Refusals). Refused (refusal (e .why) (fileSpan 0 0))) refusals
-unfolding seasoned asked askedYear askedMonth yearIn counted yearLength total numbered periodFrom notADate multiple leapYear february monthLengths monthLength pick refused secondsAt onTime onDay onCovered inRange seconds signed offsetSeconds aheadOf utcSeconds offsetIn zoneIn clockIn clocks.onDay clocks.badTime hasBadTime both
+unfolding seasoned asked askedYear askedMonth yearIn counted yearLength total numbered periodFrom notADate multiple leapYear february monthLengths monthLength pick refusedInstant secondsAt onTime onDayAndTime onCovered inRange seconds aheadOrBehind offsetSeconds aheadOf utcSeconds offsetIn zoneIn clockIn clocks.dayBesideMonth clocks.badTime hasBadTime both
 none-compared = each-counted refusals ∙ refl

@@ -7,7 +7,7 @@ use borrow.Author.Tests.{lt-ltb, le-ltb, ltb-true, ltb-false}
 use lib.Dec.{ltb}
 use lib.IntN.{ℤ, pos, negsuc, negℤ, subℕ, _+ℤ_, _-ℤ_, +ℤ-idl, +ℤ-assoc, +ℤ-comm, +ℤ-invr, negℤ-+ℤ}
 use lib.Signed.{ltZ}
-use Rattle.order.specs.Order.{number}
+use Rattle.order.specs.Order.{numberOrder}
 
 -- whether a number is below zero
 isNeg : ℤ → Bool
@@ -50,6 +50,6 @@ same-sub k u v =
 less-shift : (k u v : ℤ) → ltZ (k +ℤ u) (k +ℤ v) ≡ ltZ u v
 less-shift k u v = less-sub (k +ℤ u) (k +ℤ v) ∙ ap isNeg (same-sub k u v) ∙ sym (less-sub u v)
 
-pub number-shift : (k u v : ℤ) → number (k +ℤ u) (k +ℤ v) ≡ number u v
-unfolding number
+pub number-shift : (k u v : ℤ) → numberOrder (k +ℤ u) (k +ℤ v) ≡ numberOrder u v
+unfolding numberOrder
 number-shift k u v = rw (less-shift k u v, less-shift k v u)

@@ -29,14 +29,14 @@ use Rattle.days.specs.Covered.{yearIn, partsIn, isDate, firstDay, lastDay, peri
 use Rattle.days.proofs.Theorems.{season-exactly}
 use Rattle.order.specs.declared.Order.{Order}
 use Rattle.order.specs.declared.Order.the-variants.{Less, Equal, Greater}
-use Rattle.order.specs.Order.{number, inTurn, both, monthOf, dayOf, timeOf, alike, timeOrder, fromTime, fromDay, fromMonth, order, partialCmp}
+use Rattle.order.specs.Order.{numberOrder, inTurn, both, monthOf, dayOf, timeOf, alike, timeOrder, fromTime, fromDay, fromMonth, order, partialCmp}
 use Rattle.order.proofs.Numbers.{Cases, less, equal, greater, cases, number-same}
 use Rattle.order.proofs.Laws.{mirror, same, numbers}
 use Rattle.order.proofs.Seasons.{compared-else}
-use Rattle.clocks.specs.Clocks.{hasBadTime}
+use Rattle.dates.specs.Clocks.{hasBadTime}
 use Rattle.instants.specs.declared.Instant.the-variants.{Seconds}
 use Rattle.order.specs.declared.Compared.the-variants.{Stands, Refused}
-use Rattle.instants.specs.Instants.{refused, secondsAt, onTime, onDay, onCovered, instantOf, both as joined, compared}
+use Rattle.instants.specs.Instants.{refusedInstant, secondsAt, onTime, onDayAndTime, onCovered, instantOf, both as joined, compared}
 use Rattle.instants.proofs.Shift.{number-shift}
 
 -- ---- what has an instant
@@ -57,12 +57,12 @@ abbrev Parts : ℤ → OptionDay → OptionTime → ℤ → Type 0
 Parts f da ti x = (d : Day) × (t : Time) × (o : TimeOffset) × (da ≡ SomeDay d) × (ti ≡ SomeTime t) × (t .offset ≡ SomeOffset o) × (x ≡ secondsAt f t)
 
 on-offset : (f : ℤ) (d : Day) (t : Time) (of : OptionOffset) {x : ℤ} → t .offset ≡ of → onTime f t of ≡ Seconds x → Parts f (SomeDay d) (SomeTime t) x
-unfolding onTime refused
+unfolding onTime refusedInstant
 on-offset f d t NoOffset e h = let z : _≡_ {A = ℕ} 0 1 = cc in absurd (omega arith)
 on-offset f d t (SomeOffset o) {x} e h = let g : x ≡ secondsAt f t = cc in (d, t, o, refl, refl, e, g)
 
-parts : (f : ℤ) (da : OptionDay) (ti : OptionTime) {x : ℤ} → onDay f da ti ≡ Seconds x → Parts f da ti x
-unfolding onDay refused
+parts : (f : ℤ) (da : OptionDay) (ti : OptionTime) {x : ℤ} → onDayAndTime f da ti ≡ Seconds x → Parts f da ti x
+unfolding onDayAndTime refusedInstant
 parts f NoDay ti h = let z : _≡_ {A = ℕ} 0 1 = cc in absurd (omega arith)
 parts f (SomeDay d) NoTime h = let z : _≡_ {A = ℕ} 0 1 = cc in absurd (omega arith)
 parts f (SomeDay d) (SomeTime t) h = on-offset f d t (t .offset) refl h
@@ -74,12 +74,12 @@ beside y NoMonth d e = absurd (false≢true e)
 beside y (SomeMonth m) d e = (m, refl)
 
 module _ (a : Datetime) {x : ℤ} where
-  good : (t : Bool) → pick t (refused BadTime) (onDay (firstDay a) (a .day) (a .time)) ≡ Seconds x → onDay (firstDay a) (a .day) (a .time) ≡ Seconds x
-  unfolding pick refused
+  good : (t : Bool) → pick t (refusedInstant BadTime) (onDayAndTime (firstDay a) (a .day) (a .time)) ≡ Seconds x → onDayAndTime (firstDay a) (a .day) (a .time) ≡ Seconds x
+  unfolding pick refusedInstant
   good true h = let z : _≡_ {A = ℕ} 0 1 = cc in absurd (omega arith)
   good false h = h
 
-  dated : (t : Bool) → onCovered a (pick t (Days (period (firstDay a) (lastDay a))) notADate) ≡ Seconds x → (t ≡ true) × (onDay (firstDay a) (a .day) (a .time) ≡ Seconds x)
+  dated : (t : Bool) → onCovered a (pick t (Days (period (firstDay a) (lastDay a))) notADate) ≡ Seconds x → (t ≡ true) × (onDayAndTime (firstDay a) (a .day) (a .time) ≡ Seconds x)
   unfolding onCovered pick notADate
   dated true h = (refl, good (hasBadTime a) h)
   dated false h = let z : _≡_ {A = ℕ} 0 1 = cc in absurd (omega arith)
@@ -107,12 +107,12 @@ module _ (a : Datetime) {x : ℤ} where
 
 module _ (a b : Datetime) {x y : ℤ} (ea : instantOf a ≡ Seconds x) (eb : instantOf b ≡ Seconds y) where
   -- the seconds are compared
-  pub stands : compared a b ≡ Stands (number x y)
+  pub stands : compared a b ≡ Stands (numberOrder x y)
   unfolding compared joined
   stands = rw (ea, eb)
 
-  answer-is : (o : Order) → compared a b ≡ Stands o → number x y ≡ o
-  answer-is o h = let g : Stands (number x y) ≡ Stands o = sym stands ∙ h in cc
+  answer-is : (o : Order) → compared a b ≡ Stands o → numberOrder x y ≡ o
+  answer-is o h = let g : Stands (numberOrder x y) ≡ Stands o = sym stands ∙ h in cc
 
   -- one is before the other, or they are equal
   pub always : (compared a b ≡ Stands Less) ⊎ ((compared a b ≡ Stands Equal) ⊎ (compared a b ≡ Stands Greater))
@@ -125,7 +125,7 @@ module _ (a b : Datetime) {x y : ℤ} (ea : instantOf a ≡ Seconds x) (eb : ins
 
   -- equal exactly if they are the same instant
   pub equal-instants : (compared a b ≡ Stands Equal) ↔ (x ≡ y)
-  equal-instants = (λ h. same x y (answer-is Equal h), λ (e : x ≡ y). stands ∙ ap (λ (z : ℤ). Stands (number x z)) (sym e) ∙ ap Stands (number-same x))
+  equal-instants = (λ h. same x y (answer-is Equal h), λ (e : x ≡ y). stands ∙ ap (λ (z : ℤ). Stands (numberOrder x z)) (sym e) ∙ ap Stands (number-same x))
 
 -- exchanged, less and greater are
 pub mirrored : (a b : Datetime) {x y : ℤ} → instantOf a ≡ Seconds x → instantOf b ≡ Seconds y → (o : Order) → compared a b ≡ Stands o → compared b a ≡ Stands (mirror o)
@@ -139,7 +139,7 @@ passed a b c {x} {y} {z} ea eb ec h k = stands a c ea ec ∙ ap Stands (numbers 
 -- ---- the ported order, of one stored day
 
 timed : (y : ℤ) (m : Month) (d : Day) (s t : Time) {o r : TimeOffset} → s .offset ≡ SomeOffset o → t .offset ≡ SomeOffset r
-    → order (datetime y (SomeMonth m) (SomeDay d) (SomeTime s)) (datetime y (SomeMonth m) (SomeDay d) (SomeTime t)) ≡ number (utcSeconds s) (utcSeconds t)
+    → order (datetime y (SomeMonth m) (SomeDay d) (SomeTime s)) (datetime y (SomeMonth m) (SomeDay d) (SomeTime t)) ≡ numberOrder (utcSeconds s) (utcSeconds t)
 unfolding order inTurn fromMonth both monthOf fromDay dayOf fromTime timeOf timeOrder alike pick
 timed y m d s t e f = rw (number-same y, number-same (pos (m .0)), number-same (pos (d .0)), e, f)
 
@@ -165,7 +165,7 @@ same-day a b {x} {y} ea eb ye me de =
     let right = rebuilt b (sym ye) (sym me ∙ p .month-is) (sym de ∙ p .day-is) (q .time-is) in
     stands a b ea eb
     ∙ ap Stands
-    (ap (λ (z : ℤ). number z y) (p .seconds-are) ∙ ap (λ (z : ℤ). number (k +ℤ utcSeconds (p .t)) z) later
+    (ap (λ (z : ℤ). numberOrder z y) (p .seconds-are) ∙ ap (λ (z : ℤ). numberOrder (k +ℤ utcSeconds (p .t)) z) later
     ∙ number-shift k (utcSeconds (p .t)) (utcSeconds (q .t))
     ∙ sym (unseasoned a b ∙ ap (λ (d : Datetime). order d (datetime (b .year) (b .month) (b .day) (b .time))) left ∙ ap (λ (d : Datetime). order (datetime (a .year) (SomeMonth (p .m)) (SomeDay (p .d)) (SomeTime (p .t))) d) right ∙ timed (a .year) (p .m) (p .d) (p .t) (q .t) (p .offset-is) (q .offset-is)))
 
@@ -177,16 +177,16 @@ same-answer a b ea eb ye me de = same-day a b ea eb ye me de ∙ sym (compared-e
 -- ---- seasons
 
 -- a Datetime with a season has no instant,
-pub season-has-none : (d : Datetime) → hasSeason d ≡ true → instantOf d ≡ refused HasSeason
-unfolding instantOf onCovered seasoned refused
+pub season-has-none : (d : Datetime) → hasSeason d ≡ true → instantOf d ≡ refusedInstant HasSeason
+unfolding instantOf onCovered seasoned refusedInstant
 season-has-none d e = rw (season-exactly d .1 e)
 
 -- so that it is refused as the first of two, whatever the second is,
 pub season-first : (a b : Datetime) → hasSeason a ≡ true → compared a b ≡ Refused (refusal HasSeason (fileSpan 0 0))
-unfolding compared joined refused
+unfolding compared joined refusedInstant
 season-first a b e = rw (season-has-none a e)
 
 -- and as the second where the first has an instant
 pub season-second : (a b : Datetime) {x : ℤ} → instantOf a ≡ Seconds x → hasSeason b ≡ true → compared a b ≡ Refused (refusal HasSeason (fileSpan 0 0))
-unfolding compared joined refused
+unfolding compared joined refusedInstant
 season-second a b ea e = rw (ea, season-has-none b e)

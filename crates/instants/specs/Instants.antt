@@ -16,16 +16,16 @@ use Rattle.dates.specs.Time.{utcSeconds}
 use Rattle.days.specs.declared.Covered.{Covered}
 use Rattle.days.specs.declared.Covered.the-variants.{Days, Refused as NoDays}
 use Rattle.days.specs.Covered.{covered}
-use Rattle.order.specs.Order.{number}
-use Rattle.clocks.specs.Clocks.{hasBadTime}
+use Rattle.order.specs.Order.{numberOrder}
+use Rattle.dates.specs.Clocks.{hasBadTime}
 use Rattle.instants.specs.declared.Instant.{Instant}
 use Rattle.instants.specs.declared.Instant.the-variants.{Seconds, NoSeconds}
 use Rattle.order.specs.declared.Compared.{Compared}
 use Rattle.order.specs.declared.Compared.the-variants.{Stands, Refused}
 
 -- a refusal names no place
-unfoldable pub refused : Kind → Instant
-refused k = NoSeconds (refusal k (fileSpan 0 0))
+unfoldable pub refusedInstant : Kind → Instant
+refusedInstant k = NoSeconds (refusal k (fileSpan 0 0))
 
 -- the seconds of a time on a day, from the start of day 0 in UTC
 unfoldable pub secondsAt : ℤ → Time → ℤ
@@ -33,18 +33,18 @@ secondsAt day t = day *ℤ pos 86400 +ℤ utcSeconds t
 
 -- a time without an offset is no instant
 unfoldable pub onTime : ℤ → Time → OptionOffset → Instant
-onTime day t NoOffset = refused NoInstant
+onTime day t NoOffset = refusedInstant NoInstant
 onTime day t (SomeOffset o) = Seconds (secondsAt day t)
 
 -- nor is a date without a day, or without a time
-unfoldable pub onDay : ℤ → OptionDay → OptionTime → Instant
-onDay first NoDay time = refused NoInstant
-onDay first (SomeDay d) NoTime = refused NoInstant
-onDay first (SomeDay d) (SomeTime t) = onTime first t (t .offset)
+unfoldable pub onDayAndTime : ℤ → OptionDay → OptionTime → Instant
+onDayAndTime first NoDay time = refusedInstant NoInstant
+onDayAndTime first (SomeDay d) NoTime = refusedInstant NoInstant
+onDayAndTime first (SomeDay d) (SomeTime t) = onTime first t (t .offset)
 
 -- a date of the calendar, with no bad time
 unfoldable pub onCovered : Datetime → Covered → Instant
-onCovered d (Days p) = pick (hasBadTime d) (refused BadTime) (onDay (p .first) (d .day) (d .time))
+onCovered d (Days p) = pick (hasBadTime d) (refusedInstant BadTime) (onDayAndTime (p .first) (d .day) (d .time))
 onCovered d (NoDays e) = NoSeconds e
 
 -- the instant of a Datetime
@@ -55,7 +55,7 @@ instantOf d = onCovered d (covered d)
 unfoldable pub both : Instant → Instant → Compared
 both (NoSeconds e) j = Refused e
 both (Seconds x) (NoSeconds e) = Refused e
-both (Seconds x) (Seconds y) = Stands (number x y)
+both (Seconds x) (Seconds y) = Stands (numberOrder x y)
 
 -- how the first stands to the second
 unfoldable pub compared : Datetime → Datetime → Compared

@@ -1,17 +1,16 @@
 // Instants: a day, a time and its offset, as seconds from the start of day 0 in UTC, and their order. It stands beside the ported order, which
-// compares the stored days first.
+// compares the stored days first; what that one says of the calendar is proved in `proofs/Meaning.antt`.
 ghost use mathlib.Core.Path.{_≡_};
 ghost use Rattle.instants.specs.Instants as spec;
-use clocks::has_bad_time;
 use dates::Datetime;
 use dates::OptionDay;
 use dates::OptionOffset;
 use dates::OptionTime;
 use dates::Time;
+use dates::has_bad_time;
 use days::Covered;
 use days::days_by_formula;
 use order::Compared;
-use refusals::FileSpan;
 use refusals::Kind;
 use refusals::Refusal;
 
@@ -23,9 +22,9 @@ pub enum Instant {
 
 // A refusal has no place here.
 fn refuse(kind: Kind) -> Instant
-    ensures { λ r. ⌜ r ≡ spec.refused kind ⌝ }
+    ensures { λ r. ⌜ r ≡ spec.refusedInstant kind ⌝ }
 {
-    Instant::NoSeconds(refusals::refuse(kind, FileSpan(0, 0)))
+    Instant::NoSeconds(refusals::nowhere(kind))
 }
 
 // The seconds of a time on a day.
@@ -48,7 +47,7 @@ fn on_time(day: i32, t: Time) -> Instant
 
 // What is stored of a Datetime whose first day is given: an instant if there are a day and a time.
 fn on_day(first: i32, day: OptionDay, time: OptionTime) -> Instant
-    ensures { λ r. ⌜ r ≡ spec.onDay first day time ⌝ }
+    ensures { λ r. ⌜ r ≡ spec.onDayAndTime first day time ⌝ }
 {
     match day {
         OptionDay::NoDay => refuse(Kind::NoInstant),

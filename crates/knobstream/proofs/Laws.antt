@@ -22,7 +22,7 @@ use Rattle.dates.specs.declared.DateValue.the-variants.{At, After, Before, Betw
 use Rattle.dates.specs.declared.Date.{Date}
 use Rattle.dates.specs.Value.{seasonNumber, isSeason}
 use Rattle.knobstream.specs.Plain.{hasMonth, monthNumber, hasDay, dayNumber, offsetSort, shiftOf, hoursOf, minutesOf, flag, datetime, date}
-use Rattle.knobstream.specs.Back.{isSet, monthOf, dayOf, offsetOf, timeOf, seasonOf, datetimeOf, valueOf, dateBy, dateOf}
+use Rattle.knobstream.specs.Back.{isSet, monthOf, dayOf, offsetOf, timeOf, seasonOf, datetimeOf, dateValue, dateBy, dateOf}
 
 flag-back : (b : Bool) → isSet (flag b) ≡ b
 unfolding isSet
@@ -70,8 +70,8 @@ pub datetime-back : (d : Datetime) → datetimeOf (datetime d) ≡ d
 unfolding datetimeOf
 datetime-back d = rw (month-back (d .month), day-back (d .day), time-back d (d .time) refl, season-back (d .season))
 
-value-back : (d : Date) (v : DateValue) → d .value ≡ v → valueOf datetimeOf (date d) ≡ v
-unfolding valueOf pick
+value-back : (d : Date) (v : DateValue) → d .value ≡ v → dateValue datetimeOf (date d) ≡ v
+unfolding dateValue pick
 value-back d (At a) e = rw (e, datetime-back a)
 value-back d (After a) e = rw (e, datetime-back a)
 value-back d (Before a) e = rw (e, datetime-back a)

@@ -31,17 +31,19 @@ use Rattle.order.specs.declared.Order.the-variants.{Less, Equal, Greater, None}
 use Rattle.order.specs.declared.Compared.{Compared}
 use Rattle.order.specs.declared.Compared.the-variants.{Stands, Refused}
 use Rattle.order.specs.Order.{order, seasoned, partialCmp}
-use Rattle.writer.specs.declared.Written.{Written}
-use Rattle.writer.specs.declared.Measured.{Measured}
-use Rattle.writer.specs.Answers.{measured, answer, afterwards, dateMeasured, dateAnswer, dateAfterwards}
-use Rattle.writer.specs.Texts.{partsOf, datetimeText, valueText, markText, dateText, endPanics, valuePanics, panics}
+use Rattle.puts.specs.declared.Written.{Written}
+use Rattle.puts.specs.declared.Measured.{Measured}
+use Rattle.puts.specs.Answers.{measured, answer, afterwards}
+use Rattle.writer.specs.Answers.{dateMeasured, dateAnswer, dateAfterwards}
+use Rattle.writer.specs.Texts.{partsOf, datetimeText, valueText, dateText, endPanics, valuePanics, panics}
+use Rattle.puts.specs.Marks.{markText}
 use Rattle.writer.specs.Fields.{endLines, valueLines, fieldsText}
 use Rattle.writer.specs.Level.{behindText, levelEnd, levelValue, levelText, levelEndPanics, levelValuePanics, levelPanics}
 use Rattle.knobstream.specs.declared.PlainDatetime.{PlainDatetime}
 use Rattle.knobstream.specs.declared.PlainDate.{PlainDate}
 use Rattle.knobstream.specs.declared.PlainWritten.{PlainWritten}
 use Rattle.knobstream.specs.Plain.{hasMonth, monthNumber, hasDay, dayNumber, shiftOf, offsetSort, hoursOf, minutesOf, datetime, written, measure, orderNumber, comparedNumber}
-use Rattle.knobstream.specs.Back.{isSet, datetimeOf, dayOnly, valueOf, dateBy, dateOf}
+use Rattle.knobstream.specs.Back.{isSet, datetimeOf, dayOnly, dateValue, dateBy, dateOf}
 
 -- the struct of a year and other numbers
 abbrev plain : ℤ → ℕ → ℕ → ℕ → ℕ → ℕ → Time → ℕ → ℕ → ℕ → ℕ → PlainDatetime
@@ -117,8 +119,8 @@ level-measure d e ep et em er = rw (er, em, ep, et)
 module _ (p : PlainDate) where
   by-shape : {A : Type 0} (f : DateValue → A) → f (At (dayOnly (p .first))) ≡ f (At (datetimeOf (p .first))) → f (After (dayOnly (p .first))) ≡ f (After (datetimeOf (p .first)))
       → f (Before (dayOnly (p .first))) ≡ f (Before (datetimeOf (p .first))) → f (Between (dayOnly (p .first)) (dayOnly (p .second))) ≡ f (Between (datetimeOf (p .first)) (datetimeOf (p .second)))
-      → f (valueOf dayOnly p) ≡ f (valueOf datetimeOf p)
-  unfolding valueOf pick
+      → f (dateValue dayOnly p) ≡ f (dateValue datetimeOf p)
+  unfolding dateValue pick
   by-shape f a b e g =
       of-test (eqb (p .shape) 0) (λ x. rw x a)
       (λ x. rw x (of-test (eqb (p .shape) 1) (λ y. rw y b) (λ y. rw y (of-test (eqb (p .shape) 2) (λ z. rw z e) (λ z. rw z g)))))

@@ -67,15 +67,15 @@ unfoldable pub datetimeOf : PlainDatetime → Datetime
 datetimeOf p = datetimeAt p (timeOf p)
 
 -- the point or range, by what its Datetimes mean: 0 At, 1 After, 2 Before, every other number Between; only Between looks at the second
-unfoldable pub valueOf : (PlainDatetime → Datetime) → PlainDate → DateValue
-valueOf by p =
+unfoldable pub dateValue : (PlainDatetime → Datetime) → PlainDate → DateValue
+dateValue by p =
     pick (eqb (p .shape) 0) (At (by (p .first)))
     (pick (eqb (p .shape) 1) (After (by (p .first)))
     (pick (eqb (p .shape) 2) (Before (by (p .first))) (Between (by (p .first)) (by (p .second)))))
 
 -- the Date, likewise
 unfoldable pub dateBy : (PlainDatetime → Datetime) → PlainDate → Date
-dateBy by p = date (valueOf by p) (isSet (p .uncertain)) (isSet (p .approximate))
+dateBy by p = date (dateValue by p) (isSet (p .uncertain)) (isSet (p .approximate))
 
 -- the Date
 abbrev pub dateOf : PlainDate → Date

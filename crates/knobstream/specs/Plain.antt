@@ -21,13 +21,13 @@ use Rattle.dates.specs.declared.DateValue.the-variants.{At, After, Before, Betw
 use Rattle.dates.specs.declared.Date.{Date}
 use Rattle.dates.specs.Time.{time}
 use Rattle.dates.specs.Value.{seasonNumber}
-use Rattle.datefield.specs.declared.ReadDate.{ReadDate}
-use Rattle.datefield.specs.declared.ReadDate.the-variants.{Accepted, Refused}
+use Rattle.refusals.specs.declared.ReadDate.{ReadDate}
+use Rattle.refusals.specs.declared.ReadDate.the-variants.{Accepted, Refused}
 use Rattle.answers.specs.Answer.{twos}
-use Rattle.writer.specs.declared.Measured.{Measured}
-use Rattle.writer.specs.declared.Measured.the-variants.{Length, NoLength}
-use Rattle.writer.specs.declared.Written.{Written}
-use Rattle.writer.specs.declared.Written.the-variants.{Done, Refused as NotWritten}
+use Rattle.puts.specs.declared.Measured.{Measured}
+use Rattle.puts.specs.declared.Measured.the-variants.{Length, NoLength}
+use Rattle.puts.specs.declared.Written.{Written}
+use Rattle.puts.specs.declared.Written.the-variants.{Done, Refused as NotWritten}
 use Rattle.order.specs.declared.Order.{Order}
 use Rattle.order.specs.declared.Order.the-variants.{Less, Equal, Greater, None}
 use Rattle.order.specs.declared.Compared.{Compared}

@@ -5,18 +5,18 @@ ghost use mathlib.Core.Path.{_≡_};
 ghost use mathlib.Core.Bool.{false};
 ghost use Prim.Native.Nat.{_<_};
 ghost use lib.ListN.{length};
-ghost use Rattle.reader.specs.Field.{parsed, parsedStrict, parsedLevelOne};
-ghost use Rattle.reader.specs.Fields.{threeFields};
+ghost use Rattle.reading_laws.specs.Field.{parsed, parsedStrict, parsedLevelOne};
+ghost use Rattle.reading_laws.specs.Fields.{threeFields};
 ghost use Rattle.order.specs.Order.{partialCmp};
 ghost use Rattle.writer.specs.Texts.{dateText};
 ghost use Rattle.writer.specs.Fields.{fieldsText};
 ghost use Rattle.writer.specs.Level.{levelPanics, levelText};
-ghost use Rattle.writer.specs.Answers.{measured, answer, afterwards, dateMeasured, dateAnswer, dateAfterwards};
+ghost use Rattle.puts.specs.Answers.{measured, answer, afterwards};
+ghost use Rattle.writer.specs.Answers.{dateMeasured, dateAnswer, dateAfterwards};
 ghost use Rattle.frames.specs.Frame.{lineAnswer};
 ghost use Rattle.knobstream.specs.Plain as plain;
 ghost use Rattle.knobstream.specs.Layout.{Answered};
 ghost use Rattle.knobstream.specs.Back as back;
-use datefield::ReadDate;
 use dates::Date;
 use dates::DateValue;
 use dates::Datetime;
@@ -31,9 +31,10 @@ use dates::Time;
 use dates::TimeOffset;
 use order::Compared;
 use order::Order;
+use puts::Measured;
+use puts::Written;
 use quick::UsualText;
-use writer::Measured;
-use writer::Written;
+use refusals::ReadDate;
 
 // The calls on a chronology.
 mod entries;
@@ -527,7 +528,7 @@ fn day_only(p: PlainDatetime) -> Datetime
 }
 
 fn value_of(p: PlainDate) -> DateValue
-    ensures { λ r. ⌜ r ≡ back.valueOf back.dayOnly p ⌝ }
+    ensures { λ r. ⌜ r ≡ back.dateValue back.dayOnly p ⌝ }
 {
     let shape = p.shape;
     let first = p.first;
@@ -575,7 +576,7 @@ pub extern "C" fn knobstream_version() -> u32
 pub extern "C" fn knobstream_parse(bytes: &[u8], table: &[u64], answer: &mut [u64; 7])
     ensures { λ _. ⌜ Answered (now (answer .exit)) (plain.read (parsed (now (bytes .entry)) (now (table .entry)))) ⌝ }
 {
-    if usual::is_one_normal(bytes, table) {
+    if reader::is_one_normal(bytes, table) {
         match quick::text(bytes) {
             UsualText::One(d) => {
                 put(read_one(0, d, false, false), answer);
@@ -584,12 +585,12 @@ pub extern "C" fn knobstream_parse(bytes: &[u8], table: &[u64], answer: &mut [u6
                 put(read_two(a, b, false, false), answer);
             }
             UsualText::Other => {
-                put_read(usual::parse(bytes, table), answer);
+                put_read(reader::parse_unusual(bytes, table), answer);
             }
         }
         return;
     }
-    put_read(usual::parse(bytes, table), answer);
+    put_read(reader::parse_unusual(bytes, table), answer);
 }
 
 // A date field, read by the strict grammar alone.
@@ -597,7 +598,7 @@ pub extern "C" fn knobstream_parse(bytes: &[u8], table: &[u64], answer: &mut [u6
 pub extern "C" fn knobstream_parse_strict(bytes: &[u8], table: &[u64], answer: &mut [u64; 7])
     ensures { λ _. ⌜ Answered (now (answer .exit)) (plain.read (parsedStrict (now (bytes .entry)) (now (table .entry)))) ⌝ }
 {
-    if usual::is_one_normal(bytes, table) {
+    if reader::is_one_normal(bytes, table) {
         match quick::text(bytes) {
             UsualText::One(d) => {
                 put(read_one(0, d, false, false), answer);
@@ -606,12 +607,12 @@ pub extern "C" fn knobstream_parse_strict(bytes: &[u8], table: &[u64], answer: &
                 put(read_two(a, b, false, false), answer);
             }
             UsualText::Other => {
-                put_read(usual::parse_strict(bytes, table), answer);
+                put_read(reader::parse_strict_unusual(bytes, table), answer);
             }
         }
         return;
     }
-    put_read(usual::parse_strict(bytes, table), answer);
+    put_read(reader::parse_strict_unusual(bytes, table), answer);
 }
 
 // A date field, read by the grammar of level one: strict texts, seasons and long years.

@@ -10,8 +10,8 @@ use lib.ListN.{length, take, drop, replicate, length-append, length-drop, length
 use lib.Seq.{take-length, drop-length}
 use Rattle.chars.specs.Pick.{pick}
 use Rattle.chars.proofs.Cases.{by-test, and-true}
-use Rattle.writer.specs.Answers.{Put}
-use Rattle.writer.proofs.Puts.{nothing, as-text, kept, both}
+use Rattle.puts.specs.Answers.{Put}
+use Rattle.puts.proofs.Puts.{nothing, as-text, kept, both}
 use Rattle.lines.specs.declared.Taken.{Taken}
 use Rattle.lines.specs.Lines.{linesFrom, restFrom, answersTo, lastAnswer, lineLength, NoFeed}
 use Rattle.lines.specs.Steps.{Before, nextAnswer, Replied, takenAt, Stepped, Finished}

@@ -13,10 +13,10 @@ use Rattle.chars.specs.Pick.{pick}
 use Rattle.chars.proofs.Cases.{of-test}
 use Rattle.chunks.proofs.Fill.{stored-front}
 use Rattle.refusals.specs.declared.Refusal.{Refusal}
-use Rattle.writer.specs.declared.Written.{Written}
-use Rattle.writer.specs.declared.Written.the-variants.{Done, Refused}
-use Rattle.writer.specs.Answers.{measured, decided, answer, afterwards, Put}
-use Rattle.writer.proofs.Puts.{lent}
+use Rattle.puts.specs.declared.Written.{Written}
+use Rattle.puts.specs.declared.Written.the-variants.{Done, Refused}
+use Rattle.puts.specs.Answers.{measured, decided, answer, afterwards, Put}
+use Rattle.puts.proofs.Puts.{lent}
 use Rattle.lines.specs.Steps.{Replied}
 use Rattle.lines.specs.Steps.Replied.{was-put, no-room}
 

@@ -5,7 +5,7 @@ use mathlib.Core.List.{List, [], _∷_, _++_, append-nil, append-assoc}
 use Prim.Native.Nat.{ℕ, _≤_}
 use native.Mathlib.Omega.{arith}
 use lib.ListN.{length, take, drop, take-append-drop}
-use Rattle.writer.specs.Answers.{Put}
+use Rattle.puts.specs.Answers.{Put}
 use Rattle.frames.proofs.Parts.{first-is}
 use Rattle.lines.specs.declared.Taken.{Taken}
 use Rattle.lines.specs.Lines.{linesFrom, restFrom, answersTo, lastAnswer, answersOf, NoFeed}

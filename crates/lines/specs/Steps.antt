@@ -7,7 +7,7 @@ use mathlib.Core.List.{List, [], _++_}
 use lib.Dec.{ltb}
 use lib.ListN.{length, take, drop}
 use Rattle.chars.specs.Pick.{pick}
-use Rattle.writer.specs.Answers.{Put}
+use Rattle.puts.specs.Answers.{Put}
 use Rattle.lines.specs.declared.Taken.{Taken}
 use Rattle.lines.specs.Lines.{linesFrom, restFrom, answersTo, lastAnswer, lineLength, NoFeed}
 

@@ -3,12 +3,12 @@ ghost use mathlib.Core.Path.{_≡_};
 ghost use mathlib.Core.Bool.{false};
 ghost use Prim.Native.Nat.{_+_, _≤_};
 ghost use lib.ListN.{length, drop};
-ghost use Rattle.writer.specs.Answers as writing;
+ghost use Rattle.puts.specs.Answers as writing;
 ghost use Rattle.lines.specs.Lines as spec;
 ghost use Rattle.lines.specs.Steps.{Replied, nextAnswer, takenAt, Stepped, Finished};
 ghost use Rattle.frames.specs.Frame.{lineAnswer};
 ghost use Rattle.lines.specs.Frames.{longAnswer};
-use writer::Written;
+use puts::Written;
 
 // A line of more bytes is no frame: it is dropped as it is read, and refused.
 const LIMIT: usize = 16384;

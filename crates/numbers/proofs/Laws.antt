@@ -16,7 +16,8 @@ use Rattle.chars.proofs.Cases.{by-test}
 use Rattle.scanner.specs.declared.Class.the-variants.{Whitespace, Numeric, Is}
 use Rattle.scanner.specs.declared.Cursor.{Cursor}
 use Rattle.scanner.specs.Scan.{eatWhile, standsAt, part}
-use Rattle.numbers.specs.Number.{admits, cursor, valueOf, runOf, runAt, parseUnsignedInt, behindSign, signed, withSign, intAt, parseInt}
+use Rattle.numbers.specs.Number.{admits, cursor, runValue, runOf, runAt, parseUnsignedInt, behindSign, withSign, intAt, parseInt}
+use Rattle.chars.specs.Signs.{signed}
 use Rattle.numbers.specs.declared.Digits.{Digits}
 use Rattle.numbers.specs.declared.Digits.the-variants.{OneOrTwo, Two, Four}
 use Rattle.numbers.specs.declared.Parsed.{Parsed}
@@ -63,8 +64,8 @@ more h panics = panics
 ten : (m i : ℕ) → m * 10 * 10 ^ i ≡ m * 10 ^ suc i
 ten m i = rw (pow-succ' 10 i, mul-assoc)
 
-value-below : (next : Cursor) (acc m : ℕ) (t : List ℕ) → acc < m → Below (m * 10 ^ length t) (valueOf next acc t)
-unfolding valueOf
+value-below : (next : Cursor) (acc m : ℕ) (t : List ℕ) → acc < m → Below (m * 10 ^ length t) (runValue next acc t)
+unfolding runValue
 value-below next acc m [] h = number {v = acc} (omega arith)
 value-below next acc m (b ∷ t) h =
     by-test (Below (m * 10 ^ suc (length t))) _

@@ -21,7 +21,8 @@ use Rattle.scanner.specs.Class.{inClass}
 use Rattle.scanner.specs.Scan.{matchLen, eatWhile, eatIf, standsAt, part}
 use Rattle.scanner.proofs.Front.{From, front-rest, front-match, front-go, front-stop, front-end}
 use Rattle.scanner.proofs.Laws.{not-white}
-use Rattle.numbers.specs.Number.{admits, cursor, valueOf, runOf, runAt, parseUnsignedInt, orKept, behindSign, signed, withSign, intAt, parseInt}
+use Rattle.numbers.specs.Number.{admits, cursor, runValue, runOf, runAt, parseUnsignedInt, orKept, behindSign, withSign, intAt, parseInt}
+use Rattle.chars.specs.Signs.{signed}
 use Rattle.numbers.specs.declared.Digits.{Digits}
 use Rattle.numbers.specs.declared.Parsed.the-variants.{Number, Wrong}
 use Rattle.numbers.specs.declared.ReadInt.the-variants.{Int, NoInt}
@@ -85,8 +86,8 @@ run-digits [] {s} {t} {i} h b f = behind-numeric b f ∙ sym (add-zero i)
 run-digits (d ∷ ds) {s} {t} {i} h b f =
     front-go f Numeric (omega (arith, h .0)) (digit-numeric d (h .0)) ∙ run-digits ds (h .1) b (front-rest f) ∙ omega arith
 
-value-digits : (ds : List ℕ) (c : Cursor) (acc : ℕ) → AreDigits ds → valueOf c acc (bytes ds) ≡ Number (value acc ds) c
-unfolding valueOf pick
+value-digits : (ds : List ℕ) (c : Cursor) (acc : ℕ) → AreDigits ds → runValue c acc (bytes ds) ≡ Number (value acc ds) c
+unfolding runValue pick
 value-digits [] c acc h = refl
 value-digits (d ∷ ds) c acc h = simp (digit-is d (h .0), lt-ltb d 10 (h .0)) (value-digits ds c (acc * 10 + d) (h .1))
 

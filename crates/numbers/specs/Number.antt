@@ -1,9 +1,9 @@
 -- The number that a run of numeric characters is, and how white space and a sign stand before it.
+use Prim.Native.Char.{code}
 use Prim.Native.Nat.{ℕ, _+_, _*_}
-use mathlib.Core.Bool.{Bool, true, false, _||_}
+use mathlib.Core.Bool.{Bool, _||_}
 use mathlib.Core.List.{List, [], _∷_}
 use lib.Dec.{ltb, eqb}
-use lib.IntN.{ℤ, pos, negℤ}
 use lib.ListN.{length}
 use Rattle.chars.specs.Ascii.{digitOf}
 use Rattle.chars.specs.Pick.{pick}
@@ -18,6 +18,7 @@ use Rattle.numbers.specs.declared.Parsed.{Parsed}
 use Rattle.numbers.specs.declared.Parsed.the-variants.{Number, Wrong, Panics}
 use Rattle.numbers.specs.declared.ReadInt.{ReadInt}
 use Rattle.numbers.specs.declared.ReadInt.the-variants.{Int, NoInt, IntPanics}
+use Rattle.chars.specs.Signs.{signed}
 
 -- the byte lengths that are admitted
 unfoldable pub admits : Digits → ℕ → Bool
@@ -30,13 +31,13 @@ abbrev pub cursor : ℕ → Cursor
 cursor at = record { 0 = at }
 
 -- the decimal number that bytes are, behind the digits read so far; a byte that is no ASCII digit panics
-unfoldable pub valueOf : Cursor → ℕ → List ℕ → Parsed
-valueOf next acc [] = Number acc next
-valueOf next acc (b ∷ t) = pick (ltb (digitOf b) 10) (valueOf next (acc * 10 + digitOf b) t) Panics
+unfoldable pub runValue : Cursor → ℕ → List ℕ → Parsed
+runValue next acc [] = Number acc next
+runValue next acc (b ∷ t) = pick (ltb (digitOf b) 10) (runValue next (acc * 10 + digitOf b) t) Panics
 
 -- a run, given by its bytes, that ends at a place: its byte length decides first
 unfoldable pub runOf : List ℕ → ℕ → Digits → Parsed
-runOf num end digits = pick (admits digits (length num)) (valueOf (cursor end) 0 num) (Wrong (cursor end))
+runOf num end digits = pick (admits digits (length num)) (runValue (cursor end) 0 num) (Wrong (cursor end))
 
 -- the run of numeric characters at a place
 unfoldable pub runAt : List ℕ → ℕ → Digits → Parsed
@@ -55,11 +56,6 @@ orKept Kept at = at
 unfoldable pub behindSign : List ℕ → ℕ → ℕ
 behindSign s at = orKept (eatIf Sign s at) at
 
--- a number behind a minus, or not
-unfoldable pub signed : Bool → ℕ → ℤ
-signed true n = negℤ (pos n)
-signed false n = pos n
-
 -- what was read, behind a minus or not
 unfoldable pub withSign : Bool → Parsed → ReadInt
 withSign negative (Number n c) = Int (signed negative n) c
@@ -68,7 +64,7 @@ withSign negative Panics = IntPanics
 
 -- a sign at a place or none, white space, a run
 unfoldable pub intAt : List ℕ → ℕ → Digits → ReadInt
-intAt s at digits = withSign (standsAt (Is 0x2D) s at) (parseUnsignedInt s (behindSign s at) digits)
+intAt s at digits = withSign (standsAt (Is (code "-")) s at) (parseUnsignedInt s (behindSign s at) digits)
 
 -- white space, then such a number
 unfoldable pub parseInt : List ℕ → ℕ → Digits → ReadInt

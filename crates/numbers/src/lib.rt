@@ -1,12 +1,18 @@
 // Numbers of a text: a run of numeric characters, with white space and a sign before it as the ported code takes them.
 ghost use mathlib.Core.Path.{_≡_};
-ghost use Prim.Native.Nat.{_<_, _≤_};
+ghost use Prim.Native.Nat.{_<_, _≤_, _-_};
 ghost use lib.ListN.{length};
 ghost use Rattle.numbers.specs.Number as spec;
+ghost use Rattle.chars.specs.Signs.{signed};
+ghost use Rattle.numbers.specs.Trim as trims;
+ghost use Rattle.numbers.specs.Parse as whole;
+use chars::Decoded;
 use chars::digit;
 use scanner::Class;
 use scanner::Cursor;
 use scanner::EatIf;
+
+const HYPHEN: u32 = b'-' as u32;
 
 // The byte lengths that a run of numeric characters may have, where the ported code gives a range.
 pub enum Digits {
@@ -40,7 +46,7 @@ fn contains(digits: Digits, n: usize) -> bool
     ensures { λ r. ⌜ r ≡ spec.admits digits n ⌝ }
 {
     match digits {
-        Digits::OneOrTwo => { if n == 1 { true } else { n == 2 } }
+        Digits::OneOrTwo => n == 1 || n == 2,
         Digits::Two => n == 2,
         Digits::Four => n == 4,
     }
@@ -49,7 +55,7 @@ fn contains(digits: Digits, n: usize) -> bool
 // The number that the bytes of a run are. At most four bytes are asked for, so it fits.
 fn parse_digits(num: &[u8], next: Cursor) -> Parsed
     requires { ⌜ length (now num) ≤ 4 ⌝ }
-    ensures { λ r. ⌜ r ≡ spec.valueOf next 0 (now (num .entry)) ⌝ }
+    ensures { λ r. ⌜ r ≡ spec.runValue next 0 (now (num .entry)) ⌝ }
 {
     let mut value: u32 = 0;
     let mut i = 0;
@@ -91,7 +97,7 @@ fn eat_sign(s: &[u8], c: Cursor) -> Cursor
 // A number behind a minus, or not.
 fn signed(negative: bool, n: u32) -> i32
     requires { ⌜ n < 10000 ⌝ }
-    ensures { λ r. ⌜ r ≡ spec.signed negative n ⌝ }
+    ensures { λ r. ⌜ r ≡ signed negative n ⌝ }
 {
     let num = n as i32;
     if negative { 0 - num } else { num }
@@ -102,7 +108,7 @@ pub fn parse_int(s: &[u8], c: Cursor, digits: Digits) -> ReadInt
     ensures { λ r. ⌜ r ≡ spec.parseInt (now (s .entry)) (c .0) digits ⌝ }
 {
     let a = scanner::eat_whitespace(s, c);
-    let negative = scanner::at(s, a, Class::Is(0x2D));
+    let negative = scanner::at(s, a, Class::Is(HYPHEN));
     let b = eat_sign(s, a);
     match parse_unsigned_int(s, b, digits) {
         Parsed::Number { value, next } => ReadInt::Int {
@@ -112,4 +118,81 @@ pub fn parse_int(s: &[u8], c: Cursor, digits: Digits) -> ReadInt
         Parsed::Wrong { next } => ReadInt::NoInt { next },
         Parsed::Panics => ReadInt::IntPanics,
     }
+}
+
+// ---- what the ported code uses of Rust's `str`: a text without the white space at its ends, and a whole text as a number
+
+// A whole text as a number: the number, or that it is none.
+pub enum ParsedNumber {
+    Value(u32),
+    NoValue,
+}
+
+// Past white space and one more character, counted in bytes; 0 where no character is left.
+fn trim_step(s: &[u8], i: usize) -> usize
+    ensures { λ r. ⌜ r ≡ trims.trimStep (now (s .entry)) i ⌝ }
+{
+    let a = scanner::eat_whitespace(s, Cursor(i));
+    match chars::decode_at(s, a.0) {
+        Decoded::Char { code: _, len } => a.0 + len - i,
+        Decoded::Bad => 0,
+        Decoded::End => 0,
+    }
+}
+
+// The place behind the last character that is no white space.
+pub fn trim_end(s: &[u8]) -> Cursor
+    ensures { λ r. ⌜ r .0 ≡ trims.trimEnd (now (s .entry)) ⌝ }
+{
+    let mut i = 0;
+    loop {
+        let n = trim_step(s, i);
+        if n == 0 {
+            return Cursor(i);
+        }
+        i = i + n;
+    }
+}
+
+// The text without the white space at its ends.
+pub fn trim(s: &[u8]) -> &[u8]
+    ensures { λ r. ⌜ now r ≡ trims.trim (now (s .entry)) ⌝ }
+{
+    let a = scanner::eat_whitespace(s, Cursor(0));
+    let e = trim_end(s);
+    scanner::from(s, a, e)
+}
+
+// The number that digits from a place on say, unless it is above the largest one.
+fn digits_from(s: &[u8], at: usize, top: u32) -> ParsedNumber
+    ensures { λ r. ⌜ r ≡ whole.digitsFrom top (now (s .entry)) at ⌝ }
+{
+    if s.len() <= at {
+        return ParsedNumber::NoValue;
+    }
+    let mut value: u32 = 0;
+    let mut i = at;
+    while i < s.len() {
+        let d = digit(s[i]);
+        if 9 < d {
+            return ParsedNumber::NoValue;
+        }
+        let more = (value as u64) * 10 + d as u64;
+        if (top as u64) < more {
+            return ParsedNumber::NoValue;
+        }
+        value = more as u32;
+        i = i + 1;
+    }
+    ParsedNumber::Value(value)
+}
+
+// The number that a whole text is, with a plus before it or not, for a type of number whose largest is `top`.
+pub fn parse(s: &[u8], top: u32) -> ParsedNumber
+    ensures { λ r. ⌜ r ≡ whole.parse top (now (s .entry)) ⌝ }
+{
+    if chars::byte_at(s, 0) == b'+' {
+        return digits_from(s, 1, top);
+    }
+    digits_from(s, 0, top)
 }

@@ -14,7 +14,7 @@ use Rattle.dates.specs.declared.Datetime.{Datetime}
 use Rattle.dates.specs.Time.{utcSeconds}
 use Rattle.order.specs.declared.Order.{Order}
 use Rattle.order.specs.declared.Order.the-variants.{Less, Equal, Greater, None}
-use Rattle.order.specs.Order.{number, inTurn, both, monthOf, dayOf, timeOf, alike, timeOrder, fromTime, fromDay, fromMonth, order}
+use Rattle.order.specs.Order.{numberOrder, inTurn, both, monthOf, dayOf, timeOf, alike, timeOrder, fromTime, fromDay, fromMonth, order}
 use Rattle.dates.proofs.Less.{lt-trans}
 use Rattle.order.proofs.Numbers.{Cases, less, equal, greater, cases, number-less, number-greater, number-same}
 
@@ -58,36 +58,36 @@ not-equal f e = absurd (false≢true (sym f ∙ ap isEqual e))
 
 -- ---- two numbers
 
-number-mirror : (a b : ℤ) → number b a ≡ mirror (number a b)
-number-mirror a b = go (number a b) (cases a b)
+number-mirror : (a b : ℤ) → numberOrder b a ≡ mirror (numberOrder a b)
+number-mirror a b = go (numberOrder a b) (cases a b)
   where
-    go : (o : Order) → Cases a b o → number b a ≡ mirror o
+    go : (o : Order) → Cases a b o → numberOrder b a ≡ mirror o
     go Less (less h) = number-greater b a h
     go Equal (equal e) = rw e (number-same b)
     go Greater (greater h) = number-less b a h
 
-pub below : (a b : ℤ) → number a b ≡ Less → ltZ a b ≡ true
-below a b e = go (number a b) (cases a b) e
+pub below : (a b : ℤ) → numberOrder a b ≡ Less → ltZ a b ≡ true
+below a b e = go (numberOrder a b) (cases a b) e
   where
     go : (o : Order) → Cases a b o → o ≡ Less → ltZ a b ≡ true
     go Less (less h) e = h
     go Equal (equal h) e = not-less refl e
     go Greater (greater h) e = not-less refl e
 
-pub same : (a b : ℤ) → number a b ≡ Equal → a ≡ b
-same a b e = go (number a b) (cases a b) e
+pub same : (a b : ℤ) → numberOrder a b ≡ Equal → a ≡ b
+same a b e = go (numberOrder a b) (cases a b) e
   where
     go : (o : Order) → Cases a b o → o ≡ Equal → a ≡ b
     go Less (less h) e = not-equal refl e
     go Equal (equal h) e = h
     go Greater (greater h) e = not-equal refl e
 
-pub numbers : Lawful number
+pub numbers : Lawful numberOrder
 numbers =
     record {
       mirrors = number-mirror;
       passes = λ a b c h k. number-less a c (lt-trans a b c (below a b h) (below b c k));
-      answers = λ a b c e. ap (λ (z : ℤ). number z c) (same a b e);
+      answers = λ a b c e. ap (λ (z : ℤ). numberOrder z c) (same a b e);
     }
 
 -- ---- parts that are compared instead
@@ -209,9 +209,9 @@ module _ {A B : Type 0} (go : A → A → B → B → Order) (l : Lawful (λ (u 
       }
 
 -- a number that may be absent, then what follows
-then : {A : Type 0} {next : A → A → Order} → Lawful next → (part : A → Option ℤ) → Lawful (λ (a b : A). both (part a) (part b) (λ (m n : ℤ). inTurn (number m n) (next a b)))
+then : {A : Type 0} {next : A → A → Order} → Lawful next → (part : A → Option ℤ) → Lawful (λ (a b : A). both (part a) (part b) (λ (m n : ℤ). inTurn (numberOrder m n) (next a b)))
 then {A} {next} l part =
-    optional (λ (a b : A) (m n : ℤ). inTurn (number m n) (next a b))
+    optional (λ (a b : A) (m n : ℤ). inTurn (numberOrder m n) (next a b))
     (in-turn (along (λ (u : A × ℤ). u .1) numbers) (along (λ (u : A × ℤ). u .0) l)) part
 
 -- ---- times: those that have an offset and those that have none, then the seconds
@@ -263,7 +263,7 @@ as-cmp e l =
 pub times-lawful : Lawful timeOrder
 unfolding timeOrder
 times-lawful =
-    as-cmp (λ (s t : Time). by-kind (s .offset) (t .offset) (number (utcSeconds s) (utcSeconds t)))
+    as-cmp (λ (s t : Time). by-kind (s .offset) (t .offset) (numberOrder (utcSeconds s) (utcSeconds t)))
     (in-turn (along (λ (t : Time). t .offset) kinds-lawful) (along utcSeconds numbers))
 
 -- ---- Datetimes

@@ -7,7 +7,7 @@ use Rattle.chars.specs.Pick.{pick}
 use Rattle.dates.proofs.Less.{lt-asym, lt-same, irrefl}
 use Rattle.order.specs.declared.Order.{Order}
 use Rattle.order.specs.declared.Order.the-variants.{Less, Equal, Greater}
-use Rattle.order.specs.Order.{number}
+use Rattle.order.specs.Order.{numberOrder}
 
 -- the three answers, with what each says
 pub data Cases (a b : ℤ) : Order → Type 0 where
@@ -15,8 +15,8 @@ pub data Cases (a b : ℤ) : Order → Type 0 where
   equal : a ≡ b → Cases a b Equal
   greater : ltZ b a ≡ true → Cases a b Greater
 
-pub cases : (a b : ℤ) → Cases a b (number a b)
-unfolding number pick
+pub cases : (a b : ℤ) → Cases a b (numberOrder a b)
+unfolding numberOrder pick
 cases a b = go (ltZ a b) refl (ltZ b a) refl
   where
     go : (t : Bool) → ltZ a b ≡ t → (u : Bool) → ltZ b a ≡ u → Cases a b (pick t Less (pick u Greater Equal))
@@ -24,14 +24,14 @@ cases a b = go (ltZ a b) refl (ltZ b a) refl
     go false p true q = greater q
     go false p false q = equal (lt-same a b p q)
 
-pub number-less : (a b : ℤ) → ltZ a b ≡ true → number a b ≡ Less
-unfolding number pick
+pub number-less : (a b : ℤ) → ltZ a b ≡ true → numberOrder a b ≡ Less
+unfolding numberOrder pick
 number-less a b h = rw h
 
-pub number-greater : (a b : ℤ) → ltZ b a ≡ true → number a b ≡ Greater
-unfolding number pick
+pub number-greater : (a b : ℤ) → ltZ b a ≡ true → numberOrder a b ≡ Greater
+unfolding numberOrder pick
 number-greater a b h = rw (lt-asym b a h, h)
 
-pub number-same : (a : ℤ) → number a a ≡ Equal
-unfolding number pick
+pub number-same : (a : ℤ) → numberOrder a a ≡ Equal
+unfolding numberOrder pick
 number-same a = rw (irrefl a)

@@ -24,8 +24,8 @@ use Rattle.order.specs.declared.Compared.{Compared}
 use Rattle.order.specs.declared.Compared.the-variants.{Stands, Refused}
 
 -- two numbers are never without an order
-unfoldable pub number : ℤ → ℤ → Order
-number a b = pick (ltZ a b) Less (pick (ltZ b a) Greater Equal)
+unfoldable pub numberOrder : ℤ → ℤ → Order
+numberOrder a b = pick (ltZ a b) Less (pick (ltZ b a) Greater Equal)
 
 -- in turn: the next is looked at only where the first is equal
 unfoldable pub inTurn : Order → Order → Order
@@ -65,7 +65,7 @@ alike (SomeOffset p) (SomeOffset q) = true
 
 -- times compare by UTC seconds, and give none if only one has an offset
 unfoldable pub timeOrder : Time → Time → Order
-timeOrder s t = pick (alike (s .offset) (t .offset)) (number (utcSeconds s) (utcSeconds t)) None
+timeOrder s t = pick (alike (s .offset) (t .offset)) (numberOrder (utcSeconds s) (utcSeconds t)) None
 
 -- from the times on, which come last
 unfoldable pub fromTime : Datetime → Datetime → Order
@@ -73,15 +73,15 @@ fromTime a b = both (timeOf (a .time)) (timeOf (b .time)) timeOrder
 
 -- from the days on: the day, then the time
 unfoldable pub fromDay : Datetime → Datetime → Order
-fromDay a b = both (dayOf (a .day)) (dayOf (b .day)) λ d e. inTurn (number d e) (fromTime a b)
+fromDay a b = both (dayOf (a .day)) (dayOf (b .day)) λ d e. inTurn (numberOrder d e) (fromTime a b)
 
 -- from the months on: the month, then the day and the time
 unfoldable pub fromMonth : Datetime → Datetime → Order
-fromMonth a b = both (monthOf (a .month)) (monthOf (b .month)) λ m n. inTurn (number m n) (fromDay a b)
+fromMonth a b = both (monthOf (a .month)) (monthOf (b .month)) λ m n. inTurn (numberOrder m n) (fromDay a b)
 
 -- year, month, day, time in turn
 unfoldable pub order : Datetime → Datetime → Order
-order a b = inTurn (number (a .year) (b .year)) (fromMonth a b)
+order a b = inTurn (numberOrder (a .year) (b .year)) (fromMonth a b)
 
 -- a date with a season is not compared
 unfoldable pub seasoned : Compared

@@ -8,7 +8,6 @@ use dates::OptionMonth;
 use dates::OptionOffset;
 use dates::OptionTime;
 use dates::Time;
-use refusals::FileSpan;
 use refusals::Kind;
 use refusals::Refusal;
 
@@ -29,7 +28,7 @@ pub enum Compared {
 
 // Two numbers are never without an order.
 pub fn cmp(a: i64, b: i64) -> Order
-    ensures { λ r. ⌜ r ≡ spec.number a b ⌝ }
+    ensures { λ r. ⌜ r ≡ spec.numberOrder a b ⌝ }
 {
     if a < b {
         return Order::Less;
@@ -42,14 +41,14 @@ pub fn cmp(a: i64, b: i64) -> Order
 
 // Years, negative ones too.
 fn cmp_year(a: i32, b: i32) -> Order
-    ensures { λ r. ⌜ r ≡ spec.number a b ⌝ }
+    ensures { λ r. ⌜ r ≡ spec.numberOrder a b ⌝ }
 {
     cmp(a as i64, b as i64)
 }
 
 // Two stored months or days.
 fn cmp_stored(a: u8, b: u8) -> Order
-    ensures { λ r. ⌜ r ≡ spec.number (pos a) (pos b) ⌝ }
+    ensures { λ r. ⌜ r ≡ spec.numberOrder (pos a) (pos b) ⌝ }
 {
     cmp(a as i64, b as i64)
 }
@@ -162,7 +161,7 @@ fn from_year(a: Datetime, b: Datetime) -> Order
 fn has_season() -> Compared
     ensures { λ r. ⌜ r ≡ spec.seasoned ⌝ }
 {
-    Compared::Refused(refusals::refuse(Kind::HasSeason, FileSpan(0, 0)))
+    Compared::Refused(refusals::nowhere(Kind::HasSeason))
 }
 
 // Dates: refused if either has a season.

@@ -1,5 +1,5 @@
 -- What an answer says of the pieces and of the lent table; and a number by its run. Assumes nothing.
-use mathlib.Core.Path.{_≡_, refl, sym, ap, _∙_}
+use mathlib.Core.Path.{_≡_, sym, ap, _∙_}
 use mathlib.Core.Bool.{Bool, true, false, false≢true}
 use mathlib.Core.List.{List}
 use Prim.Native.Nat.{ℕ, _*_, _≤_, _<_}
@@ -11,17 +11,16 @@ use Rattle.chars.proofs.Cases.{of-test}
 use Rattle.scanner.specs.declared.Run.{Run}
 use Rattle.scanner.specs.declared.Class.the-variants.{AsciiDigit}
 use Rattle.scanner.specs.Scan.{part, nextRun}
-use Rattle.strs.specs.declared.ParsedNumber.{ParsedNumber}
-use Rattle.strs.specs.declared.ParsedNumber.the-variants.{Value, NoValue}
-use Rattle.strs.specs.Parse.{parse}
+use Rattle.numbers.specs.declared.ParsedNumber.{ParsedNumber}
+use Rattle.numbers.specs.declared.ParsedNumber.the-variants.{Value, NoValue}
+use Rattle.numbers.specs.Parse.{parse}
 use Rattle.refusals.specs.declared.Refusal.{Refusal}
 use Rattle.refusals.specs.declared.Kind.the-variants.{TooLong, BadChunks, NoRoom}
-use Rattle.pages.specs.declared.ReadNumber.{ReadNumber}
 use Rattle.pages.specs.declared.ReadNumber.the-variants.{NumberIs, NoNumber}
 use Rattle.pages.specs.declared.Answer.{Answer}
 use Rattle.pages.specs.declared.Answer.the-variants.{Ranges, Refused}
 use Rattle.pages.specs.Piece.{noNumber, numbered, numberOf, numberAt}
-use Rattle.pages.specs.Pieces.{addsUp, judged, refused, answer, put, stored, afterwards}
+use Rattle.pages.specs.Pieces.{addsUp, judged, refusedPages, pagesAnswer, put, tableAfter, pagesAfterwards}
 
 module _ (s : List ℕ) (start at : ℕ) {run : Run} {t : List ℕ} {p : ParsedNumber} (r : run ≡ nextRun AsciiDigit s at) (f : t ≡ part s (run .start .0) (run .end .0)) (q : p ≡ parse 4294967295 t) where
   by-run : numbered start run p ≡ numberAt s start at
@@ -41,8 +40,8 @@ isRanges (Ranges n) = true
 isRanges (Refused e) = false
 
 -- an answer that counts ranges: all adds up, and there is room
-pub says : (b t cs : List ℕ) (room : ℕ) {n : ℕ} → answer b t cs room ≡ Ranges n → (addsUp b t cs ≡ true) × (2 * length cs ≤ room)
-unfolding answer refused pick
+pub says : (b t cs : List ℕ) (room : ℕ) {n : ℕ} → pagesAnswer b t cs room ≡ Ranges n → (addsUp b t cs ≡ true) × (2 * length cs ≤ room)
+unfolding pagesAnswer refusedPages pick
 says b t cs room e =
     of-test (leb (length cs) 64)
     (λ p. of-test (addsUp b t cs)
@@ -50,29 +49,29 @@ says b t cs room e =
     (λ q. absurd (false≢true (ap isRanges (rw (p, q) at e)))))
     (λ p. absurd (false≢true (ap isRanges (rw p at e))))
 
-pub leaves : (b t cs out : List ℕ) {n : ℕ} {new : List ℕ} → answer b t cs (length out) ≡ Ranges n → new ≡ put 0 b t cs out → new ≡ afterwards b t cs out
-unfolding afterwards stored
+pub leaves : (b t cs out : List ℕ) {n : ℕ} {new : List ℕ} → pagesAnswer b t cs (length out) ≡ Ranges n → new ≡ put 0 b t cs out → new ≡ pagesAfterwards b t cs out
+unfolding pagesAfterwards tableAfter
 leaves b t cs out e g = rw e g
 
-pub keeps : (b t cs out : List ℕ) {e : Refusal} → answer b t cs (length out) ≡ Refused e → out ≡ afterwards b t cs out
-unfolding afterwards stored
+pub keeps : (b t cs out : List ℕ) {e : Refusal} → pagesAnswer b t cs (length out) ≡ Refused e → out ≡ pagesAfterwards b t cs out
+unfolding pagesAfterwards tableAfter
 keeps b t cs out e = rw e
 
 -- the answers in their order
 module _ (b t cs : List ℕ) (room : ℕ) where
-  pub too-many : 64 < length cs → refused TooLong ≡ answer b t cs room
-  unfolding answer pick
+  pub too-many : 64 < length cs → refusedPages TooLong ≡ pagesAnswer b t cs room
+  unfolding pagesAnswer pick
   too-many h = rw (lt-leb (length cs) 64 h)
 
   module _ (h : length cs ≤ 64) where
-    pub bad-shape : addsUp b t cs ≡ false → refused BadChunks ≡ answer b t cs room
-    unfolding answer pick
+    pub bad-shape : addsUp b t cs ≡ false → refusedPages BadChunks ≡ pagesAnswer b t cs room
+    unfolding pagesAnswer pick
     bad-shape e = rw (le-leb (length cs) 64 h, e)
 
-    pub no-space : addsUp b t cs ≡ true → room < 2 * length cs → refused NoRoom ≡ answer b t cs room
-    unfolding answer pick
+    pub no-space : addsUp b t cs ≡ true → room < 2 * length cs → refusedPages NoRoom ≡ pagesAnswer b t cs room
+    unfolding pagesAnswer pick
     no-space e g = rw (le-leb (length cs) 64 h, e, lt-leb (2 * length cs) room g)
 
-    pub by-pieces : addsUp b t cs ≡ true → 2 * length cs ≤ room → judged (length cs) b t cs ≡ answer b t cs room
-    unfolding answer pick
+    pub by-pieces : addsUp b t cs ≡ true → 2 * length cs ≤ room → judged (length cs) b t cs ≡ pagesAnswer b t cs room
+    unfolding pagesAnswer pick
     by-pieces e g = rw (le-leb (length cs) 64 h, e, le-leb (2 * length cs) room g)

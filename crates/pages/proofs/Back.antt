@@ -7,34 +7,30 @@ use mathlib.Core.Logic.{⊎-elim}
 use native.Mathlib.Nat.{add-zero, add-sub-cancel-left, eq-zero-or-pos, pow-succ'}
 use native.Mathlib.Omega.{arith}
 use borrow.Author.Tests.{lt-ltb, le-ltb, le-leb, lt-leb, ne-eqb, ltb-true, ltb-false}
-use lib.Dec.{lit<, lit≤, ltb, eqb}
-use lib.ListN.{length, take, getD, length-append}
+use lib.Dec.{lit<, lit≤, ltb}
+use lib.ListN.{length, take, length-append}
 use Rattle.chars.specs.Pick.{pick}
 use Rattle.chars.specs.Ascii.{digitOf}
-use Rattle.chars.specs.Classes.{within, isWhitespace, isAsciiDigit}
+use Rattle.chars.specs.Classes.{within, isAsciiDigit}
 use Rattle.chars.proofs.Laws.{digit-is}
 use Rattle.chars.proofs.Cases.{of-test}
 use Rattle.scanner.specs.declared.Class.the-variants.{Whitespace, AsciiDigit, Is}
-use Rattle.scanner.specs.declared.Cursor.{Cursor}
 use Rattle.scanner.specs.Class.{inClass}
 use Rattle.scanner.specs.Scan.{eatWhile, doneAt, part, runAt, nextRun}
 use Rattle.scanner.proofs.Front.{From, from-behind, front-rest, front-go, front-stop, front-end, front-past}
 use Rattle.scanner.proofs.Laws.{not-white}
-use Rattle.strs.specs.declared.ParsedNumber.{ParsedNumber}
-use Rattle.strs.specs.declared.ParsedNumber.the-variants.{Value, NoValue}
-use Rattle.strs.specs.Parse.{valueOf, digitsFrom, parse}
+use Rattle.numbers.specs.declared.ParsedNumber.{ParsedNumber}
+use Rattle.numbers.specs.declared.ParsedNumber.the-variants.{Value, NoValue}
+use Rattle.numbers.specs.Parse.{wholeValue, digitsFrom, parse}
 use Rattle.numbers.proofs.Reading.{front-ate, hyphen-hyphen}
 use Rattle.refusals.specs.declared.FileSpan.{FileSpan}
-use Rattle.refusals.specs.Refusal.{fileSpan}
-use Rattle.chunks.specs.declared.Checked.the-variants.{Clean}
-use Rattle.chunks.specs.Chunks.{chunksOf, spanOf, lastEnd}
-use Rattle.chunks.specs.Check.{checked}
+use Rattle.chunks.specs.Chunks.{chunksOf, spanOf}
 use Rattle.chunks.specs.Format.{formatted, isBreak, oneFlag}
 use Rattle.chunks.specs.Plain.{allAscii, plainByte, plainOut, plainText}
 use Rattle.chunks.proofs.Answers.{plain-as-is}
 use Rattle.chunks.proofs.Plains.{plainly}
-use Rattle.writer.specs.Numbers.{digits, digitCount, width, decimal}
-use Rattle.writer.proofs.Counts.{length-digits, length-decimal, few, one-more, no-digits, padded, unpadded}
+use Rattle.puts.specs.Numbers.{digits, digitCount, width, decimal}
+use Rattle.puts.proofs.Counts.{length-decimal, few, one-more, no-digits}
 use Rattle.pages.specs.declared.ReadNumber.the-variants.{NumberIs}
 use Rattle.pages.specs.declared.ReadRange.the-variants.{Range}
 use Rattle.pages.specs.Piece.{numbered, numberOf, numberAt, orElse, dashAt, onNumber, secondAt, behindDash, onDash, behindFirst, rangeText as readText, onClean, piece}
@@ -63,9 +59,9 @@ some-value : ParsedNumber → Bool
 some-value (Value v) = true
 some-value NoValue = false
 
-value-behind : (top acc v : ℕ) (u t : List ℕ) → valueOf top acc u ≡ Value v → valueOf top acc (u ++ t) ≡ valueOf top v t
-unfolding valueOf pick some-value
-value-behind top acc v [] t e = ap (λ (p : ParsedNumber). valueOf top (valueIn p) t) e
+value-behind : (top acc v : ℕ) (u t : List ℕ) → wholeValue top acc u ≡ Value v → wholeValue top acc (u ++ t) ≡ wholeValue top v t
+unfolding wholeValue pick some-value
+value-behind top acc v [] t e = ap (λ (p : ParsedNumber). wholeValue top (valueIn p) t) e
   where
     valueIn : ParsedNumber → ℕ
     valueIn (Value x) = x
@@ -75,14 +71,14 @@ value-behind top acc v (c ∷ u) t e =
     (λ q. of-test (ltb top (acc * 10 + digitOf c)) (λ r. absurd (false≢true (ap some-value (rw (q, r) at e))))
     (λ r. rw (q, r) (value-behind top (acc * 10 + digitOf c) v u t (rw (q, r) at e))))
 
-value-last : (top n : ℕ) → n ≤ top → valueOf top (n / 10) ((48 + n % 10) ∷ []) ≡ Value n
-unfolding valueOf pick
+value-last : (top n : ℕ) → n ≤ top → wholeValue top (n / 10) ((48 + n % 10) ∷ []) ≡ Value n
+unfolding wholeValue pick
 value-last top n h =
     let d : digitOf (48 + n % 10) ≡ n % 10 = digit-is (n % 10) (omega arith) in
     rw (d, le-ltb 9 (n % 10) (omega arith), le-ltb top (n / 10 * 10 + n % 10) (omega arith)) (ap Value (omega arith))
 
-value-digits : (top w n : ℕ) → n < 10 ^ w → n ≤ top → valueOf top 0 (digits w n) ≡ Value n
-unfolding valueOf
+value-digits : (top w n : ℕ) → n < 10 ^ w → n ≤ top → wholeValue top 0 (digits w n) ≡ Value n
+unfolding wholeValue
 value-digits top zero n h l = ap Value (omega arith)
 value-digits top (suc w) n h l =
     value-behind top 0 (n / 10) (digits w (n / 10)) ((48 + n % 10) ∷ []) (value-digits top w (n / 10) (let p = pow-succ' 10 w in omega arith) (omega arith))
@@ -141,7 +137,7 @@ unfolding numberAt numberOf numbered nextRun runAt
 number-read u t n start l p v b f = rw (first-white u t l p f, run u p b f, run-part u t f, v)
 
 -- the digits of a number
-digits-parse : (u : List ℕ) (top n : ℕ) → 0 < length u → In 48 u → valueOf top 0 u ≡ Value n → parse top u ≡ Value n
+digits-parse : (u : List ℕ) (top n : ℕ) → 0 < length u → In 48 u → wholeValue top 0 u ≡ Value n → parse top u ≡ Value n
 unfolding parse digitsFrom pick
 digits-parse [] top n l p v = absurd (omega arith)
 digits-parse (c ∷ u) top n l p v =

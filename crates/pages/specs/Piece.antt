@@ -1,4 +1,5 @@
 -- One piece as a page range: what its text says, and where it is refused.
+use Prim.Native.Char.{code}
 use Prim.Native.Nat.{ℕ, _+_}
 use mathlib.Core.List.{List}
 use lib.Dec.{leb}
@@ -9,9 +10,9 @@ use Rattle.scanner.specs.declared.EatIf.{EatIf}
 use Rattle.scanner.specs.declared.EatIf.the-variants.{Past, Kept}
 use Rattle.scanner.specs.declared.Run.{Run}
 use Rattle.scanner.specs.Scan.{eatWhile, eatIf, doneAt, part, nextRun}
-use Rattle.strs.specs.declared.ParsedNumber.{ParsedNumber}
-use Rattle.strs.specs.declared.ParsedNumber.the-variants.{Value, NoValue}
-use Rattle.strs.specs.Parse.{parse}
+use Rattle.numbers.specs.declared.ParsedNumber.{ParsedNumber}
+use Rattle.numbers.specs.declared.ParsedNumber.the-variants.{Value, NoValue}
+use Rattle.numbers.specs.Parse.{parse}
 use Rattle.refusals.specs.declared.FileSpan.{FileSpan}
 use Rattle.refusals.specs.declared.Refusal.{Refusal}
 use Rattle.refusals.specs.declared.Kind.the-variants.{InvalidNumber, RustPanics}
@@ -55,7 +56,7 @@ orElse Kept next = next
 
 -- one hyphen, en dash or em dash
 unfoldable pub dashAt : List ℕ → ℕ → EatIf
-dashAt s at = orElse (eatIf (Is 0x2D) s at) (orElse (eatIf (Is 0x2013) s at) (eatIf (Is 0x2014) s at))
+dashAt s at = orElse (eatIf (Is (code "-")) s at) (orElse (eatIf (Is 0x2013) s at) (eatIf (Is 0x2014) s at))
 
 -- a number that was read goes on
 unfoldable pub onNumber : ReadNumber → (ℕ → Cursor → ReadRange) → ReadRange
@@ -70,7 +71,7 @@ secondAt s a first span =
 
 -- more hyphens and white space come before it
 unfoldable pub behindDash : List ℕ → ℕ → ℕ → FileSpan → ReadRange
-behindDash s at first span = secondAt s (eatWhile Whitespace s (eatWhile (Is 0x2D) s at)) first span
+behindDash s at first span = secondAt s (eatWhile Whitespace s (eatWhile (Is (code "-")) s at)) first span
 
 -- a dash was eaten or not
 unfoldable pub onDash : EatIf → (Cursor → ReadRange) → ReadRange → ReadRange

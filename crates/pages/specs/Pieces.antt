@@ -1,7 +1,7 @@
 -- All pieces: what is answered, and what the lent table of ranges holds then.
 use Prim.Native.Nat.{ℕ, _+_, _*_}
 use mathlib.Core.Bool.{Bool, _&&_}
-use mathlib.Core.List.{List, [], _∷_, _++_}
+use mathlib.Core.List.{List, [], _∷_}
 use lib.Dec.{leb, eqb}
 use lib.ListN.{length, take, drop}
 use lib.Seq.{sets}
@@ -61,23 +61,23 @@ put i b table (n ∷ ns) out =
     put (i + 1) (drop (sizeOf n table) b) (drop (4 * n) table) ns (sets out (2 * i) (numbersOf (pieceOf n b table)))
 
 -- a refusal that names no place
-unfoldable pub refused : Kind → Answer
-refused k = Refused (refusal k (fileSpan 0 0))
+unfoldable pub refusedPages : Kind → Answer
+refusedPages k = Refused (refusal k (fileSpan 0 0))
 
 -- the limits, the shape and the room come before the pieces
-unfoldable pub answer : List ℕ → List ℕ → List ℕ → ℕ → Answer
-answer b table counts room =
+unfoldable pub pagesAnswer : List ℕ → List ℕ → List ℕ → ℕ → Answer
+pagesAnswer b table counts room =
     pick (leb (length counts) 64)
     (pick (addsUp b table counts)
-    (pick (leb (2 * length counts) room) (judged (length counts) b table counts) (refused NoRoom))
-    (refused BadChunks))
-    (refused TooLong)
+    (pick (leb (2 * length counts) room) (judged (length counts) b table counts) (refusedPages NoRoom))
+    (refusedPages BadChunks))
+    (refusedPages TooLong)
 
 -- the lent table after an answer
-unfoldable pub stored : Answer → List ℕ → List ℕ → List ℕ
-stored (Ranges n) new old = new
-stored (Refused e) new old = old
+unfoldable pub tableAfter : Answer → List ℕ → List ℕ → List ℕ
+tableAfter (Ranges n) new old = new
+tableAfter (Refused e) new old = old
 
 -- the lent table afterwards: two numbers a piece at its front; after a refusal nothing has changed
-unfoldable pub afterwards : List ℕ → List ℕ → List ℕ → List ℕ → List ℕ
-afterwards b table counts out = stored (answer b table counts (length out)) (put 0 b table counts out) out
+unfoldable pub pagesAfterwards : List ℕ → List ℕ → List ℕ → List ℕ → List ℕ
+pagesAfterwards b table counts out = tableAfter (pagesAnswer b table counts (length out)) (put 0 b table counts out) out

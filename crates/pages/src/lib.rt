@@ -9,23 +9,32 @@ ghost use lib.ListN.{length, drop};
 ghost use lib.Seq.{sets};
 ghost use Rattle.chunks.specs.Chunks.{chunksOf, lengths, isShort};
 ghost use Rattle.chunks.specs.Answer.{roomOf};
-ghost use Rattle.writer.specs.Answers as writing;
-ghost use Rattle.writer.specs.Answers.{Put};
-ghost use Rattle.writer.specs.Numbers as numbers;
+ghost use Rattle.puts.specs.Answers as writing;
+ghost use Rattle.puts.specs.Answers.{Put};
+ghost use Rattle.puts.specs.Numbers as numbers;
 ghost use Rattle.pages.specs.Piece as spec;
 ghost use Rattle.pages.specs.Pieces as pieces;
 ghost use Rattle.pages.specs.Text as text;
 use chunks::Formatted;
+use numbers::ParsedNumber;
+use puts::Written;
+use puts::put_digits;
+use puts::width;
 use refusals::FileSpan;
 use refusals::Kind;
 use refusals::Refusal;
+use refusals::nowhere;
 use refusals::refuse;
 use scanner::Class;
 use scanner::Cursor;
 use scanner::EatIf;
 use scanner::Run;
-use strs::ParsedNumber;
-use writer::Written;
+
+const HYPHEN: u32 = b'-' as u32;
+
+const EN_DASH: u32 = 0x2013;
+
+const EM_DASH: u32 = 0x2014;
 
 // What one piece says: a range from a page to another, or why it is none.
 pub enum ReadRange {
@@ -61,10 +70,10 @@ fn no_number(start: u64, run: Run) -> Refusal
     let a = run.start.0 as u64;
     let e = run.end.0 as u64;
     if u64::MAX - start < e {
-        return refuse(Kind::RustPanics, FileSpan(0, 0));
+        return nowhere(Kind::RustPanics);
     }
     if u64::MAX - start < a {
-        return refuse(Kind::RustPanics, FileSpan(0, 0));
+        return nowhere(Kind::RustPanics);
     }
     refuse(Kind::InvalidNumber, FileSpan(a + start, e + start))
 }
@@ -76,7 +85,7 @@ fn number_at(s: &[u8], at: Cursor, start: u64) -> ReadNumber
     let run = scanner::next_run(s, at, Class::AsciiDigit);
     let a = run.start;
     let next = run.end;
-    match strs::parse(scanner::from(s, a, next), 4294967295) {
+    match numbers::parse(scanner::from(s, a, next), 4294967295) {
         ParsedNumber::Value(value) => ReadNumber::NumberIs { value, next },
         ParsedNumber::NoValue => ReadNumber::NoNumber(no_number(start, run)),
     }
@@ -86,11 +95,11 @@ fn number_at(s: &[u8], at: Cursor, start: u64) -> ReadNumber
 fn dash_at(s: &[u8], at: Cursor) -> EatIf
     ensures { λ r. ⌜ r ≡ spec.dashAt (now (s .entry)) (at .0) ⌝ }
 {
-    match scanner::eat_if(s, at, Class::Is(0x2D)) {
+    match scanner::eat_if(s, at, Class::Is(HYPHEN)) {
         EatIf::Past(c) => EatIf::Past(c),
-        EatIf::Kept => match scanner::eat_if(s, at, Class::Is(0x2013)) {
+        EatIf::Kept => match scanner::eat_if(s, at, Class::Is(EN_DASH)) {
             EatIf::Past(c) => EatIf::Past(c),
-            EatIf::Kept => scanner::eat_if(s, at, Class::Is(0x2014)),
+            EatIf::Kept => scanner::eat_if(s, at, Class::Is(EM_DASH)),
         },
     }
 }
@@ -100,7 +109,7 @@ fn dash_at(s: &[u8], at: Cursor) -> EatIf
 fn behind_dash(s: &[u8], at: Cursor, first: u32, span: FileSpan) -> ReadRange
     ensures { λ r. ⌜ r ≡ spec.behindDash (now (s .entry)) (at .0) first span ⌝ }
 {
-    let a = scanner::eat_whitespace(s, scanner::eat_while(s, at, Class::Is(0x2D)));
+    let a = scanner::eat_whitespace(s, scanner::eat_while(s, at, Class::Is(HYPHEN)));
     match number_at(s, a, span.0) {
         ReadNumber::NumberIs { value, next } => {
             if scanner::done(s, next) {
@@ -302,14 +311,14 @@ fn store(bytes: &[u8], table: &[u64], counts: &[usize], out: &mut [u32])
 
 // A refusal that names no place.
 fn refused(kind: Kind) -> Answer
-    ensures { λ r. ⌜ r ≡ pieces.refused kind ⌝ }
+    ensures { λ r. ⌜ r ≡ pieces.refusedPages kind ⌝ }
 {
-    Answer::Refused(refuse(kind, FileSpan(0, 0)))
+    Answer::Refused(nowhere(kind))
 }
 
 // What is answered to pieces, with room for so many numbers.
 fn decide(bytes: &[u8], table: &[u64], counts: &[usize], room: usize) -> Answer
-    ensures { λ r. ⌜ r ≡ pieces.answer (now (bytes .entry)) (now (table .entry)) (now (counts .entry)) room ⌝ }
+    ensures { λ r. ⌜ r ≡ pieces.pagesAnswer (now (bytes .entry)) (now (table .entry)) (now (counts .entry)) room ⌝ }
 {
     if 64 < counts.len() {
         return refused(Kind::TooLong);
@@ -325,8 +334,8 @@ fn decide(bytes: &[u8], table: &[u64], counts: &[usize], room: usize) -> Answer
 
 // Page ranges: two numbers a piece, at the front of the lent table, and how many ranges there are. A refusal stores nothing.
 pub fn parse_pages(bytes: &[u8], table: &[u64], counts: &[usize], out: &mut [u32]) -> Answer
-    ensures { λ r. ⌜ r ≡ pieces.answer (now (bytes .entry)) (now (table .entry)) (now (counts .entry)) (length (now (out .entry))) ⌝ }
-    ensures { λ r. ⌜ now (out .exit) ≡ pieces.afterwards (now (bytes .entry)) (now (table .entry)) (now (counts .entry)) (now (out .entry)) ⌝ }
+    ensures { λ r. ⌜ r ≡ pieces.pagesAnswer (now (bytes .entry)) (now (table .entry)) (now (counts .entry)) (length (now (out .entry))) ⌝ }
+    ensures { λ r. ⌜ now (out .exit) ≡ pieces.pagesAfterwards (now (bytes .entry)) (now (table .entry)) (now (counts .entry)) (now (out .entry)) ⌝ }
 {
     match decide(bytes, table, counts, out.len()) {
         Answer::Ranges(n) => {
@@ -338,37 +347,6 @@ pub fn parse_pages(bytes: &[u8], table: &[u64], counts: &[usize], out: &mut [u32
 }
 
 // ---- the text of a range
-
-// How many digits a number is written with.
-fn width(n: u32) -> usize
-    ensures { λ r. ⌜ (r ≡ numbers.width 1 n) × (r < 11) ⌝ }
-{
-    let mut rest = n;
-    let mut w = 0;
-    while 0 < rest {
-        rest /= 10;
-        w += 1;
-    }
-    if w < 1 {
-        return 1;
-    }
-    w
-}
-
-// The last w digits of a number, stored from the right.
-fn put_digits(w: usize, n: u32, out: &mut [u8], at: usize) -> usize
-    requires { ⌜ at + w ≤ length (now out) ⌝ }
-    ensures { λ r. ⌜ Put (numbers.digits w n) (now (out .entry)) at (now (out .exit)) r ⌝ }
-{
-    let mut rest = n;
-    let mut k = w;
-    while 0 < k {
-        k -= 1;
-        out[at + k] = 48 + (rest % 10) as u8;
-        rest /= 10;
-    }
-    at + w
-}
 
 // A hyphen, and the place behind it.
 fn put_hyphen(out: &mut [u8], at: usize) -> usize
@@ -395,10 +373,10 @@ pub fn write_range(start: u32, end: u32, out: &mut [u8]) -> Written
     ensures { λ r. ⌜ now (out .exit) ≡ writing.afterwards false (text.writtenRange start end) (now (out .entry)) ⌝ }
     ensures { λ r. ⌜ length (text.writtenRange start end) ≤ 21 ⌝ }
 {
-    let first = width(start);
-    let second = width(end);
+    let first = width(1, start);
+    let second = width(1, end);
     if out.len() < first + 1 + second {
-        return Written::Refused(refuse(Kind::NoRoom, FileSpan(0, 0)));
+        return Written::Refused(nowhere(Kind::NoRoom));
     }
     Written::Done(put_text(start, end, first, second, out))
 }

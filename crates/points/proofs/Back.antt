@@ -1,14 +1,14 @@
 -- A written point, read back: the reader goes by places, and `From s i t` says what stands at one. One law for each step.
 -- Assumes nothing.
-use mathlib.Core.Path.{_≡_, refl, sym, ap, _∙_}
-use mathlib.Core.Bool.{Bool, true, false}
+use mathlib.Core.Path.{_≡_, refl, ap, _∙_}
+use mathlib.Core.Bool.{true, false}
 use mathlib.Core.List.{List, [], _∷_, _++_}
-use Prim.Native.Nat.{ℕ, zero, suc, _+_, _/_, _%_, _≤_, _<_}
+use Prim.Native.Nat.{ℕ, suc, _+_, _/_, _%_, _≤_, _<_}
 use native.Mathlib.Omega.{arith}
 use borrow.Author.Tests.{lt-ltb, le-ltb, le-leb, lt-leb}
 use lib.Dec.{lit<}
 use lib.IntN.{ℤ, pos, negsuc, natAbs, negℤ}
-use lib.ListN.{length, getD}
+use lib.ListN.{length}
 use Rattle.chars.specs.Pick.{pick}
 use Rattle.scanner.specs.declared.Class.the-variants.{Whitespace, Is}
 use Rattle.scanner.specs.Scan.{doneAt}
@@ -29,10 +29,9 @@ use Rattle.dates.specs.declared.OptionMonth.{OptionMonth}
 use Rattle.dates.specs.declared.OptionMonth.the-variants.{NoMonth, SomeMonth}
 use Rattle.dates.specs.declared.OptionDay.{OptionDay}
 use Rattle.dates.specs.declared.OptionDay.the-variants.{NoDay, SomeDay}
-use Rattle.dates.specs.declared.OptionTime.{OptionTime}
 use Rattle.dates.specs.declared.OptionTime.the-variants.{NoTime}
 use Rattle.dates.specs.declared.Datetime.{Datetime}
-use Rattle.points.specs.Step.{stored, partAt, monthAt, dayAt, hyphenOr, hyphenFrom, hyphenAt, onPart, onSeparator, orEnd}
+use Rattle.points.specs.Step.{storedPart, partAt, monthAt, dayAt, hyphenOr, hyphenFrom, hyphenAt, onPart, onSeparator, orEnd}
 use Rattle.points.specs.Point.{windowedInt, shortYear, longOf, longYear, shortOr, yearAt, onYear, behindDay, behindMonth, behindYear, point}
 use Rattle.points.specs.declared.ReadPoint.the-variants.{Point, Refused}
 use Rattle.points.specs.declared.ReadYear.the-variants.{Year}
@@ -123,7 +122,7 @@ on-year s e = rw e
 
 -- two digits are a number, counted from the lowest
 pub part-read : (n v low high : ℕ) (k : Kind) {s t : List ℕ} {i : ℕ} → v + low ≡ n → n < 100 → n ≤ high → Behind t → From s i (bytes (two n) ++ t) → partAt s i low high k ≡ Stored v (cursor (i + 2))
-unfolding partAt stored pick
+unfolding partAt storedPart pick
 part-read n v low high k {s} {t} {i} e h l b f =
     rw (number-read (n / 10 % 10) ((n % 10) ∷ []) (two-digits n) b f OneOrTwo two-admitted, two-value n h, le-ltb n low (omega arith), le-ltb high n l)
     (ap (λ (x : ℕ). Stored x (cursor (i + 2))) (omega arith))

@@ -14,7 +14,8 @@ use Rattle.scanner.specs.Scan.{lenIn, matchLen, walk, eatWhile, eatIf, eaten, e
 use Rattle.refusals.specs.Offset.{textRefusal}
 use Rattle.refusals.specs.declared.Kind.{Kind}
 use Rattle.refusals.specs.declared.Kind.the-variants.{InvalidFormat, MonthOutOfRange, DayOutOfRange, InvalidNumber, RustPanics}
-use Rattle.numbers.specs.Number.{admits, valueOf, runOf, runAt, parseUnsignedInt, orKept, behindSign, signed, withSign, intAt, parseInt}
+use Rattle.numbers.specs.Number.{admits, runValue, runOf, runAt, parseUnsignedInt, orKept, behindSign, withSign, intAt, parseInt}
+use Rattle.chars.specs.Signs.{signed}
 use Rattle.dates.specs.Calendar.{multiple, leapYear, february, monthLengths, monthLength}
 use Rattle.dates.specs.Value.{month, day, datetime}
 use Rattle.dates.specs.declared.TimeOffset.the-variants.{Utc, Offset}
@@ -25,8 +26,9 @@ use Rattle.dates.specs.declared.OptionMonth.the-variants.{NoMonth}
 use Rattle.dates.specs.declared.OptionDay.{OptionDay}
 use Rattle.dates.specs.declared.OptionDay.the-variants.{NoDay}
 use Rattle.dates.specs.declared.OptionTime.the-variants.{NoTime, SomeTime}
-use Rattle.points.specs.Step.{stored, partAt, monthAt, dayAt, hourAt, sixtyAt, hyphenOr, hyphenFrom, hyphenAt, colonOr, colonFrom, colonAt, onPart, onSeparator, orEnd}
-use Rattle.points.specs.Time.{time, shiftAt, offsetBy, offsetFrom, offsetAt, withOffset, behindSecond, behindMinute, behindHour, timeAt}
+use Rattle.points.specs.Step.{storedPart, partAt, monthAt, dayAt, hourAt, sixtyAt, hyphenOr, hyphenFrom, hyphenAt, colonOr, colonFrom, colonAt, onPart, onSeparator, orEnd}
+use Rattle.dates.specs.Time.{time}
+use Rattle.points.specs.Time.{shiftAt, offsetBy, offsetFrom, offsetAt, withOffset, behindSecond, behindMinute, behindHour, timeAt}
 use Rattle.points.specs.Point.{windowed, windowedInt, shortYear, longOf, longYear, shortOr, yearAt, onYear, withTime, timeOr, behindDay, behindMonth, behindYear, point}
 use Rattle.points.specs.declared.ReadPoint.{ReadPoint}
 use Rattle.points.specs.declared.ReadPoint.the-variants.{Point, Refused}
@@ -83,5 +85,5 @@ table =
     ∷ []
 
 pub examples : map (λ (e : Example). point (e .text)) table ≡ map (λ (e : Example). e .says) table
-unfolding pick within isWhitespace isAsciiDigit isNumeric lenOf isCont isSurrogate two three four decode first decodeAt inClass lenIn matchLen walk eatWhile eatIf eaten eatAt standsAt doneAt part admits digitOf valueOf runOf runAt parseUnsignedInt orKept behindSign signed withSign intAt parseInt multiple leapYear february monthLengths monthLength stored partAt monthAt dayAt hourAt sixtyAt hyphenOr hyphenFrom hyphenAt colonOr colonFrom colonAt onPart onSeparator orEnd shiftAt offsetBy offsetFrom offsetAt withOffset behindSecond behindMinute behindHour timeAt windowed windowedInt shortYear longOf longYear shortOr yearAt onYear withTime timeOr behindDay behindMonth behindYear point
+unfolding pick within isWhitespace isAsciiDigit isNumeric lenOf isCont isSurrogate two three four decode first decodeAt inClass lenIn matchLen walk eatWhile eatIf eaten eatAt standsAt doneAt part admits digitOf runValue runOf runAt parseUnsignedInt orKept behindSign signed withSign intAt parseInt multiple leapYear february monthLengths monthLength storedPart partAt monthAt dayAt hourAt sixtyAt hyphenOr hyphenFrom hyphenAt colonOr colonFrom colonAt onPart onSeparator orEnd shiftAt offsetBy offsetFrom offsetAt withOffset behindSecond behindMinute behindHour timeAt windowed windowedInt shortYear longOf longYear shortOr yearAt onYear withTime timeOr behindDay behindMonth behindYear point
 examples = refl

@@ -15,7 +15,7 @@ use Rattle.numbers.specs.declared.Parsed.{Parsed}
 use Rattle.numbers.specs.declared.Parsed.the-variants.{Number, Wrong, Panics}
 use Rattle.numbers.proofs.Sums.{sum-mag}
 use Rattle.numbers.proofs.Laws.{mag-abs, abs-mag}
-use Rattle.points.specs.Step.{stored, partAt}
+use Rattle.points.specs.Step.{storedPart, partAt}
 use Rattle.points.specs.Point.{windowed}
 use Rattle.points.specs.declared.ReadPart.{ReadPart}
 use Rattle.points.specs.declared.ReadPart.the-variants.{Stored, NoPart}
@@ -25,8 +25,8 @@ pub data PartIn (low high : ℕ) : ReadPart → Type 0 where
   part : {v : ℕ} {c : Cursor} → v + low ≤ high → PartIn low high (Stored v c)
   nopart : {e : TextRefusal} → PartIn low high (NoPart e)
 
-stored-in : (p : Parsed) (at low high : ℕ) (k : Kind) → PartIn low high (stored p at low high k)
-unfolding stored
+stored-in : (p : Parsed) (at low high : ℕ) (k : Kind) → PartIn low high (storedPart p at low high k)
+unfolding storedPart
 stored-in (Number v c) at low high k =
     by-test (PartIn low high) _ (λ _. nopart)
     (λ a. by-test (PartIn low high) _ (λ _. nopart) (λ b. part {v = v - low} (omega (arith, ltb-false v low a, ltb-false high v b))))

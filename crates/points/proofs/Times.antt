@@ -24,7 +24,8 @@ use Rattle.dates.specs.declared.OptionDay.{OptionDay}
 use Rattle.dates.specs.Value.{datetime}
 use Rattle.dates.specs.declared.OptionTime.the-variants.{NoTime}
 use Rattle.points.specs.Step.{hourAt, sixtyAt, colonOr, colonFrom, colonAt, onPart, onSeparator}
-use Rattle.points.specs.Time.{time, local, shiftAt, offsetBy, offsetFrom, offsetAt, withOffset, behindSecond, behindMinute, behindHour, timeAt}
+use Rattle.dates.specs.Time.{time}
+use Rattle.points.specs.Time.{local, shiftAt, offsetBy, offsetFrom, offsetAt, withOffset, behindSecond, behindMinute, behindHour, timeAt}
 use Rattle.points.specs.Point.{withTime, timeOr, behindDay}
 use Rattle.points.specs.declared.ReadPoint.the-variants.{Point}
 use Rattle.points.specs.declared.ReadTime.the-variants.{Clock}

@@ -1,5 +1,6 @@
 -- A point of a date field: year, then month, then day, then T with a time; with the place of each refusal, counted from the text's start.
 use Prim.Native.Nat.{ℕ}
+use Prim.Native.Char.{code}
 use mathlib.Core.List.{List}
 use lib.Dec.{ltb}
 use lib.IntN.{ℤ, pos, _+ℤ_}
@@ -83,7 +84,7 @@ timeOr s a y m d Kept = Refused (textRefusal InvalidFormat 0 a)
 
 -- behind the day: the end, or T and a time
 unfoldable pub behindDay : List ℕ → ℕ → ℤ → OptionMonth → OptionDay → ReadPoint
-behindDay s at y m d = orEnd s at (Point (datetime y m d NoTime)) λ a. timeOr s a y m d (eatIf (Is 0x54) s a)
+behindDay s at y m d = orEnd s at (Point (datetime y m d NoTime)) λ a. timeOr s a y m d (eatIf (Is (code "T")) s a)
 
 -- behind the month: the end, or a day within that month; one beyond it is refused from the text's start to its end
 unfoldable pub behindMonth : List ℕ → ℕ → ℤ → Month → ReadPoint

@@ -1,6 +1,7 @@
 -- The steps that a point is read in: the numbers between the separators, the separators, and how reading goes on behind them.
 -- Each begins at a place and ends at one, or refuses with its place.
 use Prim.Native.Nat.{ℕ, _-_}
+use Prim.Native.Char.{code}
 use mathlib.Core.List.{List}
 use lib.Dec.{ltb}
 use Rattle.chars.specs.Pick.{pick}
@@ -23,15 +24,15 @@ use Rattle.points.specs.declared.ReadSeparator.the-variants.{Passed, Mis
 
 -- a number from a lowest one to a highest, counted from the lowest. The place of a refusal is from where reading began, which is behind
 -- the separator and before white space, to the end of the run
-unfoldable pub stored : Parsed → ℕ → ℕ → ℕ → Kind → ReadPart
-stored (Number v c) at low high k =
+unfoldable pub storedPart : Parsed → ℕ → ℕ → ℕ → Kind → ReadPart
+storedPart (Number v c) at low high k =
     pick (ltb v low) (NoPart (textRefusal k at (c .0))) (pick (ltb high v) (NoPart (textRefusal k at (c .0))) (Stored (v - low) c))
-stored (Wrong c) at low high k = NoPart (textRefusal InvalidFormat at (c .0))
-stored Panics at low high k = NoPart panics
+storedPart (Wrong c) at low high k = NoPart (textRefusal InvalidFormat at (c .0))
+storedPart Panics at low high k = NoPart panics
 
 -- white space and one or two numeric bytes, as such a number
 unfoldable pub partAt : List ℕ → ℕ → ℕ → ℕ → Kind → ReadPart
-partAt s at low high k = stored (parseUnsignedInt s at OneOrTwo) at low high k
+partAt s at low high k = storedPart (parseUnsignedInt s at OneOrTwo) at low high k
 
 -- a month, written from 1 to 12 and stored from zero
 unfoldable pub monthAt : List ℕ → ℕ → ReadPart
@@ -51,12 +52,12 @@ sixtyAt s at = partAt s at 0 59 InvalidNumber
 
 -- a run of hyphens behind the first; without one, the place is the white space before where it should stand
 unfoldable pub hyphenOr : List ℕ → ℕ → ℕ → EatIf → ReadSeparator
-hyphenOr s at a (Past c) = Passed (cursor (eatWhile (Is 0x2D) s (c .0)))
+hyphenOr s at a (Past c) = Passed (cursor (eatWhile (Is (code "-")) s (c .0)))
 hyphenOr s at a Kept = Missing (textRefusal InvalidFormat at a)
 
 -- a run of hyphens at a, where reading began at the place before
 unfoldable pub hyphenFrom : List ℕ → ℕ → ℕ → ReadSeparator
-hyphenFrom s at a = hyphenOr s at a (eatIf (Is 0x2D) s a)
+hyphenFrom s at a = hyphenOr s at a (eatIf (Is (code "-")) s a)
 
 -- white space, then a run of hyphens
 unfoldable pub hyphenAt : List ℕ → ℕ → ReadSeparator
@@ -69,7 +70,7 @@ colonOr at a Kept = Missing (textRefusal InvalidFormat at a)
 
 -- a colon at a, where reading began at the place before
 unfoldable pub colonFrom : List ℕ → ℕ → ℕ → ReadSeparator
-colonFrom s at a = colonOr at a (eatIf (Is 0x3A) s a)
+colonFrom s at a = colonOr at a (eatIf (Is (code ":")) s a)
 
 -- white space, then a colon
 unfoldable pub colonAt : List ℕ → ℕ → ReadSeparator

@@ -1,6 +1,7 @@
 -- The time of a point, behind the T: hour, minute, second, offset. Each further part may be left out, an offset stands only behind
 -- seconds, and what is left out is zero.
 use Prim.Native.Nat.{ℕ}
+use Prim.Native.Char.{code}
 use mathlib.Core.Bool.{Bool, true, false}
 use mathlib.Core.List.{List}
 use lib.Dec.{eqb}
@@ -12,18 +13,14 @@ use Rattle.scanner.specs.Scan.{eatWhile, eatAt}
 use Rattle.refusals.specs.Offset.{textRefusal}
 use Rattle.refusals.specs.declared.Kind.the-variants.{InvalidFormat}
 use Rattle.dates.specs.declared.TimeOffset.the-variants.{Utc, Offset}
-use Rattle.dates.specs.declared.OptionOffset.{OptionOffset}
 use Rattle.dates.specs.declared.OptionOffset.the-variants.{NoOffset, SomeOffset}
 use Rattle.dates.specs.declared.Time.{Time}
+use Rattle.dates.specs.Time.{time}
 use Rattle.points.specs.declared.ReadTime.{ReadTime}
 use Rattle.points.specs.declared.ReadTime.the-variants.{Clock, NoClock}
 use Rattle.points.specs.declared.ReadOffset.{ReadOffset}
 use Rattle.points.specs.declared.ReadOffset.the-variants.{Shift, NoShift}
 use Rattle.points.specs.Step.{hourAt, sixtyAt, colonAt, onPart, onSeparator, orEnd}
-
--- the time of four parts
-abbrev pub time : ℕ → ℕ → ℕ → OptionOffset → Time
-time h m s o = record { hour = h; minute = m; second = s; offset = o }
 
 -- a time with no offset
 abbrev pub local : ℕ → ℕ → ℕ → Time
@@ -40,10 +37,10 @@ shiftAt s at positive =
 
 -- by the character there: Z, a sign, or one that is refused, at its own place
 unfoldable pub offsetBy : List ℕ → ℕ → Next → ReadOffset
-offsetBy s a (Ate code c) =
-    pick (eqb code 0x5A) (Shift Utc)
-    (pick (eqb code 0x2B) (shiftAt s (c .0) true)
-    (pick (eqb code 0x2D) (shiftAt s (c .0) false) (NoShift (textRefusal InvalidFormat a (c .0)))))
+offsetBy s a (Ate x c) =
+    pick (eqb x (code "Z")) (Shift Utc)
+    (pick (eqb x (code "+")) (shiftAt s (c .0) true)
+    (pick (eqb x (code "-")) (shiftAt s (c .0) false) (NoShift (textRefusal InvalidFormat a (c .0)))))
 offsetBy s a Nothing = NoShift (textRefusal InvalidFormat a a)
 
 -- by the character at a place

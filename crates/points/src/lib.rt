@@ -37,6 +37,16 @@ pub enum ReadYear {
     NoYear(TextRefusal),
 }
 
+const HYPHEN: u32 = b'-' as u32;
+
+const COLON: u32 = b':' as u32;
+
+const TEE: u32 = b'T' as u32;
+
+const ZED: u32 = b'Z' as u32;
+
+const PLUS: u32 = b'+' as u32;
+
 // A month, a day, an hour, a minute or a second, counted from the lowest number that it may have.
 pub enum ReadPart {
     Stored { value: u8, next: Cursor },
@@ -158,8 +168,8 @@ fn parse_hyphen(s: &[u8], c: Cursor) -> ReadSeparator
     ensures { λ r. ⌜ r ≡ step.hyphenAt (now (s .entry)) (c .0) ⌝ }
 {
     let a = scanner::eat_whitespace(s, c);
-    match scanner::eat_if(s, a, Class::Is(0x2D)) {
-        EatIf::Past(next) => ReadSeparator::Passed(scanner::eat_while(s, next, Class::Is(0x2D))),
+    match scanner::eat_if(s, a, Class::Is(HYPHEN)) {
+        EatIf::Past(next) => ReadSeparator::Passed(scanner::eat_while(s, next, Class::Is(HYPHEN))),
         EatIf::Kept => ReadSeparator::Missing(refuse_text(Kind::InvalidFormat, c, a)),
     }
 }
@@ -169,7 +179,7 @@ fn parse_colon(s: &[u8], c: Cursor) -> ReadSeparator
     ensures { λ r. ⌜ r ≡ step.colonAt (now (s .entry)) (c .0) ⌝ }
 {
     let a = scanner::eat_whitespace(s, c);
-    match scanner::eat_if(s, a, Class::Is(0x3A)) {
+    match scanner::eat_if(s, a, Class::Is(COLON)) {
         EatIf::Past(next) => ReadSeparator::Passed(next),
         EatIf::Kept => ReadSeparator::Missing(refuse_text(Kind::InvalidFormat, c, a)),
     }
@@ -215,13 +225,13 @@ fn parse_offset(s: &[u8], c: Cursor) -> ReadOffset
     let a = scanner::eat_whitespace(s, c);
     match scanner::eat(s, a) {
         Next::Ate(code, next) => {
-            if code == 0x5A {
+            if code == ZED {
                 return ReadOffset::Shift(TimeOffset::Utc);
             }
-            if code == 0x2B {
+            if code == PLUS {
                 return parse_shift(s, next, true);
             }
-            if code == 0x2D {
+            if code == HYPHEN {
                 return parse_shift(s, next, false);
             }
             ReadOffset::NoShift(refuse_text(Kind::InvalidFormat, a, next))
@@ -319,7 +329,7 @@ fn behind_day(s: &[u8], c: Cursor, year: i32, month: OptionMonth, day: OptionDay
     if scanner::done(s, a) {
         return ReadPoint::Point(Datetime::new(year, month, day, OptionTime::NoTime));
     }
-    match scanner::eat_if(s, a, Class::Is(0x54)) {
+    match scanner::eat_if(s, a, Class::Is(TEE)) {
         EatIf::Past(next) => match parse_time(s, next) {
             ReadTime::Clock(t) => {
                 ReadPoint::Point(Datetime::new(year, month, day, OptionTime::SomeTime(t)))

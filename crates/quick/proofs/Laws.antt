@@ -1,16 +1,15 @@
 -- A usual point is the text that its Datetime has in the strict grammar, and the Datetime is one of the calendar with a year of four digits.
 -- Assumes nothing.
-use mathlib.Core.Path.{_≡_, refl, sym, ap, _∙_, subst}
+use mathlib.Core.Path.{_≡_, refl, sym, ap, _∙_}
 use mathlib.Core.Bool.{Bool, true, false, _&&_}
 use mathlib.Core.List.{List, [], _∷_, _++_, append-nil}
-use Prim.Native.Nat.{ℕ, zero, suc, _+_, _*_, _-_, _/_, _%_, _≤_, _<_}
+use Prim.Native.Nat.{ℕ, suc, _+_, _*_, _-_, _/_, _%_, _≤_, _<_}
 use native.Mathlib.Omega.{arith}
 use lib.Dec.{eqb, ltb}
 use lib.IntN.{pos}
 use lib.ListN.{length, getD, take, drop, take-append-drop, drop-of-length-le, List·getD-eq-default}
 use lib.Seq.{drop-cons}
 use borrow.Author.Tests.{eqb-true, eqb-false, ltb-true, ltb-false}
-use Rattle.chars.specs.Pick.{pick}
 use Rattle.chars.specs.Classes.{isAsciiDigit}
 use Rattle.chars.proofs.Cases.{by-test, and-true}
 use Rattle.chars.proofs.Spelled.{bytesAt, drop-same, spelled}
@@ -24,7 +23,7 @@ use Rattle.dates.specs.Value.{datetime, month, day}
 use Rattle.dates.proofs.Lengths.{length-most}
 use Rattle.strict.specs.Digits.{digits}
 use Rattle.strict.specs.Canonical.{yearText, partText, dayText, monthText, canonical}
-use Rattle.strict.proofs.Digits.{Digit, digit}
+use Rattle.strict.proofs.Digits.{digit}
 use Rattle.quick.specs.declared.UsualPoint.{UsualPoint}
 use Rattle.quick.specs.declared.UsualPoint.the-variants.{Found, NotFound}
 use Rattle.quick.specs.declared.UsualText.{UsualText}

@@ -1,4 +1,5 @@
 -- The usual texts: a point without a sign and without a time, or two with a slash between them, as Dates are written.
+use Prim.Native.Char.{code}
 use Prim.Native.Nat.{ℕ, _+_, _-_, _*_}
 use mathlib.Core.Bool.{Bool, _&&_}
 use mathlib.Core.List.{List}
@@ -37,7 +38,7 @@ countedFrom n = pick (eqb n 0) 100 (n - 1)
 
 -- a hyphen and two digits at a place, counted from zero; 99 or more for bytes that are none
 unfoldable pub partAt : List ℕ → ℕ → ℕ
-partAt s at = pick (eqb (getD s at 0) 0x2D) (countedFrom (twoOf (getD s (at + 1) 0) (getD s (at + 2) 0))) 100
+partAt s at = pick (eqb (getD s at 0) (code "-")) (countedFrom (twoOf (getD s (at + 1) 0) (getD s (at + 2) 0))) 100
 
 -- the point of a year and its parts
 abbrev pub foundAt : ℕ → OptionMonth → OptionDay → UsualPoint
@@ -64,7 +65,7 @@ pointOf s = pick (eqb (length s) 4) (yearPoint s) (pick (eqb (length s) 7) (mont
 
 -- whether a slash stands at a place
 unfoldable pub isSlash : List ℕ → ℕ → Bool
-isSlash s at = eqb (getD s at 0) 0x2F
+isSlash s at = eqb (getD s at 0) (code "/")
 
 -- where a slash stands, if it stands behind a point
 unfoldable pub slashOf : List ℕ → ℕ

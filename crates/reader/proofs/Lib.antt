@@ -1,5 +1,3 @@
-pub mod Entries
 pub mod Lists
-pub mod Single
-pub mod Stored
-pub mod Examples
+pub mod Usual
+pub mod Quick

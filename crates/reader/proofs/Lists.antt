@@ -14,9 +14,9 @@ use Rattle.chunks.specs.Answer.{textOf}
 use Rattle.chunks.proofs.Answers.{plain-as-is}
 use Rattle.chunks.proofs.Proper.{else-clean}
 use Rattle.fields.specs.Year.{getYear}
-use Rattle.reader.specs.Fields.{partsChecked, fieldsChecked, movedYear, yearOf, monthText, monthAlone}
+use Rattle.reading_laws.specs.Fields.{partsChecked, fieldsChecked, movedYear, yearOf, monthText, monthAlone}
 use Rattle.reader.specs.Readable.{Readable, Small}
-use Rattle.reader.proofs.Entries.{large-room, small-room}
+use Rattle.chunks.proofs.Buffers.{large-room, small-room}
 
 -- a text that was formatted as it is
 pub as-is : (b table : List ℕ) {t : List ℕ} → t ≡ textOf false b table → t ≡ formatted b table

@@ -1,3 +1,2 @@
-pub mod Field
-pub mod Fields
+pub mod Once
 pub mod Readable

@@ -1,18 +1,13 @@
 -- What the private functions of this crate ask of a list and a buffer. No public contract rests on it.
 use Prim.Native.Nat.{ℕ, _≤_}
 use mathlib.Core.Path.{_≡_}
-use mathlib.Core.Bool.{Bool, true, false}
+use mathlib.Core.Bool.{true}
 use mathlib.Core.List.{List}
 use lib.ListN.{length}
 use Rattle.chunks.specs.declared.Checked.the-variants.{Clean}
 use Rattle.chunks.specs.Chunks.{isShort}
 use Rattle.chunks.specs.Check.{checked}
 use Rattle.chunks.specs.Answer.{roomOf}
-use Rattle.chunks.specs.Format.{formatted}
-use Rattle.strict.specs.Matcher.{strict}
-use Rattle.strict.specs.LevelMatcher.{level}
-use Rattle.datefield.specs.declared.ReadDate.{ReadDate}
-use Rattle.reader.specs.Field.{onClean, strictly, leveled}
 
 -- a list without a fault, and room for its text
 pub record Readable (b table : List ℕ) (room : ℕ) : Type 0 where
@@ -27,12 +22,3 @@ pub record Small (b table : List ℕ) : Type 0 where
   pub few-bytes : length b ≤ 56
   -- and up to two more for each of four chunks
   pub few-chunks : length table ≤ 16
-
--- a text by the grammar of level one or by the strict one
-unfoldable pub matchBy : Bool → List ℕ → ReadDate
-matchBy true s = leveled (level s)
-matchBy false s = strictly (strict s)
-
--- a list likewise
-unfoldable pub parsedBy : Bool → List ℕ → List ℕ → ReadDate
-parsedBy one b table = onClean (checked b table) (matchBy one (formatted b table))

@@ -1,7 +1,10 @@
-// The readers over chunk lists: a date field by the ported reader, by the strict one and by the one of level one.
+// The readers over chunk lists: a date field by the ported reader, by the strict one and by the one of level one. The first two read a usual text
+// at once, where it stands, and so any text of one Normal chunk that the strict grammar derives; any other list goes the way for all. All ways
+// give the same, since what the strict reader accepts has the ported reader's Date, but for a range of days that an X stands for, which the
+// ported reader reads itself.
 // No call keeps anything, and no refusal changes a lent byte: the lists are lent for reading only.
 ghost use mathlib.Core.Path.{_≡_};
-ghost use mathlib.Core.Bool.{true};
+ghost use mathlib.Core.Bool.{true, false};
 ghost use Prim.Native.Nat.{_≤_};
 ghost use lib.ListN.{length};
 ghost use Rattle.chunks.specs.Chunks.{isShort};
@@ -10,16 +13,19 @@ ghost use Rattle.chunks.specs.Chunks.{chunksOf, spanOf};
 ghost use Rattle.chunks.specs.declared.Checked.the-variants.{Clean};
 ghost use Rattle.chunks.specs.Check.{checked};
 ghost use Rattle.chunks.specs.Format.{formatted};
+ghost use Rattle.dates.specs.Value.{date};
+ghost use Rattle.dates.specs.declared.DateValue.the-variants.{Between};
 ghost use Rattle.fields.specs.Month.{monthField};
 ghost use Rattle.fields.specs.Day.{dayField};
-ghost use Rattle.reader.specs.Field as field;
-ghost use Rattle.reader.specs.Fields as fieldset;
+ghost use Rattle.reading_laws.specs.Field as field;
+ghost use Rattle.reading_laws.specs.Fields as fieldset;
+ghost use Rattle.reader.specs.Once as once;
 ghost use Rattle.reader.specs.Readable.{Readable, Small};
-ghost use Rattle.reader.specs.Readable as exact;
+use chars::byte_at;
 use chunks::Checked;
 use chunks::Formatted;
-use datefield::ReadDate;
 use dates::Date;
+use dates::DateValue;
 use dates::Datetime;
 use dates::OptionDay;
 use dates::OptionMonth;
@@ -28,23 +34,14 @@ use fields::ReadDay;
 use fields::ReadDayField;
 use fields::ReadMonth;
 use fields::ReadYear;
+use quick::UsualText;
+use reading_laws::FieldYear;
+use reading_laws::Parts;
 use refusals::FileSpan;
 use refusals::Kind;
-use refusals::Refusal;
+use refusals::ReadDate;
 use scanner::Cursor;
 use strict::Matched;
-
-// The year of a year list, or why there is none.
-enum FieldYear {
-    YearIs(i32),
-    NoFieldYear(Refusal),
-}
-
-// A month and a day, each absent or stored, or why there are none.
-enum Parts {
-    PartsAre(OptionMonth, OptionDay),
-    NoParts(Refusal),
-}
 
 // A date field, formatted into a buffer with room for it.
 fn parse_in(bytes: &[u8], table: &[u64], buf: &mut [u8]) -> ReadDate
@@ -57,8 +54,8 @@ fn parse_in(bytes: &[u8], table: &[u64], buf: &mut [u8]) -> ReadDate
     }
 }
 
-// A date field, read as the Rust reads it. A short list is formatted into a small array, which costs less to clear.
-pub fn parse(bytes: &[u8], table: &[u64]) -> ReadDate
+// A date field by the way for all. A short list is formatted into a small array, which costs less to clear.
+fn parse_any(bytes: &[u8], table: &[u64]) -> ReadDate
     ensures { λ r. ⌜ r ≡ field.parsed (now (bytes .entry)) (now (table .entry)) ⌝ }
 {
     if bytes.len() <= 56 {
@@ -77,7 +74,7 @@ fn strictly(m: Matched) -> ReadDate
 {
     match m {
         Matched::Strict(d) => ReadDate::Accepted(d),
-        Matched::NotStrict => ReadDate::Refused(refusals::refuse(Kind::NotStrict, FileSpan(0, 0))),
+        Matched::NotStrict => ReadDate::Refused(refusals::nowhere(Kind::NotStrict)),
     }
 }
 
@@ -87,16 +84,13 @@ fn leveled(m: Matched) -> ReadDate
 {
     match m {
         Matched::Strict(d) => ReadDate::Accepted(d),
-        Matched::NotStrict => ReadDate::Refused(refusals::refuse(
-            Kind::NotLevelOne,
-            FileSpan(0, 0),
-        )),
+        Matched::NotStrict => ReadDate::Refused(refusals::nowhere(Kind::NotLevelOne)),
     }
 }
 
 // A text by the grammar of level one or by the strict one.
 fn match_by(level: bool, s: &[u8]) -> ReadDate
-    ensures { λ r. ⌜ r ≡ exact.matchBy level (now (s .entry)) ⌝ }
+    ensures { λ r. ⌜ r ≡ field.matchBy level (now (s .entry)) ⌝ }
 {
     if level {
         return leveled(strict::match_level(s));
@@ -107,7 +101,7 @@ fn match_by(level: bool, s: &[u8]) -> ReadDate
 // A date field by one of the grammars, formatted into a buffer with room for it.
 fn parse_by_in(level: bool, bytes: &[u8], table: &[u64], buf: &mut [u8]) -> ReadDate
     requires { ⌜ (isShort (now bytes) (now table) ≡ true → roomOf (now bytes) (now table) ≤ length (now buf)) ⌝ }
-    ensures { λ r. ⌜ r ≡ exact.parsedBy level (now (bytes .entry)) (now (table .entry)) ⌝ }
+    ensures { λ r. ⌜ r ≡ field.parsedBy level (now (bytes .entry)) (now (table .entry)) ⌝ }
 {
     match chunks::format_verbatim(bytes, table, buf) {
         Formatted::Text(n) => match_by(level, &buf[..n]),
@@ -117,7 +111,7 @@ fn parse_by_in(level: bool, bytes: &[u8], table: &[u64], buf: &mut [u8]) -> Read
 
 // A date field by one of the grammars: neither trimmed nor in upper case.
 fn parse_by(level: bool, bytes: &[u8], table: &[u64]) -> ReadDate
-    ensures { λ r. ⌜ r ≡ exact.parsedBy level (now (bytes .entry)) (now (table .entry)) ⌝ }
+    ensures { λ r. ⌜ r ≡ field.parsedBy level (now (bytes .entry)) (now (table .entry)) ⌝ }
 {
     if bytes.len() <= 56 {
         if table.len() <= 16 {
@@ -129,11 +123,100 @@ fn parse_by(level: bool, bytes: &[u8], table: &[u64]) -> ReadDate
     parse_by_in(level, bytes, table, &mut buf)
 }
 
-// A date field by the strict grammar.
+// ---- at once
+
+// Whether a list is one Normal chunk with all of the bytes. Then `quick::text` says whether they are a usual text: for who makes something else
+// of it than a Date. What is none is for `parse_unusual` or `parse_strict_unusual`, which do not look for a usual text again.
+pub fn is_one_normal(bytes: &[u8], table: &[u64]) -> bool
+    ensures { λ r. ⌜ r ≡ once.oneNormal (now (bytes .entry)) (now (table .entry)) ⌝ }
+{
+    if table.len() == 4 {
+        if table[0] == 0 {
+            return table[1] == bytes.len() as u64;
+        }
+    }
+    false
+}
+
+// What the strict grammar says of such a list's bytes; no other list is looked at.
+fn at_once(bytes: &[u8], table: &[u64]) -> Matched
+    ensures { λ r. ⌜ r ≡ once.atOnce (now (bytes .entry)) (now (table .entry)) ⌝ }
+{
+    if is_one_normal(bytes, table) {
+        return strict::match_text(bytes);
+    }
+    Matched::NotStrict
+}
+
+// The same for the ported reader: no text is looked at in which an X stands for a day.
+fn at_once_ported(bytes: &[u8], table: &[u64]) -> Matched
+    ensures { λ r. ⌜ r ≡ once.atOncePorted (now (bytes .entry)) (now (table .entry)) ⌝ }
+{
+    if byte_at(bytes, 8) == b'X' {
+        return Matched::NotStrict;
+    }
+    at_once(bytes, table)
+}
+
+// A date field as `parse` reads it, for a text that is not usual: any other is read too, but not so fast.
+pub fn parse_unusual(bytes: &[u8], table: &[u64]) -> ReadDate
+    ensures { λ r. ⌜ r ≡ field.parsed (now (bytes .entry)) (now (table .entry)) ⌝ }
+{
+    match at_once_ported(bytes, table) {
+        Matched::Strict(d) => ReadDate::Accepted(d),
+        Matched::NotStrict => parse_any(bytes, table),
+    }
+}
+
+// The same by the strict grammar.
+pub fn parse_strict_unusual(bytes: &[u8], table: &[u64]) -> ReadDate
+    ensures { λ r. ⌜ r ≡ field.parsedStrict (now (bytes .entry)) (now (table .entry)) ⌝ }
+{
+    match at_once(bytes, table) {
+        Matched::Strict(d) => ReadDate::Accepted(d),
+        Matched::NotStrict => parse_by(false, bytes, table),
+    }
+}
+
+// A range of two dates, with no mark.
+fn range(a: Datetime, b: Datetime) -> Date
+    ensures { λ r. ⌜ r ≡ date (Between a b) false false ⌝ }
+{
+    Date {
+        value: DateValue::Between(a, b),
+        uncertain: false,
+        approximate: false,
+    }
+}
+
+// ---- the calls for a date field
+
+// A date field, read as the Rust reads it.
+pub fn parse(bytes: &[u8], table: &[u64]) -> ReadDate
+    ensures { λ r. ⌜ r ≡ field.parsed (now (bytes .entry)) (now (table .entry)) ⌝ }
+{
+    if is_one_normal(bytes, table) {
+        return match quick::text(bytes) {
+            UsualText::One(d) => ReadDate::Accepted(Date::from_datetime(d)),
+            UsualText::Two(a, b) => ReadDate::Accepted(range(a, b)),
+            UsualText::Other => parse_unusual(bytes, table),
+        };
+    }
+    parse_unusual(bytes, table)
+}
+
+// A date field by the strict grammar alone: neither trimmed nor in upper case.
 pub fn parse_strict(bytes: &[u8], table: &[u64]) -> ReadDate
     ensures { λ r. ⌜ r ≡ field.parsedStrict (now (bytes .entry)) (now (table .entry)) ⌝ }
 {
-    parse_by(false, bytes, table)
+    if is_one_normal(bytes, table) {
+        return match quick::text(bytes) {
+            UsualText::One(d) => ReadDate::Accepted(Date::from_datetime(d)),
+            UsualText::Two(a, b) => ReadDate::Accepted(range(a, b)),
+            UsualText::Other => parse_strict_unusual(bytes, table),
+        };
+    }
+    parse_strict_unusual(bytes, table)
 }
 
 // A date field by the grammar of level one.
@@ -142,6 +225,8 @@ pub fn parse_level_one(bytes: &[u8], table: &[u64]) -> ReadDate
 {
     parse_by(true, bytes, table)
 }
+
+// ---- three fields
 
 // The checks of three lists: each that is present in full, year, month, day, before any is read.
 fn check_fields(

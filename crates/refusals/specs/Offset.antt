@@ -4,7 +4,6 @@ use lib.Dec.{leb}
 use Rattle.chars.specs.Pick.{pick}
 use Rattle.refusals.specs.declared.Kind.{Kind}
 use Rattle.refusals.specs.declared.Kind.the-variants.{RustPanics}
-use Rattle.refusals.specs.declared.FileSpan.{FileSpan}
 use Rattle.refusals.specs.declared.Refusal.{Refusal}
 use Rattle.refusals.specs.declared.TextSpan.{TextSpan}
 use Rattle.refusals.specs.declared.TextRefusal.{TextRefusal}

@@ -72,3 +72,7 @@ fileSpan start end = record { 0 = start; 1 = end }
 -- the refusal of a kind at a place in the file
 unfoldable pub refusal : Kind → FileSpan → Refusal
 refusal k place = record { kind = k; place = pick (hasPlace k) place (fileSpan 0 0) }
+
+-- a refusal that names no place
+abbrev pub nowhere : Kind → Refusal
+nowhere k = refusal k (fileSpan 0 0)

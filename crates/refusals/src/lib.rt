@@ -3,6 +3,7 @@
 ghost use mathlib.Core.Path.{_≡_};
 ghost use Rattle.refusals.specs.Refusal as spec;
 ghost use Rattle.refusals.specs.Offset as move_;
+use dates::Date;
 use scanner::Cursor;
 
 // Why a call refuses.
@@ -71,6 +72,12 @@ pub struct TextSpan(pub usize, pub usize);
 pub struct Refusal {
     pub kind: Kind,
     pub place: FileSpan,
+}
+
+// What a reader of dates answers: a Date, or why there is none.
+pub enum ReadDate {
+    Accepted(Date),
+    Refused(Refusal),
 }
 
 // A refusal while the formatted text is read, with its place in that text.
@@ -154,6 +161,13 @@ pub fn refuse(kind: Kind, place: FileSpan) -> Refusal
     }
 }
 
+// The refusal of a kind that names no place.
+pub fn nowhere(kind: Kind) -> Refusal
+    ensures { λ r. ⌜ r ≡ spec.nowhere kind ⌝ }
+{
+    refuse(kind, FileSpan(0, 0))
+}
+
 // The sum, or the largest number where it would be above that.
 fn saturating_add(a: usize, b: u64) -> u64
     ensures { λ r. ⌜ r ≡ move_.saturatingAdd a b ⌝ }
@@ -178,7 +192,7 @@ pub fn offset_second(e: TextRefusal, start: u64, slash: usize) -> Refusal
 {
     let pos = slash as u64;
     if u64::MAX - pos <= start {
-        return refuse(Kind::RustPanics, FileSpan(0, 0));
+        return nowhere(Kind::RustPanics);
     }
     offset(e, start + pos + 1)
 }

@@ -1,4 +1,5 @@
 -- The classes of characters that the readers eat, by code.
+use Prim.Native.Char.{code}
 use Prim.Native.Nat.{ℕ}
 use mathlib.Core.Bool.{Bool, not, _&&_, _||_}
 use lib.Dec.{eqb}
@@ -15,6 +16,6 @@ inClass Numeric n = isNumeric n
 inClass AsciiDigit n = isAsciiDigit n
 inClass AsciiAlphabetic n = isAsciiAlphabetic n
 inClass Alphanumeric n = isAlphanumeric n
-inClass Sign n = eqb n 0x2B || eqb n 0x2D
-inClass Separator n = eqb n 0x2D || eqb n 0xA0
+inClass Sign n = eqb n (code "+") || eqb n (code "-")
+inClass Separator n = eqb n (code "-") || eqb n 0xA0
 inClass (Is c) n = eqb n c

@@ -9,6 +9,12 @@ ghost use Rattle.scanner.specs.declared.Class.the-variants.{Whitespace, 
 use chars::Decoded;
 use chars::wide;
 
+const HYPHEN: u32 = b'-' as u32;
+
+const PLUS: u32 = b'+' as u32;
+
+const NO_BREAK_SPACE: u32 = 0xA0;
+
 // A place in the formatted text, in bytes. It is no place in the file: of a date only the offset rule of `refusals` makes one of it.
 pub struct Cursor(pub usize);
 
@@ -49,7 +55,7 @@ fn in_class(class: Class, code: u32) -> bool
         Class::Whitespace => chars::is_whitespace(code),
         Class::PlainWhitespace => {
             if chars::is_whitespace(code) {
-                code != 0xA0
+                code != NO_BREAK_SPACE
             } else {
                 false
             }
@@ -58,8 +64,8 @@ fn in_class(class: Class, code: u32) -> bool
         Class::AsciiDigit => chars::is_ascii_digit(code),
         Class::AsciiAlphabetic => chars::is_ascii_alphabetic(code),
         Class::Alphanumeric => chars::is_alphanumeric(code),
-        Class::Sign => { if code == 0x2B { true } else { code == 0x2D } }
-        Class::Separator => { if code == 0x2D { true } else { code == 0xA0 } }
+        Class::Sign => code == PLUS || code == HYPHEN,
+        Class::Separator => code == HYPHEN || code == NO_BREAK_SPACE,
         Class::Is(c) => code == c,
     }
 }
@@ -117,12 +123,12 @@ fn quick_bytes(class: Class) -> Bytes
     match class {
         Class::Whitespace => Bytes(1, 0),
         Class::PlainWhitespace => Bytes(1, 0),
-        Class::Numeric => Bytes(0x30, 0x39),
-        Class::AsciiDigit => Bytes(0x30, 0x39),
-        Class::AsciiAlphabetic => Bytes(0x61, 0x7A),
+        Class::Numeric => Bytes(b'0', b'9'),
+        Class::AsciiDigit => Bytes(b'0', b'9'),
+        Class::AsciiAlphabetic => Bytes(b'a', b'z'),
         Class::Alphanumeric => Bytes(1, 0),
         Class::Sign => Bytes(1, 0),
-        Class::Separator => Bytes(0x2D, 0x2D),
+        Class::Separator => Bytes(b'-', b'-'),
         Class::Is(c) => one_byte(c),
     }
 }
@@ -172,7 +178,7 @@ pub fn eat_whitespace(s: &[u8], c: Cursor) -> Cursor
     let at = c.0;
     if at < s.len() {
         let b = s[at];
-        if 0x20 < b {
+        if b' ' < b {
             if b < 0x80 {
                 return c;
             }

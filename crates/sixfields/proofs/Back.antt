@@ -10,13 +10,13 @@ use Rattle.dates.specs.declared.Datetime.{Datetime}
 use Rattle.dates.specs.declared.DateValue.{DateValue}
 use Rattle.dates.specs.declared.DateValue.the-variants.{At, After, Before, Between}
 use Rattle.dates.specs.Value.{date, fromDatetime}
-use Rattle.datefield.specs.declared.ReadDate.{ReadDate}
-use Rattle.datefield.specs.declared.ReadDate.the-variants.{Accepted}
-use Rattle.reader.specs.Fields.{threeFields}
-use Rattle.reader.proofs.Single.{Single, one, none, three-single}
+use Rattle.refusals.specs.declared.ReadDate.{ReadDate}
+use Rattle.refusals.specs.declared.ReadDate.the-variants.{Accepted}
+use Rattle.reading_laws.specs.Fields.{threeFields}
+use Rattle.reading_laws.proofs.Single.{Single, one, none, three-single}
 use Rattle.writer.specs.Fields.{valueLines, fieldsText}
-use Rattle.roundtrip.specs.Domain.{InDomain}
-use Rattle.roundtrip.proofs.Theorems as three
+use Rattle.roundtrip_laws.specs.Domain.{InDomain}
+use Rattle.roundtrip_laws.proofs.Theorems as three
 use Rattle.sixfields.specs.Six.{single, unmarked, onThree, between, onEndYear, withEnd, sixFields}
 use Rattle.sixfields.specs.Back.{Places, isClosed, valueLinesOf, readBack}
 use Rattle.sixfields.proofs.Filled.{filled}

@@ -24,11 +24,11 @@ use Rattle.chunks.specs.Format.{formatted}
 use Rattle.dates.specs.declared.Date.{Date}
 use Rattle.fields.specs.declared.ReadYear.the-variants.{NoYear}
 use Rattle.fields.specs.Year.{onPast, yearDigits, yearFrom, behindSign, yearAt, getYear}
-use Rattle.datefield.specs.declared.ReadDate.{ReadDate}
-use Rattle.datefield.specs.declared.ReadDate.the-variants.{Accepted, Refused}
+use Rattle.refusals.specs.declared.ReadDate.{ReadDate}
+use Rattle.refusals.specs.declared.ReadDate.the-variants.{Accepted, Refused}
 use Rattle.datefield.specs.Text.{isBlank}
-use Rattle.reader.specs.Field.{onClean}
-use Rattle.reader.specs.Fields.{fieldsChecked, movedYear, yearOf, partsOf, dated, onYear, readFields, threeFields}
+use Rattle.reading_laws.specs.Field.{onClean}
+use Rattle.reading_laws.specs.Fields.{fieldsChecked, movedYear, yearOf, partsOf, dated, onYear, readFields, threeFields}
 use Rattle.reader.proofs.Lists.{year-checked}
 use Rattle.sixfields.specs.declared.EndYear.the-variants.{Filled}
 use Rattle.sixfields.specs.Six.{blank, judged, endYearOf}

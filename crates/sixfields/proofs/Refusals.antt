@@ -14,10 +14,10 @@ use Rattle.chunks.specs.Check.{checked, orElse}
 use Rattle.dates.specs.declared.Datetime.{Datetime}
 use Rattle.dates.specs.declared.DateValue.the-variants.{After}
 use Rattle.dates.specs.declared.Date.{Date}
-use Rattle.datefield.specs.declared.ReadDate.{ReadDate}
-use Rattle.datefield.specs.declared.ReadDate.the-variants.{Accepted, Refused}
-use Rattle.reader.specs.Field.{onClean}
-use Rattle.reader.specs.Fields.{fieldsChecked, threeFields}
+use Rattle.refusals.specs.declared.ReadDate.{ReadDate}
+use Rattle.refusals.specs.declared.ReadDate.the-variants.{Accepted, Refused}
+use Rattle.reading_laws.specs.Field.{onClean}
+use Rattle.reading_laws.specs.Fields.{fieldsChecked, threeFields}
 use Rattle.sixfields.specs.Six.{blank, judged, endYearOf, single, unmarked, onThree, between, onEndYear, withEnd, sixFields}
 
 -- what is accepted is not refused

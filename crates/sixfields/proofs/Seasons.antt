@@ -7,10 +7,9 @@ use Rattle.chars.proofs.Cases.{by-test}
 use Rattle.dates.specs.declared.Datetime.{Datetime}
 use Rattle.dates.specs.declared.Date.{Date}
 use Rattle.dates.specs.Value.{hasSeason, anySeason}
-use Rattle.datefield.specs.declared.ReadDate.{ReadDate}
-use Rattle.datefield.specs.declared.ReadDate.the-variants.{Accepted, Refused}
-use Rattle.reader.specs.Fields.{threeFields}
-use Rattle.reader.proofs.Stored.{FieldsIn, fields, no-fields, three-in}
+use Rattle.refusals.specs.declared.ReadDate.{ReadDate}
+use Rattle.refusals.specs.declared.ReadDate.the-variants.{Accepted, Refused}
+use Rattle.reading_laws.proofs.Stored.{FieldsIn, fields, no-fields, three-in}
 use Rattle.sixfields.specs.declared.EndYear.{EndYear}
 use Rattle.sixfields.specs.declared.EndYear.the-variants.{Blank, Filled, FaultyYear}
 use Rattle.sixfields.specs.Six.{endYearOf, single, unmarked, onThree, between, onEndYear, withEnd, sixFields}

@@ -6,10 +6,10 @@ use Rattle.refusals.specs.declared.FileSpan.{FileSpan}
 use Rattle.dates.specs.declared.Datetime.{Datetime}
 use Rattle.dates.specs.declared.DateValue.{DateValue}
 use Rattle.dates.specs.declared.DateValue.the-variants.{At, After, Before, Between}
-use Rattle.datefield.specs.declared.ReadDate.{ReadDate}
+use Rattle.refusals.specs.declared.ReadDate.{ReadDate}
 use Rattle.writer.specs.Texts.{yearText}
-use Rattle.roundtrip.specs.Domain.{oneChunk}
-use Rattle.roundtrip.specs.Fields.{hasMonth, hasDay, monthValue, dayValue, linesOf}
+use Rattle.roundtrip_laws.specs.Domain.{oneChunk}
+use Rattle.roundtrip_laws.specs.Fields.{hasMonth, hasDay, monthValue, dayValue, linesOf}
 use Rattle.sixfields.specs.Six.{sixFields}
 
 -- where in a file the values of an end's fields stand

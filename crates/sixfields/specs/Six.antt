@@ -11,10 +11,10 @@ use Rattle.dates.specs.declared.Datetime.{Datetime}
 use Rattle.dates.specs.declared.DateValue.{DateValue}
 use Rattle.dates.specs.declared.DateValue.the-variants.{At, After, Before, Between}
 use Rattle.dates.specs.Value.{date}
-use Rattle.datefield.specs.declared.ReadDate.{ReadDate}
-use Rattle.datefield.specs.declared.ReadDate.the-variants.{Accepted, Refused}
+use Rattle.refusals.specs.declared.ReadDate.{ReadDate}
+use Rattle.refusals.specs.declared.ReadDate.the-variants.{Accepted, Refused}
 use Rattle.datefield.specs.Text.{isBlank}
-use Rattle.reader.specs.Fields.{threeFields}
+use Rattle.reading_laws.specs.Fields.{threeFields}
 use Rattle.sixfields.specs.declared.EndYear.{EndYear}
 use Rattle.sixfields.specs.declared.EndYear.the-variants.{Blank, Filled, FaultyYear}
 

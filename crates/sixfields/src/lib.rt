@@ -8,10 +8,10 @@ ghost use Rattle.chunks.specs.Answer.{roomOf};
 ghost use Rattle.datefield.specs.Text as text;
 ghost use Rattle.sixfields.specs.Six as six;
 use chunks::Formatted;
-use datefield::ReadDate;
 use dates::Date;
 use dates::DateValue;
 use dates::Datetime;
+use refusals::ReadDate;
 use refusals::Refusal;
 use scanner::Cursor;
 

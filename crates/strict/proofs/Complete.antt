@@ -22,7 +22,8 @@ use Rattle.strict.specs.declared.ReadPoint.the-variants.{Upto}
 use Rattle.strict.specs.Digits.{digits}
 use Rattle.strict.specs.Grammar.{dddd, -dddd, Zone, no-zone, z, ahead, behind, Clock, no-time, hh:mm:ss, InMonth, no-day, -dd, InYear, no-month, -mm, Point}
 use Rattle.strict.specs.Grammar
-use Rattle.strict.specs.Matcher.{is, on, onFour, four, signed, shiftAt, offsetAt, timeAt, behindMonth, behindYear, pointAt, point}
+use Rattle.strict.specs.Matcher.{is, on, onFour, four, shiftAt, offsetAt, timeAt, behindMonth, behindYear, pointAt, point}
+use Rattle.chars.specs.Signs.{signed}
 use Rattle.strict.proofs.Places.{From, Split, first, further, moved}
 use Rattle.strict.proofs.Points.{Ends, Before}
 use Rattle.strict.proofs.Pieces.{four-back, field-at, field-first, field-behind, no-field}

@@ -1,9 +1,8 @@
 -- Days of a month, from its first to its last: of February in a leap year and in another, of April, of December.
 -- Assumes nothing.
-use mathlib.Core.Path.{_≡_, refl}
+use mathlib.Core.Path.{_≡_}
 use mathlib.Core.Bool.{true, false}
-use mathlib.Core.List.{List, []}
-use Prim.Native.Nat.{ℕ, _+_, _≤_, _<_}
+use Prim.Native.Nat.{_≤_, _<_}
 use lib.Dec.{lit<, lit≤}
 use Rattle.chars.specs.Ascii.{ascii}
 use Rattle.dates.specs.Calendar.{multiple, leapYear, february, monthLengths, monthLength}

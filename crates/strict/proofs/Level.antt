@@ -1,17 +1,16 @@
 -- The reader of level-one points is exact. Assumes nothing.
 use mathlib.Core.Path.{_≡_, refl, sym, ap, _∙_, subst}
-use Prim.Native.Nat.{ℕ, zero, suc, _+_, _-_, _*_, _/_, _%_, _^_, _≤_, _<_}
+use Prim.Native.Nat.{ℕ, zero, suc, _+_, _-_, _/_, _%_, _^_, _≤_, _<_}
 use native.Mathlib.Omega.{arith}
-use native.Mathlib.Decide.{decLt}
-use native.Mathlib.Nat.{pow-succ', zero-add}
-use mathlib.Core.Bool.{Bool, true, false, not, _&&_, false≢true}
-use mathlib.Core.List.{List, [], _∷_, _++_, append-assoc, append-nil}
+use native.Mathlib.Nat.{pow-succ'}
+use mathlib.Core.Bool.{Bool, true, false, not, _&&_}
+use mathlib.Core.List.{List, [], _∷_, _++_}
 use mathlib.Core.Logic.{_↔_}
-use lib.Dec.{leb, eqb, lit<, lit≤}
+use lib.Dec.{leb, eqb, lit<}
 use lib.IntN.{ℤ, pos, negℤ}
-use lib.ListN.{length, getD, take, drop, length-append, length-drop, take-append-drop, List·getD-eq-default}
-use lib.Seq.{take-suc, take-append-seam, drop-append-seam, drop-drop, getD-drop}
-use borrow.Author.Tests.{eqb-true, eq-eqb, ne-eqb, le-leb, lt-leb, leb-true}
+use lib.ListN.{length, getD, take, drop}
+use lib.Seq.{take-append-seam, drop-append-seam, drop-drop}
+use borrow.Author.Tests.{eqb-true, ne-eqb, le-leb, lt-leb, leb-true}
 use Rattle.chars.specs.Pick.{pick}
 use Rattle.chars.specs.Classes.{isAsciiDigit, within}
 use Rattle.chars.proofs.Cases.{by-test, and-true}
@@ -25,26 +24,27 @@ use Rattle.dates.specs.declared.Datetime.{Datetime}
 use Rattle.dates.specs.declared.DateValue.{DateValue}
 use Rattle.dates.specs.declared.Date.{Date}
 use Rattle.dates.specs.Value.{datetime, seasonOf}
-use Rattle.strict.specs.declared.OptionTwo.the-variants.{NoTwo, SomeTwo}
+use Rattle.strict.specs.declared.OptionTwo.the-variants.{NoTwo}
 use Rattle.strict.specs.declared.ReadPoint.{ReadPoint}
-use Rattle.strict.specs.declared.ReadPoint.the-variants.{Upto, NoPoint}
+use Rattle.strict.specs.declared.ReadPoint.the-variants.{Upto}
 use Rattle.strict.specs.declared.ReadUnknown.the-variants.{NoUnknown}
 use Rattle.strict.specs.declared.Matched.the-variants.{Strict, NotStrict}
 use Rattle.strict.specs.Digits.{digits}
-use Rattle.strict.specs.Grammar.{Year, dddd, -dddd, Field, InYear, no-month, -mm, Point, TextOf, text, Value, alone, between, after, before, unknown, Text}
+use Rattle.strict.specs.Grammar.{Year, dddd, -dddd, Field, InYear, no-month, -mm, Point, text, Value, alone, between, after, before, unknown, Text}
 use Rattle.strict.specs.Grammar
-use Rattle.strict.specs.Matcher.{is, on, onFour, four, two, counted, field, behindYear, signed, dashXX, unknownParts, strict}
+use Rattle.strict.specs.Matcher.{is, on, onFour, four, counted, field, unknownParts}
+use Rattle.chars.specs.Signs.{signed}
 use Rattle.strict.specs.Matcher as matcher
 use Rattle.strict.specs.Level.{seasonAt, LongYear, Yd, Y-d, LevelPoint, strictly, season, long, LevelText}
 use Rattle.strict.specs.LevelMatcher.{levelYear, levelAt, run, valueFrom, longAt, levelPoint, level}
-use Rattle.strict.proofs.Places.{From, Split, here, first, further, moved, joined, none-taken, one-taken}
+use Rattle.strict.proofs.Places.{From, Split, here, first, further, joined, none-taken, one-taken}
 use Rattle.strict.proofs.Points.{Ends, Before, Derived, nothing, upto, Exact}
-use Rattle.strict.proofs.Pieces.{written, by-two, by-four, Taken, four-back, four-inv, field-at, field-back, field-inv, field-behind, no-field, two-back}
+use Rattle.strict.proofs.Pieces.{by-two, by-four, four-back, four-inv, field-at, field-inv, field-behind, no-field, two-back}
 use Rattle.strict.proofs.Complete.{month-read}
 use Rattle.strict.proofs.Sound.{MonthAt, month-at, month-taken}
 use Rattle.strict.proofs.Ranges.{no-digit, point-known, point-closed, field-xx}
 use Rattle.strict.proofs.Runs.{AllDigits, none, more, Ran, value-digits, digits-long, run-is, run-taken, nonzero, highest, as-digits, first-lowest}
-use Rattle.strict.proofs.Exact.{exact-of, refused-of, unique-of, exact}
+use Rattle.strict.proofs.Exact.{exact-of, refused-of, unique-of}
 
 -- ---- what is derived is read
 

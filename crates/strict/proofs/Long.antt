@@ -11,7 +11,7 @@ use Rattle.dates.specs.declared.OptionDay.the-variants.{NoDay}
 use Rattle.dates.specs.declared.OptionTime.the-variants.{NoTime}
 use Rattle.dates.specs.Value.{datetime}
 use Rattle.strict.specs.declared.ReadPoint.the-variants.{Upto, NoPoint}
-use Rattle.strict.specs.Matcher.{signed}
+use Rattle.chars.specs.Signs.{signed}
 use Rattle.strict.specs.LevelMatcher.{run, valueFrom, longAt}
 
 module _ (s : List ℕ) (at : ℕ) (negative : Bool) {k : ℕ} (e : k ≡ run 10 (drop at s)) where

@@ -24,7 +24,8 @@ use Rattle.strict.specs.declared.ReadPoint.the-variants.{Upto}
 use Rattle.strict.specs.Digits.{digits}
 use Rattle.strict.specs.Grammar.{Field, Year, dddd, -dddd, Zone, no-zone, z, ahead, behind, Clock, no-time, hh:mm:ss, InMonth, no-day, -dd, InYear, no-month, -mm, Point}
 use Rattle.strict.specs.Grammar
-use Rattle.strict.specs.Matcher.{is, field, four, signed, noOffset, noTime, shiftAt, offsetAt, timeAt, behindMonth, behindYear, pointAt, point}
+use Rattle.strict.specs.Matcher.{is, field, four, noOffset, noTime, shiftAt, offsetAt, timeAt, behindMonth, behindYear, pointAt, point}
+use Rattle.chars.specs.Signs.{signed}
 use Rattle.strict.proofs.Places.{Split, joined, none-taken, one-taken}
 use Rattle.strict.proofs.Points.{Derived, nothing, upto}
 use Rattle.strict.proofs.Pieces.{by-two, by-four, Taken, four-inv, field-inv}

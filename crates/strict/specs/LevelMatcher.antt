@@ -16,7 +16,8 @@ use Rattle.strict.specs.declared.ReadPoint.{ReadPoint}
 use Rattle.strict.specs.declared.ReadPoint.the-variants.{Upto, NoPoint}
 use Rattle.strict.specs.declared.Matched.{Matched}
 use Rattle.strict.specs.Level.{seasonAt}
-use Rattle.strict.specs.Matcher.{is, on, onFour, four, field, behindYear, signed, point, textOf}
+use Rattle.strict.specs.Matcher.{is, on, onFour, four, field, behindYear, point, textOf}
+use Rattle.chars.specs.Signs.{signed}
 
 -- behind a year of four digits: a season, or what a strict point has
 unfoldable pub levelYear : List ℕ → ℕ → ℤ → ReadPoint

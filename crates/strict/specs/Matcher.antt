@@ -5,7 +5,7 @@ use Prim.Native.Char.{code}
 use mathlib.Core.Bool.{Bool, true, false, _&&_}
 use mathlib.Core.List.{List, [], _∷_}
 use lib.Dec.{leb, eqb}
-use lib.IntN.{ℤ, pos, negℤ}
+use lib.IntN.{ℤ}
 use lib.ListN.{getD, drop}
 use Rattle.chars.specs.Pick.{pick}
 use Rattle.chars.specs.Classes.{isAsciiDigit}
@@ -32,6 +32,7 @@ use Rattle.strict.specs.declared.ReadUnknown.{ReadUnknown}
 use Rattle.strict.specs.declared.ReadUnknown.the-variants.{Within, NoUnknown}
 use Rattle.strict.specs.declared.Matched.{Matched}
 use Rattle.strict.specs.declared.Matched.the-variants.{Strict, NotStrict}
+use Rattle.chars.specs.Signs.{signed}
 
 -- the byte at a place is this one
 abbrev pub is : ℕ → List ℕ → ℕ → Bool
@@ -97,25 +98,20 @@ timeAt s at =
     timed h m sec (offsetAt s (at + 9))
 
 -- a point with a day ends where its time does
-abbrev pub onDay : ℤ → ℕ → ℕ → ReadTime → ReadPoint
-onDay y m d t = Upto (datetime y (month m) (day d) (t .time)) (t .next)
+abbrev pub dayPoint : ℤ → ℕ → ℕ → ReadTime → ReadPoint
+dayPoint y m d t = Upto (datetime y (month m) (day d) (t .time)) (t .next)
 
 -- behind a year and a month: -dd that the month has
 unfoldable pub behindMonth : List ℕ → ℕ → ℤ → ℕ → ReadPoint
 behindMonth s at y m =
     on (field (code "-") 1 (monthLength m y) (drop at s)) (Upto (datetime y (month m) NoDay NoTime) at) λ d.
-    onDay y m d (timeAt s (at + 3))
+    dayPoint y m d (timeAt s (at + 3))
 
 -- behind a year: -mm, or the point ends
 unfoldable pub behindYear : List ℕ → ℕ → ℤ → ReadPoint
 behindYear s at y =
     on (field (code "-") 1 12 (drop at s)) (Upto (datetime y NoMonth NoDay NoTime) at) λ m.
     behindMonth s (at + 3) y m
-
--- the year of four digits and a sign
-unfoldable pub signed : Bool → ℕ → ℤ
-signed true n = negℤ (pos n)
-signed false n = pos n
 
 -- a point whose digits start at a place
 unfoldable pub pointAt : List ℕ → ℕ → Bool → ReadPoint

@@ -21,6 +21,7 @@ ghost use Prim.Native.Nat.{_^_, _≤_, _<_};
 ghost use lib.ListN.{take, drop};
 ghost use Rattle.strict.specs.Grammar as grammar;
 ghost use Rattle.strict.specs.Matcher as spec;
+ghost use Rattle.chars.specs.Signs.{signed};
 ghost use Rattle.strict.specs.Level as levels;
 ghost use Rattle.strict.specs.LevelMatcher as matcher;
 
@@ -231,7 +232,7 @@ fn time_at(s: &[u8], at: usize) -> ReadTime
 
 // A year, a month and a day, with the time that was read behind them.
 fn on_day(year: i32, month: Month, day: Day, clock: ReadTime) -> ReadPoint
-    ensures { λ r. ⌜ r ≡ spec.onDay year (month .0) (day .0) clock ⌝ }
+    ensures { λ r. ⌜ r ≡ spec.dayPoint year (month .0) (day .0) clock ⌝ }
 {
     let time = clock.time;
     ReadPoint::Upto {
@@ -285,7 +286,7 @@ fn behind_year(s: &[u8], at: usize, year: i32) -> ReadPoint
 
 // The year of four digits and a sign.
 fn signed(negative: bool, n: u16) -> i32
-    ensures { λ r. ⌜ r ≡ spec.signed negative n ⌝ }
+    ensures { λ r. ⌜ r ≡ signed negative n ⌝ }
 {
     let year = n as i32;
     if negative { 0 - year } else { year }
@@ -379,7 +380,7 @@ fn digits_at(s: &[u8], at: usize) -> ReadDigits
 // The year of up to nine digits and a sign.
 fn signed_long(negative: bool, n: u64) -> i32
     requires { ⌜ n < 1000000000 ⌝ }
-    ensures { λ r. ⌜ r ≡ spec.signed negative n ⌝ }
+    ensures { λ r. ⌜ r ≡ signed negative n ⌝ }
 {
     let year = n as i32;
     if negative { 0 - year } else { year }

@@ -17,18 +17,21 @@ use Rattle.refusals.specs.declared.Refusal.{Refusal}
 use Rattle.dates.specs.declared.Datetime.{Datetime}
 use Rattle.dates.specs.declared.Date.{Date}
 use Rattle.dates.specs.Value.{fromDatetime, hasSeason, anySeason}
-use Rattle.writer.specs.declared.Measured.{Measured}
-use Rattle.writer.specs.declared.Measured.the-variants.{Length, NoLength}
-use Rattle.writer.specs.declared.Written.{Written}
-use Rattle.writer.specs.declared.Written.the-variants.{Done, Refused}
-use Rattle.writer.specs.Answers.{refused, decided, Put}
-use Rattle.writer.specs.Answers as writing
-use Rattle.writer.specs.Texts.{datetimeText, markText, dateText, endPanics, valuePanics, panics}
+use Rattle.puts.specs.declared.Measured.{Measured}
+use Rattle.puts.specs.declared.Measured.the-variants.{Length, NoLength}
+use Rattle.puts.specs.declared.Written.{Written}
+use Rattle.puts.specs.declared.Written.the-variants.{Done, Refused}
+use Rattle.puts.specs.Answers.{decided, Put}
+use Rattle.refusals.specs.Refusal.{nowhere}
+use Rattle.puts.specs.Answers as writing
+use Rattle.writer.specs.Answers.{dateMeasured, dateAnswer, dateAfterwards}
+use Rattle.writer.specs.Texts.{datetimeText, dateText, endPanics, valuePanics, panics}
+use Rattle.puts.specs.Marks.{markText}
 use Rattle.writer.specs.Texts as untimed
-use Rattle.writer.proofs.Puts.{at-front, lent, lent-room}
+use Rattle.puts.proofs.Puts.{at-front, lent, lent-room}
 use Rattle.writer.proofs.Levels.{else-as-before}
 use Rattle.timed.specs.Texts.{timedText, timesText}
-use Rattle.timed.specs.Answers.{valueBad, plainMeasured, measured, answer, afterwards}
+use Rattle.timed.specs.Answers.{valueBad, plainMeasured, timedMeasured, timedAnswer, timedAfterwards}
 use Rattle.timed.proofs.Pieces.{timed-length, timed-most}
 
 abbrev isDone : Written → Bool
@@ -41,18 +44,18 @@ isLength (NoLength e) = false
 
 -- the measure by the two tests
 abbrev measure : Bool → Bool → List ℕ → Measured
-measure p b t = pick p (NoLength (refused RustPanics)) (pick b (NoLength (refused BadTime)) (Length (length t)))
+measure p b t = pick p (NoLength (nowhere RustPanics)) (pick b (NoLength (nowhere BadTime)) (Length (length t)))
 
 -- and with seasons by three
 abbrev asked : Bool → Measured → Measured
-asked s m = pick s (NoLength (refused HasSeason)) m
+asked s m = pick s (NoLength (nowhere HasSeason)) m
 
 -- ---- seasons
 
 module _ (d : Date) where
   -- an end has one: HasSeason, and nothing is stored
-  pub seasoned : anySeason (d .value) ≡ true → (measured d ≡ NoLength (refused HasSeason)) × ((room : ℕ) → answer d room ≡ Refused (refused HasSeason)) × ((out : List ℕ) → afterwards d out ≡ out)
-  unfolding measured answer afterwards decided pick
+  pub seasoned : anySeason (d .value) ≡ true → (timedMeasured d ≡ NoLength (nowhere HasSeason)) × ((room : ℕ) → timedAnswer d room ≡ Refused (nowhere HasSeason)) × ((out : List ℕ) → timedAfterwards d out ≡ out)
+  unfolding timedMeasured timedAnswer timedAfterwards decided pick
   seasoned e = (
     ap (λ (s : Bool). asked s (plainMeasured d)) e,
     λ (room : ℕ). ap (λ (s : Bool). decided (asked s (plainMeasured d)) room) e,
@@ -60,8 +63,8 @@ module _ (d : Date) where
   )
 
   -- none has: all is as without seasons
-  pub plain : anySeason (d .value) ≡ false → (measured d ≡ plainMeasured d) × ((room : ℕ) → answer d room ≡ decided (plainMeasured d) room) × ((out : List ℕ) → afterwards d out ≡ writing.afterwards (panics d || valueBad (d .value)) (timedText d) out)
-  unfolding measured answer afterwards pick
+  pub plain : anySeason (d .value) ≡ false → (timedMeasured d ≡ plainMeasured d) × ((room : ℕ) → timedAnswer d room ≡ decided (plainMeasured d) room) × ((out : List ℕ) → timedAfterwards d out ≡ writing.afterwards (panics d || valueBad (d .value)) (timedText d) out)
+  unfolding timedMeasured timedAnswer timedAfterwards pick
   plain e = (
     ap (λ (s : Bool). asked s (plainMeasured d)) e,
     λ (room : ℕ). ap (λ (s : Bool). decided (asked s (plainMeasured d)) room) e,
@@ -70,7 +73,7 @@ module _ (d : Date) where
 
 -- ---- the measure, by that of the text without its times
 
-module _ (d : Date) {m : Measured} (em : m ≡ writing.dateMeasured d (dateText d)) where
+module _ (d : Date) {m : Measured} (em : m ≡ dateMeasured d (dateText d)) where
   has-none : (s p : Bool) (t : List ℕ) {n : ℕ} → asked s (writing.measured p t) ≡ Length n → (s ≡ false) × (p ≡ false) × (n ≡ length t)
   unfolding writing.measured pick
   has-none true p t e = absurd (false≢true (ap isLength e))
@@ -80,25 +83,25 @@ module _ (d : Date) {m : Measured} (em : m ≡ writing.dateMeasured d (dateText 
   -- no end has a season or panics
   module _ {n : ℕ} (e : m ≡ Length n) where
     pub no-panic : (anySeason (d .value) ≡ false) × (panics d ≡ false) × (n ≡ length (dateText d))
-    unfolding writing.dateMeasured
+    unfolding dateMeasured
     no-panic = has-none (anySeason (d .value)) (panics d) (dateText d) (sym em ∙ e)
 
     module _ {b : Bool} (eb : b ≡ valueBad (d .value)) where
-      pub is-bad : b ≡ true → {x : Refusal} → x ≡ refused BadTime → NoLength x ≡ measured d
+      pub is-bad : b ≡ true → {x : Refusal} → x ≡ nowhere BadTime → NoLength x ≡ timedMeasured d
       unfolding plainMeasured pick
       is-bad f {x} g =
           let q : NoLength x ≡ plainMeasured d = rw (no-panic .1, sym eb ∙ f, g) in
           q ∙ sym (plain d (no-panic .0) .0)
 
-      pub has-length : b ≡ false → {k : ℕ} → k ≡ length (timesText (d .value)) → Length (n + k) ≡ measured d
+      pub has-length : b ≡ false → {k : ℕ} → k ≡ length (timesText (d .value)) → Length (n + k) ≡ timedMeasured d
       unfolding plainMeasured pick
       has-length f {k} g =
           let q : Length (n + k) ≡ plainMeasured d = rw (no-panic .1, sym eb ∙ f, no-panic .2, g) (ap Length (sym (timed-length d))) in
           q ∙ sym (plain d (no-panic .0) .0)
 
   -- one has or does
-  pub panicked : {x : Refusal} → m ≡ NoLength x → NoLength x ≡ measured d
-  unfolding measured plainMeasured writing.dateMeasured writing.measured pick
+  pub panicked : {x : Refusal} → m ≡ NoLength x → NoLength x ≡ timedMeasured d
+  unfolding timedMeasured plainMeasured dateMeasured writing.measured pick
   panicked {x} e = go (anySeason (d .value)) (panics d) (sym em ∙ e)
     where
       go : (s p : Bool) → asked s (writing.measured p (dateText d)) ≡ NoLength x → NoLength x ≡ asked s (measure p (valueBad (d .value)) (timedText d))
@@ -141,25 +144,25 @@ all-left false false true t l e = refl
 all-left false false false t l e = of-test (leb (length t) (length l)) (λ q. absurd (false≢true (sym (ap isDone (rw q at e))))) (λ q. rw q)
 
 -- what is found out before anything is stored: m is the measure, w the answer
-module _ (d : Date) (l : List ℕ) {m : Measured} {w : Written} (em : m ≡ measured d) (ew : w ≡ decided m (length l)) where
-  by-measure : w ≡ answer d (length l)
-  unfolding answer
+module _ (d : Date) (l : List ℕ) {m : Measured} {w : Written} (em : m ≡ timedMeasured d) (ew : w ≡ decided m (length l)) where
+  by-measure : w ≡ timedAnswer d (length l)
+  unfolding timedAnswer
   by-measure = ew ∙ ap (λ (x : Measured). decided x (length l)) em
 
   -- it is to write
   module _ {n : ℕ} (e : w ≡ Done n) where
     pub fits : (anySeason (d .value) ≡ false) × (panics d ≡ false) × (length (timedText d) ≤ length l)
-    unfolding answer measured plainMeasured
+    unfolding timedAnswer timedMeasured plainMeasured
     fits = told (anySeason (d .value)) (panics d) (valueBad (d .value)) (timedText d) (length l) (sym by-measure ∙ e)
 
     -- and has written
-    pub done : {out : List ℕ} {k : ℕ} → Put (timedText d) l 0 out k → (Done k ≡ answer d (length l)) × (out ≡ afterwards d l)
-    unfolding answer measured plainMeasured afterwards
+    pub done : {out : List ℕ} {k : ℕ} → Put (timedText d) l 0 out k → (Done k ≡ timedAnswer d (length l)) × (out ≡ timedAfterwards d l)
+    unfolding timedAnswer timedMeasured plainMeasured timedAfterwards
     done p = stored (anySeason (d .value)) (panics d) (valueBad (d .value)) (timedText d) l (sym by-measure ∙ e) p
 
   -- it refuses
-  pub refuses : {e : Refusal} → w ≡ Refused e → (Refused e ≡ answer d (length l)) × (l ≡ afterwards d l)
-  unfolding answer measured plainMeasured afterwards
+  pub refuses : {e : Refusal} → w ≡ Refused e → (Refused e ≡ timedAnswer d (length l)) × (l ≡ timedAfterwards d l)
+  unfolding timedAnswer timedMeasured plainMeasured timedAfterwards
   refuses e = (sym e ∙ by-measure, all-left (anySeason (d .value)) (panics d) (valueBad (d .value)) (timedText d) l (sym by-measure ∙ e))
 
 -- ---- one end without its time, by the writer of dates in the rest of the buffer
@@ -173,7 +176,7 @@ alone-panics : (d : Datetime) → panics (fromDatetime d) ≡ endPanics d
 unfolding panics valuePanics
 alone-panics d = refl
 
--- where there is room nothing is refused
+-- where there is room nothing is nowhere
 has-done : (t l : List ℕ) {w : Written} → length t ≤ length l → w ≡ writing.answer false t (length l) → w ≡ Done (length t)
 unfolding writing.answer writing.measured decided pick
 has-done t l h e = e ∙ rw (le-leb (length t) (length l) h)
@@ -190,8 +193,8 @@ has-stored t l h e =
 
 -- the buffer m is lent on from a place, and comes back there as p with the answer w
 module _ (d : Datetime) (m p : List ℕ) (at : ℕ) {w : Written} {x : Date} (ex : x ≡ fromDatetime d) (h : (hasSeason d ≡ false) × (endPanics d ≡ false) × (at + length (datetimeText d) ≤ length m))
-    (ew : w ≡ writing.dateAnswer x (dateText x) (length (take (length m - at) (drop at m))))
-    (ep : p ≡ writing.dateAfterwards x (dateText x) (take (length m - at) (drop at m))) where
+    (ew : w ≡ dateAnswer x (dateText x) (length (take (length m - at) (drop at m))))
+    (ep : p ≡ dateAfterwards x (dateText x) (take (length m - at) (drop at m))) where
   abbrev part : List ℕ
   part = take (length m - at) (drop at m)
 

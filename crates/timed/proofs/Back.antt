@@ -15,19 +15,19 @@ use Rattle.dates.specs.declared.DateValue.{DateValue}
 use Rattle.dates.specs.declared.DateValue.the-variants.{At, After, Before, Between}
 use Rattle.dates.specs.declared.Date.{Date}
 use Rattle.datefield.specs.declared.ReadValue.the-variants.{Read}
-use Rattle.datefield.specs.declared.ReadDate.the-variants.{Accepted}
+use Rattle.refusals.specs.declared.ReadDate.the-variants.{Accepted}
 use Rattle.datefield.specs.Value.{moved, onHalf, value, marked}
-use Rattle.reader.specs.Field.{parsed, strictly, parsedStrict}
-use Rattle.reader.proofs.Entries.{parsed-clean, strict-clean}
+use Rattle.reading_laws.specs.Field.{parsed, strictly, parsedStrict}
+use Rattle.reading_laws.proofs.Entries.{parsed-clean, strict-clean}
 use Rattle.strict.specs.Grammar.{Mark}
 use Rattle.strict.proofs.Exact.{exact}
-use Rattle.roundtrip.specs.Domain.{oneChunk}
-use Rattle.roundtrip.proofs.Bytes.{Clear, ValueText, alone-text, between-text, after-text, before-text, clear-text, clear-ascii}
-use Rattle.roundtrip.proofs.Points.{point-read, point-text}
-use Rattle.roundtrip.proofs.Values.{alone-value, between-value, after-value, before-value}
-use Rattle.roundtrip.proofs.Trims.{mark-short, text-clear, text-marked}
-use Rattle.roundtrip.proofs.Derived.{mark-derived}
-use Rattle.writer.specs.Texts.{markText}
+use Rattle.roundtrip_laws.specs.Domain.{oneChunk}
+use Rattle.roundtrip_laws.proofs.Bytes.{Clear, ValueText, alone-text, between-text, after-text, before-text, clear-text, clear-ascii}
+use Rattle.roundtrip_laws.proofs.Points.{point-read, point-text}
+use Rattle.roundtrip_laws.proofs.Values.{alone-value, between-value, after-value, before-value}
+use Rattle.roundtrip_laws.proofs.Trims.{mark-short, text-clear, text-marked}
+use Rattle.roundtrip_laws.proofs.Derived.{mark-derived}
+use Rattle.puts.specs.Marks.{markText}
 use Rattle.timed.specs.Texts.{endText, valueText, timedText}
 use Rattle.timed.specs.Domain.{InTimed}
 use Rattle.timed.proofs.Derived.{end-derived, date-derived}

@@ -33,7 +33,7 @@ use Rattle.strict.specs.Canonical.{yearText, partText, dayText, monthText, cano
 use Rattle.strict.specs.Grammar.{Year, dddd, -dddd, Field, field, Zone, no-zone, z, ahead, behind, Clock, hh:mm:ss, -dd, InYear, -mm, Point, point, Value, alone, between, after, before, Text, text}
 use Rattle.strict.proofs.Written.{derived}
 use Rattle.writer.specs.Texts.{partsOf, datetimeText}
-use Rattle.roundtrip.proofs.Derived.{canonical-is, mark-derived}
+use Rattle.roundtrip_laws.proofs.Derived.{canonical-is, mark-derived}
 use Rattle.timed.specs.Texts.{sign, offsetText, zoneText, clockText, timeText, endText, valueText, timedText}
 use Rattle.timed.specs.Texts as timed
 use Rattle.timed.specs.Domain.{OffsetIn, ZoneIn, ClockIn, TimeIn, TimedIn, InTimed}

@@ -1,4 +1,4 @@
--- Texts of some dates with their times, and some that are refused: one theorem over one list each. Assumes nothing.
+-- Texts of some dates with their times, and some that are nowhere: one theorem over one list each. Assumes nothing.
 use mathlib.Core.Path.{_≡_, refl}
 use mathlib.Core.Bool.{Bool, true, false}
 use mathlib.Core.List.{List, [], _∷_, map}
@@ -10,7 +10,7 @@ use Rattle.chars.specs.Pick.{pick}
 use Rattle.chars.specs.Ascii.{ascii}
 use Rattle.refusals.specs.declared.Kind.{Kind}
 use Rattle.refusals.specs.declared.Kind.the-variants.{RustPanics, NoRoom, BadTime, HasSeason}
-use Rattle.refusals.specs.Refusal.{fileSpan, refusal, number}
+use Rattle.refusals.specs.Refusal.{fileSpan, refusal, number, nowhere}
 use Rattle.dates.specs.declared.OptionMonth.the-variants.{NoMonth}
 use Rattle.dates.specs.declared.OptionDay.the-variants.{NoDay}
 use Rattle.dates.specs.declared.TimeOffset.the-variants.{Utc, Offset}
@@ -24,13 +24,14 @@ use Rattle.dates.specs.declared.DateValue.the-variants.{At, After, Before, Betw
 use Rattle.dates.specs.declared.Date.{Date}
 use Rattle.dates.specs.Time.{time, inRange}
 use Rattle.dates.specs.Value.{month, day, datetime, seasonOf, date, fromDatetime}
-use Rattle.writer.specs.declared.Written.the-variants.{Done, Refused}
-use Rattle.writer.specs.Answers.{refused, decided}
-use Rattle.writer.specs.Numbers.{count, digitCount, width, decimal}
-use Rattle.writer.specs.Texts.{minus, yearText, writtenMonth, writtenDay, dayParts, monthParts, partsOf, partText, hyphenPart, partsText, datetimeText, markText, tooLarge, endPanics, valuePanics, panics}
+use Rattle.puts.specs.declared.Written.the-variants.{Done, Refused}
+use Rattle.puts.specs.Answers.{decided}
+use Rattle.puts.specs.Numbers.{count, digitCount, width, decimal}
+use Rattle.writer.specs.Texts.{minus, yearText, writtenMonth, writtenDay, dayParts, monthParts, partsOf, partText, hyphenPart, partsText, datetimeText, tooLarge, endPanics, valuePanics, panics}
+use Rattle.puts.specs.Marks.{markText}
 use Rattle.timed.specs.Texts.{field, sign, offsetText, zoneText, clockText, timeText, endText, valueText, timedText}
-use Rattle.clocks.specs.Clocks.{offsetIn, zoneIn, clockIn, onDay, badTime, hasBadTime}
-use Rattle.timed.specs.Answers.{valueBad, plainMeasured, measured, answer}
+use Rattle.dates.specs.Clocks.{offsetIn, zoneIn, clockIn, dayBesideMonth, badTime, hasBadTime}
+use Rattle.timed.specs.Answers.{valueBad, plainMeasured, timedMeasured, timedAnswer}
 
 -- a date, and what is written
 pub record Example : Type 0 where
@@ -70,11 +71,11 @@ unfolding timedText valueText endText timeText clockText zoneText offsetText sig
 text-examples = refl
 
 -- 70 bytes are room for each
-pub written-examples : map (λ (e : Example). answer (e .of) 70) texts ≡ map (λ (e : Example). Done (length (ascii (e .text)))) texts
-unfolding answer measured plainMeasured decided valueBad hasBadTime badTime onDay clockIn zoneIn offsetIn inRange timedText valueText endText timeText clockText zoneText offsetText sign field datetimeText yearText minus decimal width digitCount count partsOf monthParts dayParts writtenMonth writtenDay partsText hyphenPart partText markText panics valuePanics endPanics tooLarge pick
+pub written-examples : map (λ (e : Example). timedAnswer (e .of) 70) texts ≡ map (λ (e : Example). Done (length (ascii (e .text)))) texts
+unfolding timedAnswer timedMeasured plainMeasured decided valueBad hasBadTime badTime dayBesideMonth clockIn zoneIn offsetIn inRange timedText valueText endText timeText clockText zoneText offsetText sign field datetimeText yearText minus decimal width digitCount count partsOf monthParts dayParts writtenMonth writtenDay partsText hyphenPart partText markText panics valuePanics endPanics tooLarge pick
 written-examples = refl
 
--- a date, so much room, and why it is refused
+-- a date, so much room, and why it is nowhere
 pub record Refusal : Type 0 where
   pub of : Date
   pub room : ℕ
@@ -109,11 +110,11 @@ refusals =
     ∷ record { of = date (Between (at 24 0 0 NoOffset) (seasonOf (pos 2000) Winter)) false false; room = 70; kind = HasSeason }
     ∷ []
 
-pub refused-examples : map (λ (e : Refusal). answer (e .of) (e .room)) refusals ≡ map (λ (e : Refusal). Refused (refused (e .kind))) refusals
-unfolding answer measured plainMeasured decided valueBad hasBadTime badTime onDay clockIn zoneIn offsetIn inRange timedText valueText endText timeText clockText zoneText offsetText sign field datetimeText yearText minus decimal width digitCount count partsOf monthParts dayParts writtenMonth writtenDay partsText hyphenPart partText markText panics valuePanics endPanics tooLarge pick
+pub refused-examples : map (λ (e : Refusal). timedAnswer (e .of) (e .room)) refusals ≡ map (λ (e : Refusal). Refused (nowhere (e .kind))) refusals
+unfolding timedAnswer timedMeasured plainMeasured decided valueBad hasBadTime badTime dayBesideMonth clockIn zoneIn offsetIn inRange timedText valueText endText timeText clockText zoneText offsetText sign field datetimeText yearText minus decimal width digitCount count partsOf monthParts dayParts writtenMonth writtenDay partsText hyphenPart partText markText panics valuePanics endPanics tooLarge pick
 refused-examples = refl
 
 -- the refusal's number is 22, and it has no place
-pub refused-as : (number BadTime ≡ 22) × (refused BadTime ≡ record { kind = BadTime; place = fileSpan 0 0 })
-unfolding refused refusal pick
+pub refused-as : (number BadTime ≡ 22) × (nowhere BadTime ≡ record { kind = BadTime; place = fileSpan 0 0 })
+unfolding refusal pick
 refused-as = (refl, refl)

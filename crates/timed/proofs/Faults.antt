@@ -1,6 +1,6 @@
 -- Which times are bad: exactly those with one of seven causes. Assumes nothing.
 use mathlib.Core.Path.{_≡_, refl, sym}
-use mathlib.Core.Bool.{Bool, true, false, not, _&&_, _||_, false≢true}
+use mathlib.Core.Bool.{Bool, true, false, not, _&&_, false≢true}
 use mathlib.Core.Logic.{_↔_, _⊎_, inl, inr}
 use Prim.Native.Nat.{ℕ, _<_}
 use lib.Dec.{leb}
@@ -22,7 +22,7 @@ use Rattle.dates.specs.declared.Datetime.{Datetime}
 use Rattle.dates.specs.declared.DateValue.{DateValue}
 use Rattle.dates.specs.declared.DateValue.the-variants.{At, After, Before, Between}
 use Rattle.dates.specs.Time.{inRange}
-use Rattle.clocks.specs.Clocks.{offsetIn, zoneIn, clockIn, onDay, badTime, hasBadTime}
+use Rattle.dates.specs.Clocks.{offsetIn, zoneIn, clockIn, dayBesideMonth, badTime, hasBadTime}
 use Rattle.writer.proofs.Pieces.{either, one-of}
 use Rattle.timed.specs.Answers.{valueBad}
 
@@ -86,15 +86,15 @@ unfolding clockIn
 not-zone t e = false-last (inRange (t .hour) (t .minute) (t .second)) e
 
 -- a time with a cause is bad
-bad : {mo : OptionMonth} {da : OptionDay} {ti : OptionTime} → Fault mo da ti → badTime (onDay mo da) ti ≡ true
-unfolding badTime onDay zoneIn offsetIn
+bad : {mo : OptionMonth} {da : OptionDay} {ti : OptionTime} → Fault mo da ti → badTime (dayBesideMonth mo da) ti ≡ true
+unfolding badTime dayBesideMonth zoneIn offsetIn
 bad no-month = refl
 bad no-day = refl
-bad {mo} {da} (hour-above {t} h) = out (onDay mo da) (not-hour t (lt-leb (t .hour) 23 h))
-bad {mo} {da} (minute-above {t} h) = out (onDay mo da) (not-minute t (lt-leb (t .minute) 59 h))
-bad {mo} {da} (second-above {t} h) = out (onDay mo da) (not-second t (lt-leb (t .second) 59 h))
-bad {mo} {da} (offset-hours {t} {h = h} e k) = out (onDay mo da) (not-zone t (rw (e, lt-leb h 23 k)))
-bad {mo} {da} (offset-minutes {t} {h = h} {m = m} e k) = out (onDay mo da) (not-zone t (rw e (false-last (leb h 23) (lt-leb m 59 k))))
+bad {mo} {da} (hour-above {t} h) = out (dayBesideMonth mo da) (not-hour t (lt-leb (t .hour) 23 h))
+bad {mo} {da} (minute-above {t} h) = out (dayBesideMonth mo da) (not-minute t (lt-leb (t .minute) 59 h))
+bad {mo} {da} (second-above {t} h) = out (dayBesideMonth mo da) (not-second t (lt-leb (t .second) 59 h))
+bad {mo} {da} (offset-hours {t} {h = h} e k) = out (dayBesideMonth mo da) (not-zone t (rw (e, lt-leb h 23 k)))
+bad {mo} {da} (offset-minutes {t} {h = h} {m = m} e k) = out (dayBesideMonth mo da) (not-zone t (rw e (false-last (leb h 23) (lt-leb m 59 k))))
 
 not-not : (b : Bool) → not b ≡ true → b ≡ false
 not-not true e = absurd (false≢true e)
@@ -122,8 +122,8 @@ module _ {mo : OptionMonth} {da : OptionDay} (t : Time) where
       (λ q. minute-above (leb-false (t .minute) 59 q)))
       (λ p. hour-above (leb-false (t .hour) 23 p))
 
-cause : (mo : OptionMonth) (da : OptionDay) (ti : OptionTime) → badTime (onDay mo da) ti ≡ true → Fault mo da ti
-unfolding badTime onDay
+cause : (mo : OptionMonth) (da : OptionDay) (ti : OptionTime) → badTime (dayBesideMonth mo da) ti ≡ true → Fault mo da ti
+unfolding badTime dayBesideMonth
 cause mo da NoTime e = absurd (false≢true e)
 cause NoMonth da (SomeTime t) e = no-month
 cause (SomeMonth m) NoDay (SomeTime t) e = no-day

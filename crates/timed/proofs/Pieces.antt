@@ -1,6 +1,6 @@
 -- How long the texts are, and the pieces that they are put together of. Over plain variables. Assumes nothing.
 use mathlib.Core.Path.{_≡_, refl, sym}
-use mathlib.Core.Bool.{Bool, true, false}
+use mathlib.Core.Bool.{Bool}
 use mathlib.Core.List.{_++_}
 use Prim.Native.Nat.{ℕ, _+_, _≤_}
 use Prim.Native.Char.{code}
@@ -18,7 +18,8 @@ use Rattle.dates.specs.declared.Datetime.{Datetime}
 use Rattle.dates.specs.declared.DateValue.{DateValue}
 use Rattle.dates.specs.declared.DateValue.the-variants.{At, After, Before, Between}
 use Rattle.dates.specs.declared.Date.{Date}
-use Rattle.writer.specs.Texts.{datetimeText, markText, dateText}
+use Rattle.writer.specs.Texts.{datetimeText, dateText}
+use Rattle.puts.specs.Marks.{markText}
 use Rattle.writer.specs.Texts as untimed
 use Rattle.timed.specs.Texts.{field, sign, offsetText, zoneText, clockText, timeText, endText, valueText, timedText, timesText}
 

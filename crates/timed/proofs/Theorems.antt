@@ -12,7 +12,7 @@ use borrow.Author.Tests.{ne-eqb, le-leb, lt-leb, leb-true, leb-false}
 use Rattle.chars.specs.Pick.{pick}
 use Rattle.chars.proofs.Cases.{of-test}
 use Rattle.refusals.specs.declared.Kind.the-variants.{RustPanics, NoRoom, BadTime, HasSeason}
-use Rattle.refusals.specs.Refusal.{number, refusal}
+use Rattle.refusals.specs.Refusal.{number, refusal, nowhere}
 use Rattle.dates.specs.declared.OptionMonth.{OptionMonth}
 use Rattle.dates.specs.declared.OptionMonth.the-variants.{NoMonth, SomeMonth}
 use Rattle.dates.specs.declared.OptionDay.{OptionDay}
@@ -30,22 +30,24 @@ use Rattle.dates.specs.Domain.{PartsIn}
 use Rattle.dates.specs.Time.{time, inRange}
 use Rattle.dates.specs.Value.{month, day, datetime, isSeason, hasSeason, anySeason, date}
 use Rattle.dates.proofs.Lengths.{length-most}
-use Rattle.datefield.specs.declared.ReadDate.the-variants.{Accepted}
-use Rattle.reader.specs.Field.{parsed, parsedStrict}
-use Rattle.roundtrip.specs.Domain.{Untimed, oneChunk}
-use Rattle.writer.specs.declared.Measured.{Measured}
-use Rattle.writer.specs.declared.Measured.the-variants.{Length, NoLength}
-use Rattle.writer.specs.declared.Written.{Written}
-use Rattle.writer.specs.declared.Written.the-variants.{Done, Refused}
-use Rattle.writer.specs.Answers.{refused, decided}
-use Rattle.writer.specs.Answers as writing
-use Rattle.writer.specs.Numbers.{count, digitCount, width, decimal}
-use Rattle.writer.specs.Texts.{minus, yearText, writtenMonth, writtenDay, dayParts, monthParts, partsOf, partText, hyphenPart, partsText, datetimeText, markText, dateText, tooLarge, endPanics, valuePanics, panics}
+use Rattle.refusals.specs.declared.ReadDate.the-variants.{Accepted}
+use Rattle.reading_laws.specs.Field.{parsed, parsedStrict}
+use Rattle.roundtrip_laws.specs.Domain.{Untimed, oneChunk}
+use Rattle.puts.specs.declared.Measured.{Measured}
+use Rattle.puts.specs.declared.Measured.the-variants.{Length, NoLength}
+use Rattle.puts.specs.declared.Written.{Written}
+use Rattle.puts.specs.declared.Written.the-variants.{Done, Refused}
+use Rattle.puts.specs.Answers.{decided}
+use Rattle.puts.specs.Answers as writing
+use Rattle.writer.specs.Answers.{dateMeasured, dateAnswer, dateAfterwards}
+use Rattle.puts.specs.Numbers.{count, digitCount, width, decimal}
+use Rattle.writer.specs.Texts.{minus, yearText, writtenMonth, writtenDay, dayParts, monthParts, partsOf, partText, hyphenPart, partsText, datetimeText, dateText, tooLarge, endPanics, valuePanics, panics}
+use Rattle.puts.specs.Marks.{markText}
 use Rattle.writer.specs.Texts as untimed
 use Rattle.writer.proofs.Bounds.{Ends, Stored, text-most}
 use Rattle.timed.specs.Texts.{field, sign, offsetText, zoneText, clockText, timeText, endText, valueText, timedText}
-use Rattle.clocks.specs.Clocks.{offsetIn, zoneIn, clockIn, onDay, badTime, hasBadTime}
-use Rattle.timed.specs.Answers.{valueBad, plainMeasured, measured, answer, afterwards}
+use Rattle.dates.specs.Clocks.{offsetIn, zoneIn, clockIn, dayBesideMonth, badTime, hasBadTime}
+use Rattle.timed.specs.Answers.{valueBad, plainMeasured, timedMeasured, timedAnswer, timedAfterwards}
 use Rattle.timed.specs.Domain.{ZoneIn, ClockIn, TimeIn, TimedIn, InTimed}
 use Rattle.timed.proofs.Pieces.{timed-most}
 use Rattle.timed.proofs.Answered.{seasoned, plain}
@@ -78,7 +80,7 @@ value-untimed (Between a b) w = rw (end-untimed a (w .0), end-untimed b (w .1))
 
 end-good : (d : Datetime) → d .time ≡ NoTime → hasBadTime d ≡ false
 unfolding hasBadTime badTime
-end-good d e = ap (badTime (onDay (d .month) (d .day))) e
+end-good d e = ap (badTime (dayBesideMonth (d .month) (d .day))) e
 
 value-good : (v : DateValue) → Untimed v → valueBad v ≡ false
 unfolding valueBad
@@ -94,18 +96,18 @@ module _ (d : Date) (w : Untimed (d .value)) where
   same-text = rw (value-untimed (d .value) w)
 
   -- the same length or refusal,
-  pub same-length : measured d ≡ writing.dateMeasured d (dateText d)
-  unfolding measured plainMeasured writing.dateMeasured writing.measured pick
+  pub same-length : timedMeasured d ≡ dateMeasured d (dateText d)
+  unfolding timedMeasured plainMeasured dateMeasured writing.measured pick
   same-length = rw (value-good (d .value) w, same-text)
 
   -- the same answer,
-  pub same-answer : (room : ℕ) → answer d room ≡ writing.dateAnswer d (dateText d) room
-  unfolding answer writing.dateAnswer
+  pub same-answer : (room : ℕ) → timedAnswer d room ≡ dateAnswer d (dateText d) room
+  unfolding timedAnswer dateAnswer
   same-answer room = rw same-length
 
   -- and the same buffer afterwards
-  pub same-buffer : (out : List ℕ) → afterwards d out ≡ writing.dateAfterwards d (dateText d) out
-  unfolding afterwards writing.dateAfterwards
+  pub same-buffer : (out : List ℕ) → timedAfterwards d out ≡ dateAfterwards d (dateText d) out
+  unfolding timedAfterwards dateAfterwards
   same-buffer out = rw (value-good (d .value) w, same-text) (ap (λ (b : Bool). pick (anySeason (d .value)) out (writing.afterwards b (dateText d) out)) (or-false (panics d)))
     where
       or-false : (b : Bool) → b || false ≡ b
@@ -133,32 +135,32 @@ pub widest-stored : Ends (widest .value)
 widest-stored = (longest-stored, longest-stored)
 
 -- and one that is written reaches them
-pub reached : (length (timedText widest) ≡ 70) × (answer widest 70 ≡ Done 70)
-unfolding answer measured plainMeasured decided valueBad hasBadTime badTime onDay clockIn zoneIn offsetIn inRange timedText valueText endText timeText clockText zoneText offsetText sign field datetimeText yearText minus decimal width digitCount count partsOf monthParts dayParts writtenMonth writtenDay partsText hyphenPart partText markText panics valuePanics endPanics tooLarge pick
+pub reached : (length (timedText widest) ≡ 70) × (timedAnswer widest 70 ≡ Done 70)
+unfolding timedAnswer timedMeasured plainMeasured decided valueBad hasBadTime badTime dayBesideMonth clockIn zoneIn offsetIn inRange timedText valueText endText timeText clockText zoneText offsetText sign field datetimeText yearText minus decimal width digitCount count partsOf monthParts dayParts writtenMonth writtenDay partsText hyphenPart partText markText panics valuePanics endPanics tooLarge pick
 reached = (refl, refl)
 
 -- ---- which answer is given
 
 -- without a season all is as before
-pub else-as-before : (d : Date) → anySeason (d .value) ≡ false → (measured d ≡ plainMeasured d) × ((room : ℕ) → answer d room ≡ decided (plainMeasured d) room) × ((out : List ℕ) → afterwards d out ≡ writing.afterwards (panics d || valueBad (d .value)) (timedText d) out)
+pub else-as-before : (d : Date) → anySeason (d .value) ≡ false → (timedMeasured d ≡ plainMeasured d) × ((room : ℕ) → timedAnswer d room ≡ decided (plainMeasured d) room) × ((out : List ℕ) → timedAfterwards d out ≡ writing.afterwards (panics d || valueBad (d .value)) (timedText d) out)
 else-as-before d e = plain d e
 
 -- the answer by its four tests
 abbrev pub shown : Bool → Bool → Bool → Bool → ℕ → Written
-shown s p b fits n = pick s (Refused (refused HasSeason)) (pick p (Refused (refused RustPanics)) (pick b (Refused (refused BadTime)) (pick fits (Done n) (Refused (refused NoRoom)))))
+shown s p b fits n = pick s (Refused (nowhere HasSeason)) (pick p (Refused (nowhere RustPanics)) (pick b (Refused (nowhere BadTime)) (pick fits (Done n) (Refused (nowhere NoRoom)))))
 
 -- HasSeason of either end comes first, then RustPanics of either, then BadTime of either, then NoRoom
-pub in-order : (d : Date) (room : ℕ) → answer d room ≡ shown (anySeason (d .value)) (panics d) (valueBad (d .value)) (leb (length (timedText d)) room) (length (timedText d))
-unfolding answer measured plainMeasured decided pick
+pub in-order : (d : Date) (room : ℕ) → timedAnswer d room ≡ shown (anySeason (d .value)) (panics d) (valueBad (d .value)) (leb (length (timedText d)) room) (length (timedText d))
+unfolding timedAnswer timedMeasured plainMeasured decided pick
 in-order d room = go (anySeason (d .value)) (panics d) (valueBad (d .value))
   where
-    go : (s p b : Bool) → decided (pick s (NoLength (refused HasSeason)) (pick p (NoLength (refused RustPanics)) (pick b (NoLength (refused BadTime)) (Length (length (timedText d)))))) room ≡ shown s p b (leb (length (timedText d)) room) (length (timedText d))
+    go : (s p b : Bool) → decided (pick s (NoLength (nowhere HasSeason)) (pick p (NoLength (nowhere RustPanics)) (pick b (NoLength (nowhere BadTime)) (Length (length (timedText d)))))) room ≡ shown s p b (leb (length (timedText d)) room) (length (timedText d))
     go true p b = refl
     go false true b = refl
     go false false true = refl
     go false false false = refl
 
--- the number of a refusal; 0 if nothing is refused
+-- the number of a refusal; 0 if nothing is nowhere
 abbrev numbered : Written → ℕ
 numbered (Done n) = 0
 numbered (Refused e) = number (e .kind)
@@ -168,32 +170,32 @@ other f e = f (ap numbered e)
 
 -- which tests lead to which answer
 module _ (n : ℕ) where
-  season-only : (s p b f : Bool) → shown s p b f n ≡ Refused (refused HasSeason) → s ≡ true
-  unfolding refused refusal pick
+  season-only : (s p b f : Bool) → shown s p b f n ≡ Refused (nowhere HasSeason) → s ≡ true
+  unfolding refusal pick
   season-only true p b f e = refl
   season-only false true b f e = absurd (other (λ (z : _≡_ {A = ℕ} 9 24). omega arith) e)
   season-only false false true f e = absurd (other (λ (z : _≡_ {A = ℕ} 22 24). omega arith) e)
   season-only false false false true e = absurd (other (λ (z : _≡_ {A = ℕ} 0 24). omega arith) e)
   season-only false false false false e = absurd (other (λ (z : _≡_ {A = ℕ} 13 24). omega arith) e)
 
-  panics-only : (s p b f : Bool) → shown s p b f n ≡ Refused (refused RustPanics) → (s ≡ false) × (p ≡ true)
-  unfolding refused refusal pick
+  panics-only : (s p b f : Bool) → shown s p b f n ≡ Refused (nowhere RustPanics) → (s ≡ false) × (p ≡ true)
+  unfolding refusal pick
   panics-only true p b f e = absurd (other (λ (z : _≡_ {A = ℕ} 24 9). omega arith) e)
   panics-only false true b f e = (refl, refl)
   panics-only false false true f e = absurd (other (λ (z : _≡_ {A = ℕ} 22 9). omega arith) e)
   panics-only false false false true e = absurd (other (λ (z : _≡_ {A = ℕ} 0 9). omega arith) e)
   panics-only false false false false e = absurd (other (λ (z : _≡_ {A = ℕ} 13 9). omega arith) e)
 
-  bad-only : (s p b f : Bool) → shown s p b f n ≡ Refused (refused BadTime) → (s ≡ false) × (p ≡ false) × (b ≡ true)
-  unfolding refused refusal pick
+  bad-only : (s p b f : Bool) → shown s p b f n ≡ Refused (nowhere BadTime) → (s ≡ false) × (p ≡ false) × (b ≡ true)
+  unfolding refusal pick
   bad-only true p b f e = absurd (other (λ (z : _≡_ {A = ℕ} 24 22). omega arith) e)
   bad-only false true b f e = absurd (other (λ (z : _≡_ {A = ℕ} 9 22). omega arith) e)
   bad-only false false true f e = (refl, refl, refl)
   bad-only false false false true e = absurd (other (λ (z : _≡_ {A = ℕ} 0 22). omega arith) e)
   bad-only false false false false e = absurd (other (λ (z : _≡_ {A = ℕ} 13 22). omega arith) e)
 
-  room-only : (s p b f : Bool) → shown s p b f n ≡ Refused (refused NoRoom) → (s ≡ false) × (p ≡ false) × (b ≡ false) × (f ≡ false)
-  unfolding refused refusal pick
+  room-only : (s p b f : Bool) → shown s p b f n ≡ Refused (nowhere NoRoom) → (s ≡ false) × (p ≡ false) × (b ≡ false) × (f ≡ false)
+  unfolding refusal pick
   room-only true p b f e = absurd (other (λ (z : _≡_ {A = ℕ} 24 13). omega arith) e)
   room-only false true b f e = absurd (other (λ (z : _≡_ {A = ℕ} 9 13). omega arith) e)
   room-only false false true f e = absurd (other (λ (z : _≡_ {A = ℕ} 22 13). omega arith) e)
@@ -201,7 +203,7 @@ module _ (n : ℕ) where
   room-only false false false false e = (refl, refl, refl, refl)
 
   done-only : (s p b f : Bool) → shown s p b f n ≡ Done n → (s ≡ false) × (p ≡ false) × (b ≡ false) × (f ≡ true)
-  unfolding refused refusal pick
+  unfolding refusal pick
   done-only true p b f e = absurd (other (λ (z : _≡_ {A = ℕ} 24 0). omega arith) e)
   done-only false true b f e = absurd (other (λ (z : _≡_ {A = ℕ} 9 0). omega arith) e)
   done-only false false true f e = absurd (other (λ (z : _≡_ {A = ℕ} 22 0). omega arith) e)
@@ -220,18 +222,18 @@ module _ (d : Date) (room : ℕ) where
   n = length (timedText d)
 
   -- the answer, once it is told whether an end has a season
-  told : (s : Bool) → anySeason (d .value) ≡ s → answer d room ≡ shown s (panics d) (valueBad (d .value)) (leb n room) n
+  told : (s : Bool) → anySeason (d .value) ≡ s → timedAnswer d room ≡ shown s (panics d) (valueBad (d .value)) (leb n room) n
   told s e = in-order d room ∙ ap (λ (x : Bool). shown x (panics d) (valueBad (d .value)) (leb n room) n) e
 
   -- HasSeason is answered exactly if one of the ends has a season,
-  pub season-exactly : (answer d room ≡ Refused (refused HasSeason)) ↔ (anySeason (d .value) ≡ true)
+  pub season-exactly : (timedAnswer d room ≡ Refused (nowhere HasSeason)) ↔ (anySeason (d .value) ≡ true)
   season-exactly = (
     λ e. season-only n (anySeason (d .value)) (panics d) (valueBad (d .value)) (leb n room) (sym (in-order d room) ∙ e),
     λ e. seasoned d e .1 room,
   )
 
   -- RustPanics exactly if none has and one of them panics,
-  pub panics-exactly : (answer d room ≡ Refused (refused RustPanics)) ↔ ((anySeason (d .value) ≡ false) × (panics d ≡ true))
+  pub panics-exactly : (timedAnswer d room ≡ Refused (nowhere RustPanics)) ↔ ((anySeason (d .value) ≡ false) × (panics d ≡ true))
   unfolding pick
   panics-exactly = (
     λ e. panics-only n (anySeason (d .value)) (panics d) (valueBad (d .value)) (leb n room) (sym (in-order d room) ∙ e),
@@ -239,7 +241,7 @@ module _ (d : Date) (room : ℕ) where
   )
 
   -- BadTime exactly if none has or does and one of the ends has a bad time,
-  pub bad-exactly : (answer d room ≡ Refused (refused BadTime)) ↔ ((anySeason (d .value) ≡ false) × (panics d ≡ false) × FaultIn (d .value))
+  pub bad-exactly : (timedAnswer d room ≡ Refused (nowhere BadTime)) ↔ ((anySeason (d .value) ≡ false) × (panics d ≡ false) × FaultIn (d .value))
   unfolding pick
   bad-exactly = (
     λ e. let q = bad-only n (anySeason (d .value)) (panics d) (valueBad (d .value)) (leb n room) (sym (in-order d room) ∙ e) in (q .0, q .1, value-bad (d .value) .0 (q .2)),
@@ -247,7 +249,7 @@ module _ (d : Date) (room : ℕ) where
   )
 
   -- NoRoom exactly if no end has a season, panics or has a bad time, and the buffer is shorter than the text,
-  pub no-room-exactly : (answer d room ≡ Refused (refused NoRoom)) ↔ ((anySeason (d .value) ≡ false) × (panics d ≡ false) × (FaultIn (d .value) → ⊥) × (room < length (timedText d)))
+  pub no-room-exactly : (timedAnswer d room ≡ Refused (nowhere NoRoom)) ↔ ((anySeason (d .value) ≡ false) × (panics d ≡ false) × (FaultIn (d .value) → ⊥) × (room < length (timedText d)))
   unfolding pick
   no-room-exactly = (
     λ e. let q = room-only n (anySeason (d .value)) (panics d) (valueBad (d .value)) (leb n room) (sym (in-order d room) ∙ e) in (q .0, q .1, no-fault (d .value) (q .2), leb-false n room (q .3)),
@@ -255,7 +257,7 @@ module _ (d : Date) (room : ℕ) where
   )
 
   -- and the text is written exactly if it is not
-  pub written-exactly : (answer d room ≡ Done (length (timedText d))) ↔ ((anySeason (d .value) ≡ false) × (panics d ≡ false) × (FaultIn (d .value) → ⊥) × (length (timedText d) ≤ room))
+  pub written-exactly : (timedAnswer d room ≡ Done (length (timedText d))) ↔ ((anySeason (d .value) ≡ false) × (panics d ≡ false) × (FaultIn (d .value) → ⊥) × (length (timedText d) ≤ room))
   unfolding pick
   written-exactly = (
     λ e. let q = done-only n (anySeason (d .value)) (panics d) (valueBad (d .value)) (leb n room) (sym (in-order d room) ∙ e) in (q .0, q .1, no-fault (d .value) (q .2), leb-true n room (q .3)),
@@ -263,11 +265,11 @@ module _ (d : Date) (room : ℕ) where
   )
 
 -- and so it is with the length
-pub season-measured : (d : Date) → (measured d ≡ NoLength (refused HasSeason)) ↔ (anySeason (d .value) ≡ true)
-unfolding answer decided
+pub season-measured : (d : Date) → (timedMeasured d ≡ NoLength (nowhere HasSeason)) ↔ (anySeason (d .value) ≡ true)
+unfolding timedAnswer decided
 season-measured d = (λ e. season-exactly d 0 .0 (ap (λ (m : Measured). decided m 0) e), λ q. seasoned d q .0)
 
--- ---- no Date of the domain is refused
+-- ---- no Date of the domain is nowhere
 
 -- no end of it panics
 parts-known : (y : ℤ) (m : OptionMonth) (d : OptionDay) → PartsIn y m d → tooLarge (monthParts m d) ≡ false
@@ -325,6 +327,6 @@ value-sound (Between a b) w (inl f) = end-sound a (w .0) f
 value-sound (Between a b) w (inr f) = end-sound b (w .1) f
 
 -- so where there is room its text is written
-pub accepted : (d : Date) → InTimed (d .value) → (room : ℕ) → length (timedText d) ≤ room → answer d room ≡ Done (length (timedText d))
+pub accepted : (d : Date) → InTimed (d .value) → (room : ℕ) → length (timedText d) ≤ room → timedAnswer d room ≡ Done (length (timedText d))
 unfolding panics
 accepted d w room h = written-exactly d room .1 (value-plain (d .value) w, value-known (d .value) w, value-sound (d .value) w, h)

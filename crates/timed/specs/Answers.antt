@@ -9,12 +9,13 @@ use Rattle.dates.specs.declared.DateValue.{DateValue}
 use Rattle.dates.specs.declared.DateValue.the-variants.{At, After, Before, Between}
 use Rattle.dates.specs.declared.Date.{Date}
 use Rattle.dates.specs.Value.{anySeason}
-use Rattle.clocks.specs.Clocks.{hasBadTime}
-use Rattle.writer.specs.declared.Measured.{Measured}
-use Rattle.writer.specs.declared.Measured.the-variants.{Length, NoLength}
-use Rattle.writer.specs.declared.Written.{Written}
-use Rattle.writer.specs.Answers.{refused, decided}
-use Rattle.writer.specs.Answers as writing
+use Rattle.dates.specs.Clocks.{hasBadTime}
+use Rattle.puts.specs.declared.Measured.{Measured}
+use Rattle.puts.specs.declared.Measured.the-variants.{Length, NoLength}
+use Rattle.puts.specs.declared.Written.{Written}
+use Rattle.puts.specs.Answers.{decided}
+use Rattle.refusals.specs.Refusal.{nowhere}
+use Rattle.puts.specs.Answers as writing
 use Rattle.writer.specs.Texts.{panics}
 use Rattle.timed.specs.Texts.{timedText}
 
@@ -27,16 +28,16 @@ valueBad (Between a b) = hasBadTime a || hasBadTime b
 
 -- the length of the text of a date without seasons; RustPanics of either end comes before BadTime of either
 unfoldable pub plainMeasured : Date → Measured
-plainMeasured d = pick (panics d) (NoLength (refused RustPanics)) (pick (valueBad (d .value)) (NoLength (refused BadTime)) (Length (length (timedText d))))
+plainMeasured d = pick (panics d) (NoLength (nowhere RustPanics)) (pick (valueBad (d .value)) (NoLength (nowhere BadTime)) (Length (length (timedText d))))
 
 -- the length of a date's text: HasSeason if an end has a season, before all else
-unfoldable pub measured : Date → Measured
-measured d = pick (anySeason (d .value)) (NoLength (refused HasSeason)) (plainMeasured d)
+unfoldable pub timedMeasured : Date → Measured
+timedMeasured d = pick (anySeason (d .value)) (NoLength (nowhere HasSeason)) (plainMeasured d)
 
 -- the answer with so much room: NoRoom comes last
-unfoldable pub answer : Date → ℕ → Written
-answer d room = decided (measured d) room
+unfoldable pub timedAnswer : Date → ℕ → Written
+timedAnswer d room = decided (timedMeasured d) room
 
 -- the buffer afterwards: the text at its front and what was behind it, or, after a refusal, all as it was
-unfoldable pub afterwards : Date → List ℕ → List ℕ
-afterwards d out = pick (anySeason (d .value)) out (writing.afterwards (panics d || valueBad (d .value)) (timedText d) out)
+unfoldable pub timedAfterwards : Date → List ℕ → List ℕ
+timedAfterwards d out = pick (anySeason (d .value)) out (writing.afterwards (panics d || valueBad (d .value)) (timedText d) out)

@@ -15,8 +15,9 @@ use Rattle.dates.specs.declared.Datetime.{Datetime}
 use Rattle.dates.specs.declared.DateValue.{DateValue}
 use Rattle.dates.specs.declared.DateValue.the-variants.{At, After, Before, Between}
 use Rattle.dates.specs.declared.Date.{Date}
-use Rattle.writer.specs.Numbers.{digits}
-use Rattle.writer.specs.Texts.{datetimeText, markText}
+use Rattle.puts.specs.Numbers.{digits}
+use Rattle.writer.specs.Texts.{datetimeText}
+use Rattle.puts.specs.Marks.{markText}
 
 -- a character and two digits
 unfoldable pub field : ℕ → ℕ → List ℕ

@@ -6,12 +6,10 @@ ghost use mathlib.Core.List.{[], _∷_};
 ghost use Prim.Native.Nat.{_+_, _≤_, _<_};
 ghost use lib.ListN.{length};
 ghost use Rattle.dates.specs.Value.{hasSeason, anySeason};
-ghost use Rattle.writer.specs.Answers as writing;
-ghost use Rattle.writer.specs.Answers.{Put};
+ghost use Rattle.puts.specs.Answers.{Put};
 ghost use Rattle.writer.specs.Texts as text;
 ghost use Rattle.timed.specs.Texts as timed;
 ghost use Rattle.timed.specs.Answers as spec;
-use clocks::has_bad_time;
 use dates::Date;
 use dates::DateValue;
 use dates::Datetime;
@@ -19,11 +17,14 @@ use dates::OptionOffset;
 use dates::OptionTime;
 use dates::Time;
 use dates::TimeOffset;
-use refusals::FileSpan;
+use dates::has_bad_time;
+use puts::Measured;
+use puts::Written;
+use puts::decide;
+use puts::put_bytes;
+use puts::put_mark;
 use refusals::Kind;
-use refusals::Refusal;
-use writer::Measured;
-use writer::Written;
+use refusals::nowhere;
 use writer::date_length;
 use writer::write_text;
 
@@ -112,19 +113,6 @@ fn put_byte(b: u8, out: &mut [u8], at: usize) -> usize
 {
     out[at] = b;
     at + 1
-}
-
-// The signs of a range with an open side.
-fn put_bytes(t: &[u8], out: &mut [u8], at: usize) -> usize
-    requires { ⌜ at + length (now t) ≤ length (now out) ⌝ }
-    ensures { λ r. ⌜ Put (now (t .entry)) (now (out .entry)) at (now (out .exit)) r ⌝ }
-{
-    let mut i = 0;
-    while i < t.len() {
-        out[at + i] = t[i];
-        i += 1;
-    }
-    at + i
 }
 
 // A character and two digits.
@@ -219,7 +207,7 @@ fn put_end(d: Datetime, out: &mut [u8], at: usize) -> usize
 }
 
 // A point or a range, at the front of the buffer.
-fn put_value(v: DateValue, out: &mut [u8]) -> usize
+fn put_timed_value(v: DateValue, out: &mut [u8]) -> usize
     requires { ⌜ (anySeason v ≡ false) × (text.valuePanics v ≡ false) × (length (timed.valueText v) ≤ length (now out)) ⌝ }
     ensures { λ r. ⌜ Put (timed.valueText v) (now (out .entry)) 0 (now (out .exit)) r ⌝ }
 {
@@ -241,52 +229,28 @@ fn put_value(v: DateValue, out: &mut [u8]) -> usize
     }
 }
 
-// The mark, if there is one.
-fn put_mark(uncertain: bool, approximate: bool, out: &mut [u8], at: usize) -> usize
-    requires { ⌜ at + length (text.markText uncertain approximate) ≤ length (now out) ⌝ }
-    ensures { λ r. ⌜ Put (text.markText uncertain approximate) (now (out .entry)) at (now (out .exit)) r ⌝ }
-{
-    if uncertain {
-        if approximate {
-            return put_byte(b'%', out, at);
-        }
-        return put_byte(b'?', out, at);
-    }
-    if approximate {
-        return put_byte(b'~', out, at);
-    }
-    at
-}
-
 // A date, at the front of the buffer.
-fn put_date(d: Date, out: &mut [u8]) -> usize
+fn put_timed(d: Date, out: &mut [u8]) -> usize
     requires { ⌜ (anySeason (d .value) ≡ false) × (text.panics d ≡ false) × (length (timed.timedText d) ≤ length (now out)) ⌝ }
     ensures { λ r. ⌜ Put (timed.timedText d) (now (out .entry)) 0 (now (out .exit)) r ⌝ }
 {
     let v = d.value;
-    let k = put_value(v, out);
+    let k = put_timed_value(v, out);
     put_mark(d.uncertain, d.approximate, out, k)
 }
 
 // ---- the calls
 
-// A refusal that names no place.
-fn refuse(kind: Kind) -> Refusal
-    ensures { λ r. ⌜ r ≡ writing.refused kind ⌝ }
-{
-    refusals::refuse(kind, FileSpan(0, 0))
-}
-
 // How long the text of a date with its times is: at most 70 bytes. It refuses what `write_timed` refuses, apart from NoRoom.
 pub fn timed_length(d: Date) -> Measured
-    ensures { λ r. ⌜ r ≡ spec.measured d ⌝ }
+    ensures { λ r. ⌜ r ≡ spec.timedMeasured d ⌝ }
     ensures { λ r. ⌜ (text.panics d ≡ false → length (timed.timedText d) ≤ 70) ⌝ }
 {
     let v = d.value;
     match date_length(d) {
         Measured::Length(n) => {
             if value_bad(v) {
-                return Measured::NoLength(refuse(Kind::BadTime));
+                return Measured::NoLength(nowhere(Kind::BadTime));
             }
             Measured::Length(n + times_length(v))
         }
@@ -294,29 +258,14 @@ pub fn timed_length(d: Date) -> Measured
     }
 }
 
-// What is answered to a text that was measured, with so much room.
-fn decide(m: Measured, room: usize) -> Written
-    ensures { λ r. ⌜ r ≡ writing.decided m room ⌝ }
-{
-    match m {
-        Measured::Length(n) => {
-            if n <= room {
-                return Written::Done(n);
-            }
-            Written::Refused(refuse(Kind::NoRoom))
-        }
-        Measured::NoLength(e) => Written::Refused(e),
-    }
-}
-
 // The text of a date with its times, at the front of the lent buffer; a refusal stores nothing.
 pub fn write_timed(d: Date, out: &mut [u8]) -> Written
-    ensures { λ r. ⌜ r ≡ spec.answer d (length (now (out .entry))) ⌝ }
-    ensures { λ r. ⌜ now (out .exit) ≡ spec.afterwards d (now (out .entry)) ⌝ }
+    ensures { λ r. ⌜ r ≡ spec.timedAnswer d (length (now (out .entry))) ⌝ }
+    ensures { λ r. ⌜ now (out .exit) ≡ spec.timedAfterwards d (now (out .entry)) ⌝ }
     ensures { λ r. ⌜ (text.panics d ≡ false → length (timed.timedText d) ≤ 70) ⌝ }
 {
     match decide(timed_length(d), out.len()) {
-        Written::Done(_) => Written::Done(put_date(d, out)),
+        Written::Done(_) => Written::Done(put_timed(d, out)),
         Written::Refused(e) => Written::Refused(e),
     }
 }

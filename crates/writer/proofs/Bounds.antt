@@ -28,10 +28,11 @@ use Rattle.dates.proofs.Signs.{fits-abs}
 use Rattle.writer.specs.declared.Parts.{Parts}
 use Rattle.writer.specs.declared.Parts.the-variants.{NoParts, WithMonth, WithDay, TooLarge}
 use Rattle.chars.specs.Ascii.{ascii}
-use Rattle.writer.specs.Numbers.{count, digitCount, width, decimal}
-use Rattle.writer.specs.Texts.{minus, yearText, writtenMonth, writtenDay, dayParts, monthParts, partsOf, partText, hyphenPart, partsText, datetimeText, valueText, markText, dateText, tooLarge, endPanics, valuePanics, panics}
+use Rattle.puts.specs.Numbers.{count, digitCount, width, decimal}
+use Rattle.writer.specs.Texts.{minus, yearText, writtenMonth, writtenDay, dayParts, monthParts, partsOf, partText, hyphenPart, partsText, datetimeText, valueText, dateText, tooLarge, endPanics, valuePanics, panics}
+use Rattle.puts.specs.Marks.{markText}
 use Rattle.writer.specs.Fields.{prefix, line, partLines, endLines, valueLines, fieldsText}
-use Rattle.writer.proofs.Counts.{few, length-decimal}
+use Rattle.puts.proofs.Counts.{few, length-decimal}
 use Rattle.writer.proofs.Pieces.{hyphen-length, line-length}
 
 -- ---- the ends of a Date, with a month and a day below a number

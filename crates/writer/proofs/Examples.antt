@@ -20,8 +20,9 @@ use Rattle.dates.specs.declared.Date.{Date}
 use Rattle.dates.specs.Value.{month, day, datetime, seasonOf, date}
 use Rattle.dates.specs.Time.{time}
 use Rattle.chars.specs.Ascii.{ascii}
-use Rattle.writer.specs.Numbers.{count, digitCount, width, decimal}
-use Rattle.writer.specs.Texts.{minus, yearText, writtenMonth, writtenDay, dayParts, monthParts, partsOf, partText, hyphenPart, partsText, datetimeText, valueText, markText, dateText, tooLarge, endPanics}
+use Rattle.puts.specs.Numbers.{count, digitCount, width, decimal}
+use Rattle.writer.specs.Texts.{minus, yearText, writtenMonth, writtenDay, dayParts, monthParts, partsOf, partText, hyphenPart, partsText, datetimeText, valueText, dateText, tooLarge, endPanics}
+use Rattle.puts.specs.Marks.{markText}
 use Rattle.writer.specs.Fields.{prefix, line, partLines, endLines, valueLines, fieldsText}
 use Rattle.writer.specs.Level.{longSign, behindText, levelEnd, levelValue, levelText, levelEndPanics, levelValuePanics, levelPanics}
 

@@ -1,6 +1,6 @@
 -- What is said of seasons and of level one: when the writers refuse, and what their texts depend on. Assumes nothing.
 use mathlib.Core.Path.{_≡_, refl, sym, ap, _∙_}
-use mathlib.Core.Bool.{Bool, true, false, false≢true, _||_}
+use mathlib.Core.Bool.{Bool, true, false, false≢true}
 use mathlib.Core.List.{List, [], _++_}
 use mathlib.Core.Logic.{_↔_, _⊎_, inl, inr}
 use Prim.Native.Nat.{ℕ, _+_, _*_, _≤_, _<_}
@@ -13,7 +13,7 @@ use Rattle.chars.specs.Pick.{pick}
 use Rattle.chars.specs.Ascii.{ascii}
 use Rattle.chars.proofs.Cases.{by-test, of-test}
 use Rattle.refusals.specs.declared.Kind.the-variants.{RustPanics, NoRoom, HasSeason}
-use Rattle.refusals.specs.Refusal.{refusal, number}
+use Rattle.refusals.specs.Refusal.{refusal, number, nowhere}
 use Rattle.dates.specs.declared.Month.{Month}
 use Rattle.dates.specs.declared.Day.{Day}
 use Rattle.dates.specs.declared.OptionMonth.{OptionMonth}
@@ -27,21 +27,23 @@ use Rattle.dates.specs.declared.DateValue.{DateValue}
 use Rattle.dates.specs.declared.DateValue.the-variants.{At, After, Before, Between}
 use Rattle.dates.specs.declared.Date.{Date}
 use Rattle.dates.specs.Value.{isSeason, seasonNumber, hasSeason, anySeason}
-use Rattle.writer.specs.declared.Measured.{Measured}
-use Rattle.writer.specs.declared.Measured.the-variants.{Length, NoLength}
-use Rattle.writer.specs.declared.Written.{Written}
-use Rattle.writer.specs.declared.Written.the-variants.{Done, Refused}
-use Rattle.writer.specs.Numbers.{count, digitCount, width, decimal}
-use Rattle.writer.specs.Texts.{minus, yearText, writtenMonth, writtenDay, dayParts, monthParts, partsOf, partText, hyphenPart, partsText, datetimeText, valueText, markText, dateText, tooLarge, endPanics, valuePanics, panics}
-use Rattle.writer.specs.Answers.{refused, measured, decided, answer, afterwards, dateMeasured, dateAnswer, dateAfterwards}
+use Rattle.puts.specs.declared.Measured.{Measured}
+use Rattle.puts.specs.declared.Measured.the-variants.{NoLength}
+use Rattle.puts.specs.declared.Written.{Written}
+use Rattle.puts.specs.declared.Written.the-variants.{Done, Refused}
+use Rattle.puts.specs.Numbers.{count, digitCount, width, decimal}
+use Rattle.writer.specs.Texts.{minus, yearText, writtenMonth, writtenDay, dayParts, monthParts, partsOf, partText, hyphenPart, partsText, datetimeText, valueText, dateText, tooLarge, endPanics, valuePanics, panics}
+use Rattle.puts.specs.Marks.{markText}
+use Rattle.puts.specs.Answers.{measured, decided, answer, afterwards}
+use Rattle.writer.specs.Answers.{dateMeasured, dateAnswer, dateAfterwards}
 use Rattle.writer.specs.Level.{longSign, behindText, levelEnd, levelValue, levelText, levelEndPanics, levelValuePanics, levelPanics}
 use Rattle.writer.proofs.Pieces.{either, one-of, first-false, second-false}
-use Rattle.writer.proofs.Counts.{few}
+use Rattle.puts.proofs.Counts.{few}
 use Rattle.writer.proofs.Bounds.{EachEnd, Stored, Ends, Narrow, year-by, year-most, year-short, behind-most, datetime-short, mark-most, widest}
 
 -- ---- the answers of a writer
 
--- the number of an answer's refusal; 0 if nothing is refused
+-- the number of an answer's refusal; 0 if nothing is nowhere
 abbrev told : Written → ℕ
 told (Done n) = 0
 told (Refused e) = number (e .kind)
@@ -51,7 +53,7 @@ no-answer f e = f (ap told e)
 
 -- by two tests: whether there is no text, and whether there is room
 abbrev shown : Bool → Bool → ℕ → Written
-shown p f n = pick p (Refused (refused RustPanics)) (pick f (Done n) (Refused (refused NoRoom)))
+shown p f n = pick p (Refused (nowhere RustPanics)) (pick f (Done n) (Refused (nowhere NoRoom)))
 
 in-order : (p : Bool) (t : List ℕ) (room : ℕ) → answer p t room ≡ shown p (leb (length t) room) (length t)
 unfolding answer measured decided pick
@@ -60,26 +62,26 @@ in-order false t room = refl
 
 -- which tests lead to which answer
 module _ (n : ℕ) where
-  panics-only : (p f : Bool) → shown p f n ≡ Refused (refused RustPanics) → p ≡ true
-  unfolding refused refusal pick
+  panics-only : (p f : Bool) → shown p f n ≡ Refused (nowhere RustPanics) → p ≡ true
+  unfolding refusal pick
   panics-only true f e = refl
   panics-only false true e = absurd (no-answer (λ (z : _≡_ {A = ℕ} 0 9). omega arith) e)
   panics-only false false e = absurd (no-answer (λ (z : _≡_ {A = ℕ} 13 9). omega arith) e)
 
-  room-only : (p f : Bool) → shown p f n ≡ Refused (refused NoRoom) → (p ≡ false) × (f ≡ false)
-  unfolding refused refusal pick
+  room-only : (p f : Bool) → shown p f n ≡ Refused (nowhere NoRoom) → (p ≡ false) × (f ≡ false)
+  unfolding refusal pick
   room-only true f e = absurd (no-answer (λ (z : _≡_ {A = ℕ} 9 13). omega arith) e)
   room-only false true e = absurd (no-answer (λ (z : _≡_ {A = ℕ} 0 13). omega arith) e)
   room-only false false e = (refl, refl)
 
   done-only : (p f : Bool) → shown p f n ≡ Done n → (p ≡ false) × (f ≡ true)
-  unfolding refused refusal pick
+  unfolding refusal pick
   done-only true f e = absurd (no-answer (λ (z : _≡_ {A = ℕ} 9 0). omega arith) e)
   done-only false true e = (refl, refl)
   done-only false false e = absurd (no-answer (λ (z : _≡_ {A = ℕ} 13 0). omega arith) e)
 
-  no-season : (p f : Bool) → shown p f n ≡ Refused (refused HasSeason) → ⊥
-  unfolding refused refusal pick
+  no-season : (p f : Bool) → shown p f n ≡ Refused (nowhere HasSeason) → ⊥
+  unfolding refusal pick
   no-season true f e = no-answer (λ (z : _≡_ {A = ℕ} 9 24). omega arith) e
   no-season false true e = no-answer (λ (z : _≡_ {A = ℕ} 0 24). omega arith) e
   no-season false false e = no-answer (λ (z : _≡_ {A = ℕ} 13 24). omega arith) e
@@ -88,11 +90,11 @@ module _ (n : ℕ) where
 
 module _ (d : Date) (t : List ℕ) where
   -- an end has a season: HasSeason, and nothing is stored
-  pub season-refused : anySeason (d .value) ≡ true → (dateMeasured d t ≡ NoLength (refused HasSeason)) × ((room : ℕ) → dateAnswer d t room ≡ Refused (refused HasSeason)) × ((out : List ℕ) → dateAfterwards d t out ≡ out)
+  pub season-refused : anySeason (d .value) ≡ true → (dateMeasured d t ≡ NoLength (nowhere HasSeason)) × ((room : ℕ) → dateAnswer d t room ≡ Refused (nowhere HasSeason)) × ((out : List ℕ) → dateAfterwards d t out ≡ out)
   unfolding dateMeasured dateAnswer dateAfterwards decided pick
   season-refused e = (
-    ap (λ (x : Bool). pick x (NoLength (refused HasSeason)) (measured (panics d) t)) e,
-    λ (room : ℕ). ap (λ (x : Bool). decided (pick x (NoLength (refused HasSeason)) (measured (panics d) t)) room) e,
+    ap (λ (x : Bool). pick x (NoLength (nowhere HasSeason)) (measured (panics d) t)) e,
+    λ (room : ℕ). ap (λ (x : Bool). decided (pick x (NoLength (nowhere HasSeason)) (measured (panics d) t)) room) e,
     λ (out : List ℕ). ap (λ (x : Bool). pick x out (afterwards (panics d) t out)) e,
   )
 
@@ -100,14 +102,14 @@ module _ (d : Date) (t : List ℕ) where
   pub else-as-before : anySeason (d .value) ≡ false → (dateMeasured d t ≡ measured (panics d) t) × ((room : ℕ) → dateAnswer d t room ≡ answer (panics d) t room) × ((out : List ℕ) → dateAfterwards d t out ≡ afterwards (panics d) t out)
   unfolding dateMeasured dateAnswer dateAfterwards answer pick
   else-as-before e = (
-    ap (λ (x : Bool). pick x (NoLength (refused HasSeason)) (measured (panics d) t)) e,
-    λ (room : ℕ). ap (λ (x : Bool). decided (pick x (NoLength (refused HasSeason)) (measured (panics d) t)) room) e,
+    ap (λ (x : Bool). pick x (NoLength (nowhere HasSeason)) (measured (panics d) t)) e,
+    λ (room : ℕ). ap (λ (x : Bool). decided (pick x (NoLength (nowhere HasSeason)) (measured (panics d) t)) room) e,
     λ (out : List ℕ). ap (λ (x : Bool). pick x out (afterwards (panics d) t out)) e,
   )
 
 module _ (d : Date) (t : List ℕ) where
   -- HasSeason is answered exactly if an end has a season, whatever else is wrong,
-  pub season-answered : (room : ℕ) → (dateAnswer d t room ≡ Refused (refused HasSeason)) ↔ (anySeason (d .value) ≡ true)
+  pub season-answered : (room : ℕ) → (dateAnswer d t room ≡ Refused (nowhere HasSeason)) ↔ (anySeason (d .value) ≡ true)
   season-answered room = (
     λ e. of-test (anySeason (d .value)) (λ q. q)
         (λ q. absurd (no-season (length t) (panics d) (leb (length t) room) (sym (in-order (panics d) t room) ∙ sym (else-as-before d t q .1 room) ∙ e))),
@@ -115,7 +117,7 @@ module _ (d : Date) (t : List ℕ) where
   )
 
   -- and so it is with the length
-  pub season-exactly : (dateMeasured d t ≡ NoLength (refused HasSeason)) ↔ (anySeason (d .value) ≡ true)
+  pub season-exactly : (dateMeasured d t ≡ NoLength (nowhere HasSeason)) ↔ (anySeason (d .value) ≡ true)
   unfolding dateAnswer decided
   season-exactly = (λ e. season-answered 0 .0 (ap (λ (m : Measured). decided m 0) e), λ q. season-refused d t q .0)
 
@@ -202,7 +204,7 @@ module _ (d : Date) (room : ℕ) where
   has-text f = of-test (levelPanics d) (λ q. absurd (f (level-refuses d .0 q))) (λ q. q)
 
   -- RustPanics is answered exactly if an end has no text,
-  pub level-panics : (answer (levelPanics d) (levelText d) room ≡ Refused (refused RustPanics)) ↔ SomeEnd NoText (d .value)
+  pub level-panics : (answer (levelPanics d) (levelText d) room ≡ Refused (nowhere RustPanics)) ↔ SomeEnd NoText (d .value)
   unfolding pick
   level-panics = (
     λ e. level-refuses d .0 (panics-only n (levelPanics d) (leb n room) (sym given ∙ e)),
@@ -210,7 +212,7 @@ module _ (d : Date) (room : ℕ) where
   )
 
   -- NoRoom exactly if each has one and the buffer is shorter than the text,
-  pub level-no-room : (answer (levelPanics d) (levelText d) room ≡ Refused (refused NoRoom)) ↔ ((SomeEnd NoText (d .value) → ⊥) × (room < length (levelText d)))
+  pub level-no-room : (answer (levelPanics d) (levelText d) room ≡ Refused (nowhere NoRoom)) ↔ ((SomeEnd NoText (d .value) → ⊥) × (room < length (levelText d)))
   unfolding pick
   level-no-room = (
     λ e. let q = room-only n (levelPanics d) (leb n room) (sym given ∙ e) in (no-end (q .0), leb-false n room (q .1)),

@@ -1,5 +1,3 @@
-pub mod Counts
-pub mod Puts
 pub mod Pieces
 pub mod Levels
 pub mod Answered

@@ -18,11 +18,12 @@ use Rattle.dates.specs.declared.Datetime.{Datetime}
 use Rattle.dates.specs.Value.{hasSeason, seasonNumber}
 use Rattle.writer.specs.declared.Parts.{Parts}
 use Rattle.chars.specs.Ascii.{ascii}
-use Rattle.writer.specs.Numbers.{width, decimal}
-use Rattle.writer.specs.Texts.{minus, yearText, partsOf, partText, hyphenPart, partsText, datetimeText, markText}
+use Rattle.puts.specs.Numbers.{width, decimal}
+use Rattle.writer.specs.Texts.{minus, yearText, partsOf, partText, hyphenPart, partsText, datetimeText}
+use Rattle.puts.specs.Marks.{markText}
 use Rattle.writer.specs.Fields.{prefix, line, partLines, endLines}
 use Rattle.writer.specs.Level.{longSign, behindText}
-use Rattle.writer.proofs.Counts.{length-decimal}
+use Rattle.puts.proofs.Counts.{length-decimal}
 
 -- what a test of two ends says
 pub either : (a : Bool) {b : Bool} → a || b ≡ true → (a ≡ true) ⊎ (b ≡ true)
@@ -102,9 +103,6 @@ module _ {u : Bool} where
   pub no-mark : {a : Bool} → u ≡ false → a ≡ false → (0 ≡ length (markText u a)) × (0 < 2)
   unfolding markText
   no-mark e f = rw (e, f) (refl, omega arith)
-
-pub marked : {u a v b : Bool} → u ≡ v → a ≡ b → markText u a ≡ markText v b
-marked e f = rw (e, f)
 
 -- a line: the lengths of its pieces
 pub line-length : (end : Bool) (name value : List ℕ) → length (line end name value) ≡ length (prefix end) + length name + length value + 1

@@ -1,8 +1,7 @@
 -- The text of a date by the writer of level one: seasons, and a Y before a year of more than four digits.
 use Prim.Native.Nat.{ℕ}
-use Prim.Native.Char.{code}
 use mathlib.Core.Bool.{Bool, false, _||_}
-use mathlib.Core.List.{List, [], _∷_, _++_}
+use mathlib.Core.List.{List, [], _++_}
 use lib.Dec.{ltb}
 use lib.IntN.{ℤ, natAbs}
 use Rattle.chars.specs.Pick.{pick}
@@ -12,7 +11,8 @@ use Rattle.dates.specs.declared.DateValue.{DateValue}
 use Rattle.dates.specs.declared.DateValue.the-variants.{At, After, Before, Between}
 use Rattle.dates.specs.declared.Date.{Date}
 use Rattle.dates.specs.Value.{hasSeason, seasonNumber}
-use Rattle.writer.specs.Texts.{yearText, partsOf, partsText, hyphenPart, markText, endPanics}
+use Rattle.writer.specs.Texts.{yearText, partsOf, partsText, hyphenPart, endPanics}
+use Rattle.puts.specs.Marks.{markText}
 
 -- Y before a year of five digits or more
 unfoldable pub longSign : ℤ → List ℕ

@@ -1,7 +1,7 @@
 -- The text of a date.
 use Prim.Native.Nat.{ℕ, _+_}
 use mathlib.Core.Bool.{Bool, true, false, _||_}
-use mathlib.Core.List.{List, [], _∷_, _++_}
+use mathlib.Core.List.{List, [], _++_}
 use lib.Dec.{eqb}
 use lib.IntN.{ℤ, pos, negsuc, natAbs}
 use Rattle.chars.specs.Pick.{pick}
@@ -20,7 +20,8 @@ use Rattle.dates.specs.declared.Date.{Date}
 use Rattle.writer.specs.declared.Parts.{Parts}
 use Rattle.writer.specs.declared.Parts.the-variants.{NoParts, WithMonth, WithDay, TooLarge}
 use Rattle.chars.specs.Ascii.{ascii}
-use Rattle.writer.specs.Numbers.{decimal}
+use Rattle.puts.specs.Numbers.{decimal}
+use Rattle.puts.specs.Marks.{markText}
 
 -- a minus before a negative number
 unfoldable pub minus : ℤ → List ℕ
@@ -78,13 +79,6 @@ valueText (At d) = datetimeText d
 valueText (After d) = datetimeText d ++ ascii "/.."
 valueText (Before d) = ascii "../" ++ datetimeText d
 valueText (Between a b) = datetimeText a ++ ascii "/" ++ datetimeText b
-
--- the mark, by whether the date is uncertain and whether it is approximate
-unfoldable pub markText : Bool → Bool → List ℕ
-markText true true = ascii "%"
-markText false true = ascii "~"
-markText true false = ascii "?"
-markText false false = []
 
 -- a date: the point or range, then its mark
 unfoldable pub dateText : Date → List ℕ

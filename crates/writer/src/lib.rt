@@ -8,11 +8,13 @@ ghost use lib.Dec.{ltb};
 ghost use lib.IntN.{natAbs};
 ghost use lib.ListN.{length};
 ghost use Rattle.chars.specs.Ascii.{ascii};
-ghost use Rattle.writer.specs.Numbers as numbers;
+ghost use Rattle.puts.specs.Numbers as numbers;
 ghost use Rattle.writer.specs.Texts as text;
+ghost use Rattle.puts.specs.Marks.{markText};
 ghost use Rattle.writer.specs.Fields as field;
+ghost use Rattle.puts.specs.Answers as shared;
+ghost use Rattle.puts.specs.Answers.{Put};
 ghost use Rattle.writer.specs.Answers as spec;
-ghost use Rattle.writer.specs.Answers.{Put};
 ghost use Rattle.writer.specs.Level as level;
 use dates::Date;
 use dates::DateValue;
@@ -24,22 +26,15 @@ use dates::OptionMonth;
 use dates::WrittenDay;
 use dates::WrittenMonth;
 use dates::season_number;
-use refusals::FileSpan;
+use puts::Measured;
+use puts::Written;
+use puts::decide;
+use puts::put_bytes;
+use puts::put_digits;
+use puts::put_mark;
+use puts::width;
 use refusals::Kind;
-use refusals::Refusal;
-
-// What a writer answers.
-pub enum Written {
-    // The text was written, with so many bytes.
-    Done(usize),
-    Refused(Refusal),
-}
-
-// How long a text is.
-pub enum Measured {
-    Length(usize),
-    NoLength(Refusal),
-}
+use refusals::nowhere;
 
 // What is written behind a year.
 pub enum Parts {
@@ -52,23 +47,6 @@ pub enum Parts {
 
 // ---- numbers
 
-// How many digits a number is written with.
-fn width(least: usize, n: u32) -> usize
-    requires { ⌜ least < 10 ⌝ }
-    ensures { λ r. ⌜ (r ≡ numbers.width least n) × (r < 11) ⌝ }
-{
-    let mut rest = n;
-    let mut w = 0;
-    while 0 < rest {
-        rest /= 10;
-        w += 1;
-    }
-    if w < least {
-        return least;
-    }
-    w
-}
-
 // One byte, and the place behind it: so each of these functions says where the next goes on.
 fn put_byte(b: u8, out: &mut [u8], at: usize) -> usize
     requires { ⌜ at + 1 ≤ length (now out) ⌝ }
@@ -76,34 +54,6 @@ fn put_byte(b: u8, out: &mut [u8], at: usize) -> usize
 {
     out[at] = b;
     at + 1
-}
-
-// Bytes as they are: names and signs.
-fn put_bytes(t: &[u8], out: &mut [u8], at: usize) -> usize
-    requires { ⌜ at + length (now t) ≤ length (now out) ⌝ }
-    ensures { λ r. ⌜ Put (now (t .entry)) (now (out .entry)) at (now (out .exit)) r ⌝ }
-{
-    let mut i = 0;
-    while i < t.len() {
-        out[at + i] = t[i];
-        i += 1;
-    }
-    at + i
-}
-
-// The last w digits of a number, stored from the right.
-fn put_digits(w: usize, n: u32, out: &mut [u8], at: usize) -> usize
-    requires { ⌜ at + w ≤ length (now out) ⌝ }
-    ensures { λ r. ⌜ Put (numbers.digits w n) (now (out .entry)) at (now (out .exit)) r ⌝ }
-{
-    let mut rest = n;
-    let mut k = w;
-    while 0 < k {
-        k -= 1;
-        out[at + k] = 48 + (rest % 10) as u8;
-        rest /= 10;
-    }
-    at + w
 }
 
 // A number with at least so many digits.
@@ -347,26 +297,9 @@ fn value_length(v: DateValue) -> usize
     }
 }
 
-// The mark, if there is one.
-fn put_mark(uncertain: bool, approximate: bool, out: &mut [u8], at: usize) -> usize
-    requires { ⌜ at + length (text.markText uncertain approximate) ≤ length (now out) ⌝ }
-    ensures { λ r. ⌜ Put (text.markText uncertain approximate) (now (out .entry)) at (now (out .exit)) r ⌝ }
-{
-    if uncertain {
-        if approximate {
-            return put_byte(b'%', out, at);
-        }
-        return put_byte(b'?', out, at);
-    }
-    if approximate {
-        return put_byte(b'~', out, at);
-    }
-    at
-}
-
 // How long the mark is.
 fn mark_length(uncertain: bool, approximate: bool) -> usize
-    ensures { λ r. ⌜ (r ≡ length (text.markText uncertain approximate)) × (r < 2) ⌝ }
+    ensures { λ r. ⌜ (r ≡ length (markText uncertain approximate)) × (r < 2) ⌝ }
 {
     if uncertain {
         return 1;
@@ -523,13 +456,6 @@ fn value_lines_length(v: DateValue) -> usize
 
 // ---- the calls
 
-// A refusal that names no place.
-fn refuse(kind: Kind) -> Refusal
-    ensures { λ r. ⌜ r ≡ spec.refused kind ⌝ }
-{
-    refusals::refuse(kind, FileSpan(0, 0))
-}
-
 // How long the text of a date is: at most 40 bytes. It refuses what `write_text` refuses, apart from NoRoom.
 pub fn date_length(d: Date) -> Measured
     ensures { λ r. ⌜ r ≡ spec.dateMeasured d (text.dateText d) ⌝ }
@@ -538,10 +464,10 @@ pub fn date_length(d: Date) -> Measured
     let v = d.value;
     let n = value_length(v) + mark_length(d.uncertain, d.approximate);
     if v.has_season() {
-        return Measured::NoLength(refuse(Kind::HasSeason));
+        return Measured::NoLength(nowhere(Kind::HasSeason));
     }
     if value_panics(v) {
-        return Measured::NoLength(refuse(Kind::RustPanics));
+        return Measured::NoLength(nowhere(Kind::RustPanics));
     }
     Measured::Length(n)
 }
@@ -552,27 +478,12 @@ pub fn fields_length(d: Date) -> Measured
 {
     let value = d.value;
     if value.has_season() {
-        return Measured::NoLength(refuse(Kind::HasSeason));
+        return Measured::NoLength(nowhere(Kind::HasSeason));
     }
     if value_panics(value) {
-        return Measured::NoLength(refuse(Kind::RustPanics));
+        return Measured::NoLength(nowhere(Kind::RustPanics));
     }
     Measured::Length(value_lines_length(value))
-}
-
-// What is answered to a text that was measured, with so much room.
-fn decide(m: Measured, room: usize) -> Written
-    ensures { λ r. ⌜ r ≡ spec.decided m room ⌝ }
-{
-    match m {
-        Measured::Length(n) => {
-            if n <= room {
-                return Written::Done(n);
-            }
-            Written::Refused(refuse(Kind::NoRoom))
-        }
-        Measured::NoLength(e) => Written::Refused(e),
-    }
 }
 
 // The text of a date, at the front of the lent buffer; a refusal stores nothing. Whoever measured the date knows the room that it needs.
@@ -757,21 +668,21 @@ fn level_value_panics(v: DateValue) -> bool
 
 // How long the text of a date is by the writer of level one: at most 42 bytes. It refuses what `write_level` refuses, apart from NoRoom.
 pub fn level_length(d: Date) -> Measured
-    ensures { λ r. ⌜ r ≡ spec.measured (level.levelPanics d) (level.levelText d) ⌝ }
+    ensures { λ r. ⌜ r ≡ shared.measured (level.levelPanics d) (level.levelText d) ⌝ }
     ensures { λ r. ⌜ length (level.levelText d) ≤ 42 ⌝ }
 {
     let v = d.value;
     let n = level_value_length(v) + mark_length(d.uncertain, d.approximate);
     if level_value_panics(v) {
-        return Measured::NoLength(refuse(Kind::RustPanics));
+        return Measured::NoLength(nowhere(Kind::RustPanics));
     }
     Measured::Length(n)
 }
 
 // The text of a date by the writer of level one, at the front of the lent buffer; a refusal stores nothing. It knows seasons, and refuses none.
 pub fn write_level(d: Date, out: &mut [u8]) -> Written
-    ensures { λ r. ⌜ r ≡ spec.answer (level.levelPanics d) (level.levelText d) (length (now (out .entry))) ⌝ }
-    ensures { λ r. ⌜ now (out .exit) ≡ spec.afterwards (level.levelPanics d) (level.levelText d) (now (out .entry)) ⌝ }
+    ensures { λ r. ⌜ r ≡ shared.answer (level.levelPanics d) (level.levelText d) (length (now (out .entry))) ⌝ }
+    ensures { λ r. ⌜ now (out .exit) ≡ shared.afterwards (level.levelPanics d) (level.levelText d) (now (out .entry)) ⌝ }
     ensures { λ r. ⌜ length (level.levelText d) ≤ 42 ⌝ }
 {
     match decide(level_length(d), out.len()) {

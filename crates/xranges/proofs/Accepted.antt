@@ -17,10 +17,10 @@ use Rattle.dates.specs.declared.OptionDay.the-variants.{NoDay}
 use Rattle.dates.specs.declared.OptionTime.the-variants.{NoTime}
 use Rattle.dates.specs.declared.Datetime.{Datetime}
 use Rattle.dates.specs.Value.{datetime, month as stored, day}
-use Rattle.strs.specs.declared.ParsedNumber.{ParsedNumber}
-use Rattle.strs.specs.declared.ParsedNumber.the-variants.{Value, NoValue}
-use Rattle.strs.specs.Parse.{parse}
-use Rattle.strs.proofs.Digits.{value-in, value-digits}
+use Rattle.numbers.specs.declared.ParsedNumber.{ParsedNumber}
+use Rattle.numbers.specs.declared.ParsedNumber.the-variants.{Value, NoValue}
+use Rattle.numbers.specs.Parse.{parse}
+use Rattle.numbers.proofs.Whole.{value-in, value-digits}
 use Rattle.xranges.specs.declared.ReadHyphen.{ReadHyphen}
 use Rattle.xranges.specs.declared.ReadHyphen.the-variants.{Behind, NoHyphen}
 use Rattle.xranges.specs.declared.ReadRange.{ReadRange}

@@ -15,7 +15,7 @@ use Rattle.dates.specs.declared.OptionDay.the-variants.{NoDay}
 use Rattle.dates.specs.declared.OptionTime.the-variants.{NoTime}
 use Rattle.dates.specs.Value.{datetime, month as stored, day}
 use Rattle.chars.specs.Ascii.{ascii, digitOf}
-use Rattle.strs.specs.Parse.{valueOf, digitsFrom, parse}
+use Rattle.numbers.specs.Parse.{wholeValue, digitsFrom, parse}
 use Rattle.xranges.specs.declared.ReadRange.{ReadRange}
 use Rattle.xranges.specs.declared.ReadRange.the-variants.{Range, NoRange}
 use Rattle.refusals.specs.Offset.{textRefusal as refused, panics}
@@ -60,5 +60,5 @@ table =
     ∷ []
 
 pub examples : map (λ (e : Example). rangeDates (e .text)) table ≡ map (λ (e : Example). e .says) table
-unfolding pick within isWhitespace isAsciiDigit lenOf isCont two decode first decodeAt inClass lenIn matchLen walk eatWhile doneAt part digitOf valueOf digitsFrom parse hyphenRun hyphenFrom getHyphen onHyphen onValue years months days secondRun secondAt behindMonths endOfDays dayRun behindMonth monthRun month monthsRun behindYear yearRun digitRun rangeFrom rangeDates
+unfolding pick within isWhitespace isAsciiDigit lenOf isCont two decode first decodeAt inClass lenIn matchLen walk eatWhile doneAt part digitOf wholeValue digitsFrom parse hyphenRun hyphenFrom getHyphen onHyphen onValue years months days secondRun secondAt behindMonths endOfDays dayRun behindMonth monthRun month monthsRun behindYear yearRun digitRun rangeFrom rangeDates
 examples = refl

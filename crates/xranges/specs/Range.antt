@@ -1,5 +1,6 @@
 -- X ranges: what a text with an X stands for, and at which place it is refused.
 use Prim.Native.Nat.{ℕ, _+_, _-_, _*_, _^_}
+use Prim.Native.Char.{code}
 use mathlib.Core.List.{List}
 use lib.Dec.{ltb, eqb}
 use lib.IntN.{pos}
@@ -13,9 +14,9 @@ use Rattle.dates.specs.declared.OptionMonth.the-variants.{NoMonth}
 use Rattle.dates.specs.declared.OptionDay.the-variants.{NoDay}
 use Rattle.dates.specs.declared.OptionTime.the-variants.{NoTime}
 use Rattle.dates.specs.Value.{datetime, month as stored, day}
-use Rattle.strs.specs.declared.ParsedNumber.{ParsedNumber}
-use Rattle.strs.specs.declared.ParsedNumber.the-variants.{Value, NoValue}
-use Rattle.strs.specs.Parse.{parse}
+use Rattle.numbers.specs.declared.ParsedNumber.{ParsedNumber}
+use Rattle.numbers.specs.declared.ParsedNumber.the-variants.{Value, NoValue}
+use Rattle.numbers.specs.Parse.{parse}
 use Rattle.xranges.specs.declared.ReadHyphen.{ReadHyphen}
 use Rattle.xranges.specs.declared.ReadHyphen.the-variants.{Behind, NoHyphen}
 use Rattle.xranges.specs.declared.ReadRange.{ReadRange}
@@ -32,7 +33,7 @@ hyphenRun s start end =
 
 -- the run of hyphens at a place
 unfoldable pub hyphenFrom : List ℕ → ℕ → ReadHyphen
-hyphenFrom s start = hyphenRun s start (eatWhile (Is 0x2D) s start)
+hyphenFrom s start = hyphenRun s start (eatWhile (Is (code "-")) s start)
 
 -- hyphens, and white space around them
 unfoldable pub getHyphen : List ℕ → ℕ → ReadHyphen
@@ -69,7 +70,7 @@ secondRun start end year = pick (eqb (end - start) 2) (months year) (noneHere In
 unfoldable pub secondAt : List ℕ → ℕ → ℕ → ReadRange
 secondAt s at year =
     pick (doneAt s at) (months year)
-    (onHyphen (getHyphen s at) λ c. secondRun c (eatWhile (Is 0x58) s c) year)
+    (onHyphen (getHyphen s at) λ c. secondRun c (eatWhile (Is (code "X")) s c) year)
 
 -- behind XX for the months white space may stand
 unfoldable pub behindMonths : List ℕ → ℕ → ℕ → ReadRange
@@ -85,7 +86,7 @@ dayRun s start end year m = pick (eqb (end - start) 2) (endOfDays s (eatWhile Wh
 
 -- behind the month: a hyphen, XX, and the end
 unfoldable pub behindMonth : List ℕ → ℕ → ℕ → ℕ → ReadRange
-behindMonth s at year m = onHyphen (getHyphen s at) λ c. dayRun s c (eatWhile (Is 0x58) s c) year m
+behindMonth s at year m = onHyphen (getHyphen s at) λ c. dayRun s c (eatWhile (Is (code "X")) s c) year m
 
 -- the digits of a month from a place to another: two, and 01 to 12; 00 panics
 unfoldable pub monthRun : List ℕ → ℕ → ℕ → ℕ → ReadRange
@@ -110,7 +111,7 @@ monthsRun s start end year =
 
 -- behind a year of four digits: a hyphen, then XX or a month
 unfoldable pub behindYear : List ℕ → ℕ → ℕ → ReadRange
-behindYear s at year = onHyphen (getHyphen s at) λ c. monthsRun s c (eatWhile (Is 0x58) s c) year
+behindYear s at year = onHyphen (getHyphen s at) λ c. monthsRun s c (eatWhile (Is (code "X")) s c) year
 
 -- the run of X behind sure digits, from a place to another: it fills them up to four, and behind fewer than four nothing is read
 unfoldable pub yearRun : List ℕ → ℕ → ℕ → ℕ → ReadRange
@@ -125,7 +126,7 @@ unfoldable pub digitRun : List ℕ → ℕ → ℕ → ReadRange
 digitRun s start c =
     pick (ltb 4 (c - start)) (NoRange panics)
     (pick (ltb (c - start) 2) (NoRange (textRefusal WrongNumberOfDigits 0 c))
-    (yearRun s start c (eatWhile (Is 0x58) s c)))
+    (yearRun s start c (eatWhile (Is (code "X")) s c)))
 
 -- the digits at a place
 unfoldable pub rangeFrom : List ℕ → ℕ → ReadRange

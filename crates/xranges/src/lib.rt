@@ -1,6 +1,6 @@
 // X ranges of a date field: a century or a decade, the months of a year, the days of a month.
 ghost use mathlib.Core.Path.{_≡_};
-ghost use Prim.Native.Nat.{_-_, _+_, _^_, _<_, _≤_};
+ghost use Prim.Native.Nat.{_-_, _+_, _^_, _<_};
 ghost use lib.IntN.{pos};
 ghost use Rattle.refusals.specs.Offset.{textRefusal};
 ghost use Rattle.xranges.specs.Range as spec;
@@ -12,13 +12,17 @@ use dates::Month;
 use dates::OptionDay;
 use dates::OptionMonth;
 use dates::OptionTime;
+use numbers::ParsedNumber;
 use refusals::Kind;
 use refusals::TextRefusal;
 use refusals::panics;
 use refusals::refuse_text;
 use scanner::Class;
 use scanner::Cursor;
-use strs::ParsedNumber;
+
+const HYPHEN: u32 = b'-' as u32;
+
+const LETTER_X: u32 = b'X' as u32;
 
 // The first and the last date of a range, or why there is none.
 pub enum ReadRange {
@@ -59,7 +63,7 @@ fn get_hyphen(s: &[u8], c: Cursor) -> ReadHyphen
     ensures { λ r. ⌜ r ≡ spec.getHyphen (now (s .entry)) (c .0) ⌝ }
 {
     let start = scanner::eat_whitespace(s, c);
-    let next = scanner::eat_while(s, start, Class::Is(0x2D));
+    let next = scanner::eat_while(s, start, Class::Is(HYPHEN));
     if len(start, next) == 0 {
         return ReadHyphen::NoHyphen(here(Kind::InvalidFormat, next));
     }
@@ -136,7 +140,7 @@ fn behind_months(s: &[u8], c: Cursor, year: u32) -> ReadRange
     }
     match get_hyphen(s, c1) {
         ReadHyphen::Behind(c2) => {
-            let c3 = scanner::eat_while(s, c2, Class::Is(0x58));
+            let c3 = scanner::eat_while(s, c2, Class::Is(LETTER_X));
             if len(c2, c3) == 2 {
                 return months(year);
             }
@@ -153,7 +157,7 @@ fn behind_month(s: &[u8], c: Cursor, year: u32, month: Month) -> ReadRange
 {
     match get_hyphen(s, c) {
         ReadHyphen::Behind(c1) => {
-            let c2 = scanner::eat_while(s, c1, Class::Is(0x58));
+            let c2 = scanner::eat_while(s, c1, Class::Is(LETTER_X));
             if len(c1, c2) == 2 {
                 let c3 = scanner::eat_whitespace(s, c2);
                 if scanner::done(s, c3) {
@@ -176,7 +180,7 @@ fn month(s: &[u8], start: Cursor, year: u32) -> ReadRange
     if len(start, c) != 2 {
         return ReadRange::NoRange(refuse_text(Kind::WrongNumberOfDigits, start, c));
     }
-    match strs::parse(scanner::from(s, start, c), 255) {
+    match numbers::parse(scanner::from(s, start, c), 255) {
         ParsedNumber::Value(written) => {
             if written == 0 {
                 return ReadRange::NoRange(panics());
@@ -197,7 +201,7 @@ fn behind_year(s: &[u8], c: Cursor, year: u32) -> ReadRange
 {
     match get_hyphen(s, c) {
         ReadHyphen::Behind(idx) => {
-            let c1 = scanner::eat_while(s, idx, Class::Is(0x58));
+            let c1 = scanner::eat_while(s, idx, Class::Is(LETTER_X));
             match len(idx, c1) {
                 0 => month(s, idx, year),
                 2 => behind_months(s, c1, year),
@@ -224,11 +228,11 @@ pub fn range_dates(s: &[u8]) -> ReadRange
     if sure_digits < 2 {
         return ReadRange::NoRange(refuse_text(Kind::WrongNumberOfDigits, Cursor(0), c));
     }
-    let c1 = scanner::eat_while(s, c, Class::Is(0x58));
+    let c1 = scanner::eat_while(s, c, Class::Is(LETTER_X));
     if len(c, c1) != 4 - sure_digits {
         return ReadRange::NoRange(refuse_text(Kind::WrongNumberOfDigits, Cursor(0), c1));
     }
-    match strs::parse(scanner::from(s, start, c), 9999) {
+    match numbers::parse(scanner::from(s, start, c), 9999) {
         ParsedNumber::Value(year_part) => {
             if sure_digits == 4 {
                 return behind_year(s, c1, year_part);

@@ -1,5 +1,4 @@
 use Rattle.answers.specs.Answer.{bit}
-use borrow.Author.Tests.{lt-ltb, le-ltb, le-leb, lt-leb, eq-eqb, ne-eqb}
 use Rattle.answers.proofs.bit.Statement.{statement}
 use Rattle.answers.proofs.bit.Tie as tie
 use Rattle.answers.proofs.bit.Reads as reads

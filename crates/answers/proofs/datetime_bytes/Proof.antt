@@ -12,70 +12,6 @@ use Rattle.answers.proofs.time_bytes.Reads as time-bytes-reads
 use Rattle.answers.proofs.twos.Reads as twos-reads
 use Rattle.answers.proofs.word.Reads as word-reads
 
--- src/lib.rt:123:18
-twos-requires : tie.Need-twos-requires
-twos-requires c κs = search needs
-
--- src/lib.rt:123:13
-word-requires : tie.Need-word-requires
-word-requires c κs = search needs
-
--- src/lib.rt:124:13
-time-bytes-requires : tie.Need-time-bytes-requires
-time-bytes-requires c κs = search needs
-
--- src/lib.rt:126:9
-array-read-t12 : tie.Need-array-read-t12
-array-read-t12 c = search needs
-
--- src/lib.rt:126:15
-array-read-t15 : tie.Need-array-read-t15
-array-read-t15 c = search needs
-
--- src/lib.rt:126:21
-array-read-t18 : tie.Need-array-read-t18
-array-read-t18 c = search needs
-
--- src/lib.rt:126:27
-array-read-t21 : tie.Need-array-read-t21
-array-read-t21 c = search needs
-
--- src/lib.rt:126:33
-month-byte-requires : tie.Need-month-byte-requires
-month-byte-requires c κs = search needs
-
--- src/lib.rt:126:52
-day-byte-requires : tie.Need-day-byte-requires
-day-byte-requires c κs = search needs
-
--- src/lib.rt:126:67
-array-read-t26 : tie.Need-array-read-t26
-array-read-t26 c = search needs
-
--- src/lib.rt:126:73
-array-read-t29 : tie.Need-array-read-t29
-array-read-t29 c = search needs
-
--- src/lib.rt:126:79
-array-read-t32 : tie.Need-array-read-t32
-array-read-t32 c = search needs
-
--- src/lib.rt:126:85
-array-read-t35 : tie.Need-array-read-t35
-array-read-t35 c = search needs
-
--- src/lib.rt:126:91
-array-read-t38 : tie.Need-array-read-t38
-array-read-t38 c = search needs
-
--- src/lib.rt:126:97
-array-read-t41 : tie.Need-array-read-t41
-array-read-t41 c = search needs
-
--- src/lib.rt:126:103
-array-read-t44 : tie.Need-array-read-t44
-array-read-t44 c = search needs
-
 -- src/lib.rt:117:1
 returns : tie.Need-returns
 returns c =
@@ -92,20 +28,20 @@ pub datetime-bytes-spec : {M : Type 1} → statement M
 datetime-bytes-spec =
     tie.close
     (tie.spec
-    twos-requires
-    word-requires
-    time-bytes-requires
-    array-read-t12
-    array-read-t15
-    array-read-t18
-    array-read-t21
-    month-byte-requires
-    day-byte-requires
-    array-read-t26
-    array-read-t29
-    array-read-t32
-    array-read-t35
-    array-read-t38
-    array-read-t41
-    array-read-t44
+    (λ c κs. search needs)
+    (λ c κs. search needs)
+    (λ c κs. search needs)
+    (λ c. search needs)
+    (λ c. search needs)
+    (λ c. search needs)
+    (λ c. search needs)
+    (λ c κs. search needs)
+    (λ c κs. search needs)
+    (λ c. search needs)
+    (λ c. search needs)
+    (λ c. search needs)
+    (λ c. search needs)
+    (λ c. search needs)
+    (λ c. search needs)
+    (λ c. search needs)
     returns)

@@ -1,16 +1,9 @@
 use Rattle.answers.specs.Answer.{dayByte}
-use borrow.Author.Tests.{lt-ltb, le-ltb, le-leb, lt-leb, eq-eqb, ne-eqb}
 use borrow.Author.Needs.{needs}
 use Rattle.answers.proofs.day_byte.Statement.{statement}
 use Rattle.answers.proofs.day_byte.Tie as tie
 use Rattle.answers.proofs.day_byte.Reads as reads
 use Rattle.answers.proofs.day_byte.Lts as lts
-
-enum-told : tie.Need-enum-told
-enum-told c = search needs
-
-enum-known-d : tie.Need-enum-known-d
-enum-known-d c = search needs
 
 returns : tie.Need-returns
 unfolding dayByte
@@ -23,4 +16,4 @@ returns-2 c =
     simp (b1 .d .given .1)
 
 pub day-byte-spec : {M : Type 1} → statement M
-day-byte-spec = tie.close (tie.spec enum-told enum-known-d returns returns-2)
+day-byte-spec = tie.close (tie.spec (λ c. search needs) (λ c. search needs) returns returns-2)

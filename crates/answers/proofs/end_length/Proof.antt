@@ -1,4 +1,3 @@
-use mathlib.Core.Path.{_≡_, refl}
 use Rattle.answers.specs.Answer.{endLength}
 use Rattle.answers.proofs.end_length.Statement.{statement}
 use Rattle.answers.proofs.end_length.Tie as tie

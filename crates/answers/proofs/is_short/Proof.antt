@@ -10,14 +10,6 @@ use Rattle.answers.proofs.is_short.Tie as tie
 use Rattle.answers.proofs.is_short.Reads as reads
 use Rattle.answers.proofs.is_short.Lts as lts
 
--- src/lib.rt:267:17
-mul-least : tie.Need-mul-least
-mul-least c = search needs
-
--- src/lib.rt:267:17
-add-least : tie.Need-add-least
-add-least c = search needs
-
 -- src/lib.rt:269:9
 returns : tie.Need-returns
 returns c = let a = c .before .args in sym (lt-ltb (a .room) (2 * (a .bytes + a .text) + 1) (omega (arith, c .if1 .taken)))
@@ -31,4 +23,4 @@ returns-2 c =
     (λ t. le-ltb _ (a .text) (let h = ltb-false (a .room) _ t in omega (arith, c .if1 .left, c .before .pre)) ∙ sym t)
 
 pub is-short-spec : {M : Type 1} → statement M
-is-short-spec = tie.close (tie.spec mul-least add-least returns returns-2)
+is-short-spec = tie.close (tie.spec (λ c. search needs) (λ c. search needs) returns returns-2)

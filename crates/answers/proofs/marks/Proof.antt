@@ -1,6 +1,3 @@
-use mathlib.Core.Path.{_≡_, sym, ap, _∙_}
-use mathlib.Core.Bool.{Bool}
-use mathlib.Core.List.{List}
 use Rattle.answers.proofs.Digits.{packed}
 use borrow.Author.Needs.{needs}
 use Rattle.answers.proofs.marks.Statement.{statement}
@@ -9,12 +6,6 @@ use Rattle.answers.proofs.marks.Reads as reads
 use Rattle.answers.proofs.marks.Lts as lts
 use Rattle.answers.proofs.bit.Reads as bit-reads
 
-bit-requires : tie.Need-bit-requires
-bit-requires c κs = search needs
-
-bit-requires-2 : tie.Need-bit-requires-2
-bit-requires-2 c κs = search needs
-
 returns : tie.Need-returns
 returns c =
     let b1 = c .before in
@@ -22,4 +13,4 @@ returns c =
     rw (b1 .bit .ensures, c .bit2 .ensures) (packed (s .args .uncertain) (s .args .approximate))
 
 pub marks-spec : {M : Type 1} → statement M
-marks-spec = tie.close (tie.spec bit-requires bit-requires-2 returns)
+marks-spec = tie.close (tie.spec (λ c κs. search needs) (λ c κs. search needs) returns)

@@ -1,16 +1,9 @@
 use Rattle.answers.specs.Answer.{monthByte}
-use borrow.Author.Tests.{lt-ltb, le-ltb, le-leb, lt-leb, eq-eqb, ne-eqb}
 use borrow.Author.Needs.{needs}
 use Rattle.answers.proofs.month_byte.Statement.{statement}
 use Rattle.answers.proofs.month_byte.Tie as tie
 use Rattle.answers.proofs.month_byte.Reads as reads
 use Rattle.answers.proofs.month_byte.Lts as lts
-
-enum-told : tie.Need-enum-told
-enum-told c = search needs
-
-enum-known-m : tie.Need-enum-known-m
-enum-known-m c = search needs
 
 returns : tie.Need-returns
 unfolding monthByte
@@ -23,4 +16,4 @@ returns-2 c =
     simp (b1 .m .given .1)
 
 pub month-byte-spec : {M : Type 1} → statement M
-month-byte-spec = tie.close (tie.spec enum-told enum-known-m returns returns-2)
+month-byte-spec = tie.close (tie.spec (λ c. search needs) (λ c. search needs) returns returns-2)

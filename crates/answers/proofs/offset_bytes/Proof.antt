@@ -1,20 +1,10 @@
 use Rattle.answers.specs.Answer.{offsetBytes}
-use borrow.Author.Tests.{lt-ltb, le-ltb, le-leb, lt-leb, eq-eqb, ne-eqb}
 use borrow.Author.Needs.{needs}
 use Rattle.answers.proofs.offset_bytes.Statement.{statement}
 use Rattle.answers.proofs.offset_bytes.Tie as tie
 use Rattle.answers.proofs.offset_bytes.Reads as reads
 use Rattle.answers.proofs.offset_bytes.Lts as lts
 use Rattle.answers.proofs.shift_bytes.Reads as shift-bytes-reads
-
-enum-told : tie.Need-enum-told
-enum-told c = search needs
-
-enum-known-o : tie.Need-enum-known-o
-enum-known-o c = search needs
-
-shift-bytes-requires : tie.Need-shift-bytes-requires
-shift-bytes-requires c κs = search needs
 
 returns : tie.Need-returns
 unfolding offsetBytes
@@ -28,4 +18,4 @@ returns-2 c =
 
 pub offset-bytes-spec : {M : Type 1} → statement M
 offset-bytes-spec =
-    tie.close (tie.spec enum-told enum-known-o shift-bytes-requires returns returns-2)
+    tie.close (tie.spec (λ c. search needs) (λ c. search needs) (λ c κs. search needs) returns returns-2)

@@ -1,16 +1,10 @@
-use mathlib.Core.Path.{_≡_, sym, ap, _∙_}
+use mathlib.Core.Path.{ap, _∙_}
 use native.Mathlib.Omega.{arith}
 use lib.ListN.{length, length-append}
 use Rattle.answers.proofs.Digits.{hex-both, hex-room, hex-as, length-datetime, length-end, end-least, plain-end, season-end}
 use borrow.Author.Needs.{needs}
 use Rattle.answers.proofs.put_end.Statement.{statement}
 use Rattle.answers.proofs.put_end.Tie as tie
-
-datetime-bytes-requires : tie.Need-datetime-bytes-requires
-datetime-bytes-requires c κs = search needs
-
-slice-aggregate-put-hex : tie.Need-slice-aggregate-put-hex
-slice-aggregate-put-hex c = search needs
 
 put-hex-requires : tie.Need-put-hex-requires
 put-hex-requires c κs =
@@ -19,12 +13,6 @@ put-hex-requires c κs =
     let a = s .args in
     let e = ap length (b2 .datetime-bytes .ensures) ∙ length-datetime (a .d) in
     omega (arith, s .pre, e, length-end (a .level) (a .d), end-least (a .level))
-
-season-number-requires : tie.Need-season-number-requires
-season-number-requires c κs = search needs
-
-slice-aggregate-put-hex-2 : tie.Need-slice-aggregate-put-hex-2
-slice-aggregate-put-hex-2 c = search needs
 
 put-hex-requires-2 : tie.Need-put-hex-requires-2
 put-hex-requires-2 c κs =
@@ -39,9 +27,6 @@ put-hex-requires-2 c κs =
     let l = ap length e ∙ length-append (b9 .datetime-bytes .result) _ in
     omega (arith, s .pre, r .0, r .1, l)
 
-same-length : tie.Need-same-length
-same-length c = search needs
-
 returns : tie.Need-returns
 returns c =
     let b2 = c .before .before in
@@ -51,9 +36,6 @@ returns c =
     let b12 = b9 .before .before .before in
     let a = b12 .before .before .args in
     hex-as (season-end (a .d) (b6 .if1 .taken) (b12 .datetime-bytes .ensures) (b5 .season-number .ensures)) (hex-both _ _ (b9 .put-hex .ensures) (b2 .put-hex2 .ensures))
-
-same-length-2 : tie.Need-same-length-2
-same-length-2 c = search needs
 
 returns-2 : tie.Need-returns-2
 returns-2 c =
@@ -66,13 +48,13 @@ pub put-end-spec : {M : Type 1} → statement M
 put-end-spec =
     tie.close
     (tie.spec
-    datetime-bytes-requires
-    slice-aggregate-put-hex
+    (λ c κs. search needs)
+    (λ c. search needs)
     put-hex-requires
-    season-number-requires
-    slice-aggregate-put-hex-2
+    (λ c κs. search needs)
+    (λ c. search needs)
     put-hex-requires-2
-    same-length
+    (λ c. search needs)
     returns
-    same-length-2
+    (λ c. search needs)
     returns-2)

@@ -1,13 +1,9 @@
-use mathlib.Core.List.{_++_}
 use native.Mathlib.Omega.{arith}
 use Rattle.answers.specs.Answer.{endBytes, bytesWith}
 use Rattle.answers.proofs.Digits.{hex-both, hex-room, line-put, length-end, length-one}
 use borrow.Author.Needs.{needs}
 use Rattle.answers.proofs.put_one.Statement.{statement}
 use Rattle.answers.proofs.put_one.Tie as tie
-
-slice-aggregate-put-hex : tie.Need-slice-aggregate-put-hex
-slice-aggregate-put-hex c = search needs
 
 put-hex-requires : tie.Need-put-hex-requires
 put-hex-requires c κs =
@@ -45,9 +41,6 @@ end-line-requires c κs =
     let tr = hex-room _ (t .put-hex2 .ensures) in
     omega (arith, s .pre, length-one (a .level) (a .shape) (a .marks) (a .d) (a .text .now), length-end (a .level) (a .d), pr .0, pr .1, qr .0, qr .1, tr .0, tr .1)
 
-same-length : tie.Need-same-length
-same-length c = search needs
-
 returns : tie.Need-returns
 returns c =
     let e = c .before .before in
@@ -64,10 +57,10 @@ pub put-one-spec : {M : Type 1} → statement M
 put-one-spec =
     tie.close
     (tie.spec
-    slice-aggregate-put-hex
+    (λ c. search needs)
     put-hex-requires
     put-end-requires
     put-hex-requires-2
     end-line-requires
-    same-length
+    (λ c. search needs)
     returns)

@@ -1,6 +1,4 @@
-use mathlib.Core.Path.{_≡_, refl, sym, ap, _∙_}
 use native.Mathlib.Omega.{arith}
-use lib.ListN.{length}
 use Rattle.answers.specs.Answer.{refusedBytes}
 use Rattle.answers.proofs.Digits.{hex-both, hex-room, hex-as, line-put, refused-is}
 use borrow.Author.Needs.{needs}
@@ -12,15 +10,6 @@ use Rattle.answers.proofs.end_line.Reads as end-line-reads
 use Rattle.answers.proofs.put_hex.Reads as put-hex-reads
 use Rattle.answers.proofs.put_long.Reads as put-long-reads
 use Rattle.refusals.proofs.number.Reads as number-reads
-
-number-requires : tie.Need-number-requires
-number-requires c κs = search needs
-
-slice-aggregate-put-hex : tie.Need-slice-aggregate-put-hex
-slice-aggregate-put-hex c = search needs
-
-put-hex-requires : tie.Need-put-hex-requires
-put-hex-requires c κs = search needs
 
 put-long-requires : tie.Need-put-long-requires
 put-long-requires c κs =
@@ -49,9 +38,6 @@ end-line-requires c κs =
     let p = hex-room _ (b3 .put-long2 .ensures) in
     omega (arith, s .pre, r .0, r .1, q .0, q .1, p .0, p .1)
 
-same-length : tie.Need-same-length
-same-length c = search needs
-
 returns : tie.Need-returns
 returns c =
     let b2 = c .before .before in
@@ -66,11 +52,11 @@ pub put-refused-spec : {M : Type 1} → statement M
 put-refused-spec =
     tie.close
     (tie.spec
-    number-requires
-    slice-aggregate-put-hex
-    put-hex-requires
+    (λ c κs. search needs)
+    (λ c. search needs)
+    (λ c κs. search needs)
     put-long-requires
     put-long-requires-2
     end-line-requires
-    same-length
+    (λ c. search needs)
     returns)

@@ -6,9 +6,6 @@ use borrow.Author.Needs.{needs}
 use Rattle.answers.proofs.put_two.Statement.{statement}
 use Rattle.answers.proofs.put_two.Tie as tie
 
-slice-aggregate-put-hex : tie.Need-slice-aggregate-put-hex
-slice-aggregate-put-hex c = search needs
-
 put-hex-requires : tie.Need-put-hex-requires
 put-hex-requires c κs =
     let s = c .before .before .before .before in
@@ -59,9 +56,6 @@ end-line-requires c κs =
     let tr = hex-room _ (t .put-hex2 .ensures) in
     omega (arith, s .pre, length-two (a .level) (a .marks) (a .a) (a .b) (a .text .now), length-end (a .level) (a .a), length-end (a .level) (a .b), pr .0, pr .1, qr .0, qr .1, rr .0, rr .1, tr .0, tr .1)
 
-same-length : tie.Need-same-length
-same-length c = search needs
-
 returns : tie.Need-returns
 returns c =
     let e = c .before .before in
@@ -79,11 +73,11 @@ pub put-two-spec : {M : Type 1} → statement M
 put-two-spec =
     tie.close
     (tie.spec
-    slice-aggregate-put-hex
+    (λ c. search needs)
     put-hex-requires
     put-end-requires
     put-end-requires-2
     put-hex-requires-2
     end-line-requires
-    same-length
+    (λ c. search needs)
     returns)

@@ -1,16 +1,9 @@
 use Rattle.answers.specs.Answer.{shiftBytes}
-use borrow.Author.Tests.{lt-ltb, le-ltb, le-leb, lt-leb, eq-eqb, ne-eqb}
 use borrow.Author.Needs.{needs}
 use Rattle.answers.proofs.shift_bytes.Statement.{statement}
 use Rattle.answers.proofs.shift_bytes.Tie as tie
 use Rattle.answers.proofs.shift_bytes.Reads as reads
 use Rattle.answers.proofs.shift_bytes.Lts as lts
-
-enum-told : tie.Need-enum-told
-enum-told c = search needs
-
-enum-known-o : tie.Need-enum-known-o
-enum-known-o c = search needs
 
 returns : tie.Need-returns
 unfolding shiftBytes
@@ -29,4 +22,4 @@ returns-3 c =
     simp (b2 .o .given .1, c .if1 .left)
 
 pub shift-bytes-spec : {M : Type 1} → statement M
-shift-bytes-spec = tie.close (tie.spec enum-told enum-known-o returns returns-2 returns-3)
+shift-bytes-spec = tie.close (tie.spec (λ c. search needs) (λ c. search needs) returns returns-2 returns-3)

@@ -1,8 +1,6 @@
-use mathlib.Core.Path.{_≡_, sym, ap, _∙_}
 use native.Mathlib.Omega.{arith}
 use mir.Syntax.{w32}
 use mir.ValLaws.{toZ-ofZ}
-use lib.IntN.{natAbs}
 use Rattle.dates.proofs.Signs.{fits-abs, not-negative, minus-read, wide-fits, minus-fits}
 use Rattle.answers.proofs.Digits.{below, above}
 use Rattle.answers.proofs.twos.Statement.{statement}

@@ -1,8 +1,8 @@
-use mathlib.Core.Path.{_≡_, refl, sym, ap, _∙_}
+use mathlib.Core.Path.{sym, ap, _∙_}
 use mathlib.Core.Bool.{false}
 use lib.ListN.{length}
-use Rattle.datefield.specs.declared.ReadDate.{ReadDate}
-use Rattle.writer.specs.Answers.{answer, afterwards}
+use Rattle.refusals.specs.declared.ReadDate.{ReadDate}
+use Rattle.puts.specs.Answers.{answer, afterwards}
 use Rattle.answers.specs.Answer.{levelLine}
 use borrow.Author.Needs.{needs}
 use Rattle.answers.proofs.write_level_answer.Statement.{statement}
@@ -12,21 +12,6 @@ use Rattle.answers.proofs.write_level_answer.Lts as lts
 use Rattle.answers.proofs.write_level_date.Reads as write-level-date-reads
 use Rattle.answers.proofs.write_refused.Reads as write-refused-reads
 
-enum-known-r : tie.Need-enum-known-r
-enum-known-r c = search needs
-
-write-level-date-requires : tie.Need-write-level-date-requires
-write-level-date-requires c κs = search needs
-
-enum-known-r-2 : tie.Need-enum-known-r-2
-enum-known-r-2 c = search needs
-
-write-refused-requires : tie.Need-write-refused-requires
-write-refused-requires c κs = search needs
-
-same-length : tie.Need-same-length
-same-length c = search needs
-
 returns : tie.Need-returns
 returns c =
     let b2 = c .before .before in
@@ -35,9 +20,6 @@ returns c =
     let e = sym (b5 .r .given .1) in
     let q = b2 .write-level-date .ensures in
     (q .0 ∙ ap (λ (x : ReadDate). answer false (levelLine x) (length (s .args .out .now))) e, q .1 ∙ ap (λ (x : ReadDate). afterwards false (levelLine x) (s .args .out .now)) e)
-
-same-length-2 : tie.Need-same-length-2
-same-length-2 c = search needs
 
 returns-2 : tie.Need-returns-2
 unfolding levelLine
@@ -53,11 +35,11 @@ pub write-level-answer-spec : {M : Type 1} → statement M
 write-level-answer-spec =
     tie.close
     (tie.spec
-    enum-known-r
-    write-level-date-requires
-    enum-known-r-2
-    write-refused-requires
-    same-length
+    (λ c. search needs)
+    (λ c κs. search needs)
+    (λ c. search needs)
+    (λ c κs. search needs)
+    (λ c. search needs)
     returns
-    same-length-2
+    (λ c. search needs)
     returns-2)

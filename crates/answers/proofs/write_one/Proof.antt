@@ -11,9 +11,6 @@ use borrow.Author.Needs.{needs}
 use Rattle.answers.proofs.write_one.Statement.{statement}
 use Rattle.answers.proofs.write_one.Tie as tie
 
-end-length-requires : tie.Need-end-length-requires
-end-length-requires c κs = search needs
-
 add-is-short : tie.Need-add-is-short
 add-is-short c =
     let s = c .before .before .before in
@@ -23,9 +20,6 @@ is-short-requires : tie.Need-is-short-requires
 is-short-requires c κs =
     let s = c .before .before .before in
     omega (arith, c .end-length .ensures, end-most (s .args .level))
-
-no-room-requires : tie.Need-no-room-requires
-no-room-requires c κs = search needs
 
 returns : tie.Need-returns
 returns c =
@@ -51,9 +45,6 @@ put-one-requires c κs =
     let h = ltb-false (length (a .out .now)) (2 * (3 + endLength (a .level) + length t) + 1) (e ∙ sym (i .is-short .ensures) ∙ g .if1 .left) in
     omega (arith, length-one (a .level) (a .shape) (a .marks) (a .d) t, h)
 
-same-length : tie.Need-same-length
-same-length c = search needs
-
 returns-2 : tie.Need-returns-2
 returns-2 c =
     let g = c .before .before .before .before in
@@ -70,11 +61,11 @@ pub write-one-spec : {M : Type 1} → statement M
 write-one-spec =
     tie.close
     (tie.spec
-    end-length-requires
+    (λ c κs. search needs)
     add-is-short
     is-short-requires
-    no-room-requires
+    (λ c κs. search needs)
     returns
     put-one-requires
-    same-length
+    (λ c. search needs)
     returns-2)

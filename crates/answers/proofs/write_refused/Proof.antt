@@ -1,4 +1,3 @@
-use mathlib.Core.Path.{_≡_, refl, sym, ap, _∙_}
 use native.Mathlib.Omega.{arith}
 use Rattle.answers.specs.Answer.{refusedBytes, refusedLine}
 use Rattle.answers.proofs.Digits.{length-line, length-refused}
@@ -11,21 +10,12 @@ use Rattle.answers.proofs.write_refused.Lts as lts
 use Rattle.answers.proofs.no_room.Reads as no-room-reads
 use Rattle.answers.proofs.put_refused.Reads as put-refused-reads
 
-no-room-requires : tie.Need-no-room-requires
-no-room-requires c κs = search needs
-
 returns : tie.Need-returns
 returns c =
     let s = c .before .before .before in
     let l = length-refused (s .args .e) in
     let n = length-line (refusedBytes (s .args .e)) in
     no-line (refusedLine (s .args .e)) (s .args .out .now) (omega (arith, l, n)) (c .no-room .ensures)
-
-put-refused-requires : tie.Need-put-refused-requires
-put-refused-requires c κs = search needs
-
-same-length : tie.Need-same-length
-same-length c = search needs
 
 returns-2 : tie.Need-returns-2
 returns-2 c =
@@ -37,4 +27,4 @@ returns-2 c =
 
 pub write-refused-spec : {M : Type 1} → statement M
 write-refused-spec =
-    tie.close (tie.spec no-room-requires returns put-refused-requires same-length returns-2)
+    tie.close (tie.spec (λ c κs. search needs) returns (λ c κs. search needs) (λ c. search needs) returns-2)

@@ -11,9 +11,6 @@ use borrow.Author.Needs.{needs}
 use Rattle.answers.proofs.write_two.Statement.{statement}
 use Rattle.answers.proofs.write_two.Tie as tie
 
-end-length-requires : tie.Need-end-length-requires
-end-length-requires c κs = search needs
-
 mul-is-short : tie.Need-mul-is-short
 mul-is-short c =
     let s = c .before .before .before in
@@ -28,9 +25,6 @@ is-short-requires : tie.Need-is-short-requires
 is-short-requires c κs =
     let s = c .before .before .before in
     omega (arith, c .end-length .ensures, end-most (s .args .level))
-
-no-room-requires : tie.Need-no-room-requires
-no-room-requires c κs = search needs
 
 returns : tie.Need-returns
 returns c =
@@ -56,9 +50,6 @@ put-two-requires c κs =
     let h = ltb-false (length (a .out .now)) (2 * (3 + 2 * endLength (a .level) + length t) + 1) (e ∙ sym (i .is-short .ensures) ∙ g .if1 .left) in
     omega (arith, length-two (a .level) (a .marks) (a .a) (a .b) t, h)
 
-same-length : tie.Need-same-length
-same-length c = search needs
-
 returns-2 : tie.Need-returns-2
 returns-2 c =
     let g = c .before .before .before .before in
@@ -75,12 +66,12 @@ pub write-two-spec : {M : Type 1} → statement M
 write-two-spec =
     tie.close
     (tie.spec
-    end-length-requires
+    (λ c κs. search needs)
     mul-is-short
     add-is-short
     is-short-requires
-    no-room-requires
+    (λ c κs. search needs)
     returns
     put-two-requires
-    same-length
+    (λ c. search needs)
     returns-2)

@@ -1,23 +1,14 @@
-use mathlib.Core.Path.{_≡_, refl, sym, ap, _∙_}
+use mathlib.Core.Path.{refl, sym, ap, _∙_}
 use mathlib.Core.Bool.{false}
 use mathlib.Core.List.{List}
 use Prim.Native.Nat.{ℕ}
 use lib.Seq.{length-take-le}
 use lib.ListN.{length}
-use Rattle.writer.specs.Answers.{answer, afterwards}
+use Rattle.puts.specs.Answers.{answer, afterwards}
 use Rattle.answers.proofs.Lines.{date-line, no-date-line}
 use borrow.Author.Needs.{needs}
 use Rattle.answers.proofs.write_with_text.Statement.{statement}
 use Rattle.answers.proofs.write_with_text.Tie as tie
-
-slice-aggregate-write-text : tie.Need-slice-aggregate-write-text
-slice-aggregate-write-text c = search needs
-
-write-text-requires : tie.Need-write-text-requires
-write-text-requires c κs = search needs
-
-enum-known-n : tie.Need-enum-known-n
-enum-known-n c = search needs
 
 array-share-prefix-text : tie.Need-array-share-prefix-text
 array-share-prefix-text c =
@@ -33,18 +24,6 @@ slice-aggregate-write-accepted c =
     let s = w .before .before .before in
     sym (length-take-le _ _ (date-line (s .args .d) (w .write-text .ensures .1 .1) _ refl (w .write-text .ensures .0) (w .write-text .ensures .1 .0) (k .n .given .1) .0))
 
-write-accepted-requires : tie.Need-write-accepted-requires
-write-accepted-requires c κs = search needs
-
-enum-known-e : tie.Need-enum-known-e
-enum-known-e c = search needs
-
-write-refused-requires : tie.Need-write-refused-requires
-write-refused-requires c κs = search needs
-
-same-length : tie.Need-same-length
-same-length c = search needs
-
 returns : tie.Need-returns
 returns c =
     let r = c .before .before in
@@ -54,9 +33,6 @@ returns c =
     let l = date-line (s .args .d) (w .write-text .ensures .1 .1) _ refl (w .write-text .ensures .0) (w .write-text .ensures .1 .0) (k .n .given .1) .1 in
     let q = r .write-accepted .ensures in
     (q .0 ∙ ap (λ (t : List ℕ). answer false t (length (s .args .out .now))) l, q .1 ∙ ap (λ (t : List ℕ). afterwards false t (s .args .out .now)) l)
-
-same-length-2 : tie.Need-same-length-2
-same-length-2 c = search needs
 
 returns-2 : tie.Need-returns-2
 returns-2 c =
@@ -72,15 +48,15 @@ pub write-with-text-spec : {M : Type 1} → statement M
 write-with-text-spec =
     tie.close
     (tie.spec
-    slice-aggregate-write-text
-    write-text-requires
-    enum-known-n
+    (λ c. search needs)
+    (λ c κs. search needs)
+    (λ c. search needs)
     array-share-prefix-text
     slice-aggregate-write-accepted
-    write-accepted-requires
-    enum-known-e
-    write-refused-requires
-    same-length
+    (λ c κs. search needs)
+    (λ c. search needs)
+    (λ c κs. search needs)
+    (λ c. search needs)
     returns
-    same-length-2
+    (λ c. search needs)
     returns-2)

@@ -5,21 +5,6 @@ use borrow.Author.Needs.{needs}
 use Rattle.chars.proofs.decode.Statement.{statement}
 use Rattle.chars.proofs.decode.Tie as tie
 
-char-len-requires : tie.Need-char-len-requires
-char-len-requires c κs = search needs
-
-wide-requires : tie.Need-wide-requires
-wide-requires c κs = search needs
-
-two-requires : tie.Need-two-requires
-two-requires c κs = search needs
-
-three-requires : tie.Need-three-requires
-three-requires c κs = search needs
-
-four-requires : tie.Need-four-requires
-four-requires c κs = search needs
-
 returns : tie.Need-returns
 unfolding decode pick
 returns c =
@@ -58,11 +43,11 @@ pub decode-spec : {M : Type 1} → statement M
 decode-spec =
     tie.close
     (tie.spec
-    char-len-requires
-    wide-requires
-    two-requires
-    three-requires
-    four-requires
+    (λ c κs. search needs)
+    (λ c κs. search needs)
+    (λ c κs. search needs)
+    (λ c κs. search needs)
+    (λ c κs. search needs)
     returns
     returns-2
     returns-3

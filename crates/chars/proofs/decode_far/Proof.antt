@@ -5,30 +5,6 @@ use borrow.Author.Needs.{needs}
 use Rattle.chars.proofs.decode_far.Statement.{statement}
 use Rattle.chars.proofs.decode_far.Tie as tie
 
-shared-slice-read-decode : tie.Need-shared-slice-read-decode
-shared-slice-read-decode c = omega arith
-
-add-byte-at : tie.Need-add-byte-at
-add-byte-at c = omega arith
-
-byte-at-requires : tie.Need-byte-at-requires
-byte-at-requires c κs = search needs
-
-add-byte-at-2 : tie.Need-add-byte-at-2
-add-byte-at-2 c = omega arith
-
-byte-at-requires-2 : tie.Need-byte-at-requires-2
-byte-at-requires-2 c κs = search needs
-
-add-byte-at-3 : tie.Need-add-byte-at-3
-add-byte-at-3 c = omega arith
-
-byte-at-requires-3 : tie.Need-byte-at-requires-3
-byte-at-requires-3 c κs = search needs
-
-decode-requires : tie.Need-decode-requires
-decode-requires c κs = search needs
-
 returns : tie.Need-returns
 returns c =
     let b1 = c .before in
@@ -45,13 +21,13 @@ pub decode-far-spec : {M : Type 1} → statement M
 decode-far-spec =
     tie.close
     (tie.spec
-    shared-slice-read-decode
-    add-byte-at
-    byte-at-requires
-    add-byte-at-2
-    byte-at-requires-2
-    add-byte-at-3
-    byte-at-requires-3
-    decode-requires
+    (λ c. omega arith)
+    (λ c. omega arith)
+    (λ c κs. search needs)
+    (λ c. omega arith)
+    (λ c κs. search needs)
+    (λ c. omega arith)
+    (λ c κs. search needs)
+    (λ c κs. search needs)
     returns
     returns-2)

@@ -9,9 +9,6 @@ returns : tie.Need-returns
 unfolding digitOf pick
 returns c = simp (lt-ltb _ _ (c .if1 .taken))
 
-wide-requires : tie.Need-wide-requires
-wide-requires c κs = search needs
-
 returns-2 : tie.Need-returns-2
 unfolding digitOf pick
 returns-2 c = simp (le-ltb _ _ (c .before .before .if1 .left), lt-ltb _ _ (c .before .if2 .taken), ← c .wide .ensures)
@@ -21,4 +18,4 @@ unfolding digitOf pick
 returns-3 c = simp (le-ltb _ _ (c .before .if1 .left), le-ltb _ _ (c .if2 .left))
 
 pub digit-spec : {M : Type 1} → statement M
-digit-spec = tie.close (tie.spec returns wide-requires returns-2 returns-3)
+digit-spec = tie.close (tie.spec returns (λ c κs. search needs) returns-2 returns-3)

@@ -5,27 +5,6 @@ use borrow.Author.Needs.{needs}
 use Rattle.chars.proofs.four.Statement.{statement}
 use Rattle.chars.proofs.four.Tie as tie
 
-is-cont-requires : tie.Need-is-cont-requires
-is-cont-requires c κs = search needs
-
-is-cont-requires-2 : tie.Need-is-cont-requires-2
-is-cont-requires-2 c κs = search needs
-
-is-cont-requires-3 : tie.Need-is-cont-requires-3
-is-cont-requires-3 c κs = search needs
-
-head4-requires : tie.Need-head4-requires
-head4-requires c κs = search needs
-
-join-requires : tie.Need-join-requires
-join-requires c κs = search needs
-
-join-requires-2 : tie.Need-join-requires-2
-join-requires-2 c κs = search needs
-
-join-requires-3 : tie.Need-join-requires-3
-join-requires-3 c κs = search needs
-
 returns : tie.Need-returns
 unfolding four pick
 returns c =
@@ -101,13 +80,13 @@ pub four-spec : {M : Type 1} → statement M
 four-spec =
     tie.close
     (tie.spec
-    is-cont-requires
-    is-cont-requires-2
-    is-cont-requires-3
-    head4-requires
-    join-requires
-    join-requires-2
-    join-requires-3
+    (λ c κs. search needs)
+    (λ c κs. search needs)
+    (λ c κs. search needs)
+    (λ c κs. search needs)
+    (λ c κs. search needs)
+    (λ c κs. search needs)
+    (λ c κs. search needs)
     returns
     returns-2
     returns-3

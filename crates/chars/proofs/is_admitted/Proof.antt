@@ -8,9 +8,6 @@ returns : tie.Need-returns
 unfolding isAdmitted
 returns c = simp (le-leb _ _ (c .if1 .taken))
 
-within-requires : tie.Need-within-requires
-within-requires c κs = search needs
-
 returns-2 : tie.Need-returns-2
 unfolding isAdmitted
 returns-2 c =
@@ -18,4 +15,4 @@ returns-2 c =
     simp (lt-leb _ _ (b1 .if1 .left), ← c .within .ensures)
 
 pub is-admitted-spec : {M : Type 1} → statement M
-is-admitted-spec = tie.close (tie.spec returns within-requires returns-2)
+is-admitted-spec = tie.close (tie.spec returns (λ c κs. search needs) returns-2)

@@ -4,9 +4,6 @@ use borrow.Author.Needs.{needs}
 use Rattle.chars.proofs.is_alphabetic.Statement.{statement}
 use Rattle.chars.proofs.is_alphabetic.Tie as tie
 
-is-ascii-alphabetic-requires : tie.Need-is-ascii-alphabetic-requires
-is-ascii-alphabetic-requires c κs = search needs
-
 returns : tie.Need-returns
 unfolding isAlphabetic
 returns c =
@@ -37,9 +34,6 @@ returns-4 c =
     let b4 = b3 .before in
     simp (← b4 .is-ascii-alphabetic .ensures, b3 .if1 .left, ne-eqb _ _ (b2 .if2 .left), ne-eqb _ _ (b1 .if3 .left), eq-eqb _ _ (c .if4 .taken))
 
-within-requires : tie.Need-within-requires
-within-requires c κs = search needs
-
 returns-5 : tie.Need-returns-5
 unfolding isAlphabetic
 returns-5 c =
@@ -50,9 +44,6 @@ returns-5 c =
     let b5 = b4 .before in
     let b6 = b5 .before in
     simp (← b6 .is-ascii-alphabetic .ensures, b5 .if1 .left, ne-eqb _ _ (b4 .if2 .left), ne-eqb _ _ (b3 .if3 .left), ne-eqb _ _ (b2 .if4 .left), ← b1 .within .ensures, c .if5 .taken)
-
-within-requires-2 : tie.Need-within-requires-2
-within-requires-2 c κs = search needs
 
 returns-6 : tie.Need-returns-6
 unfolding isAlphabetic
@@ -66,9 +57,6 @@ returns-6 c =
     let b7 = b6 .before in
     let b8 = b7 .before in
     simp (← b8 .is-ascii-alphabetic .ensures, b7 .if1 .left, ne-eqb _ _ (b6 .if2 .left), ne-eqb _ _ (b5 .if3 .left), ne-eqb _ _ (b4 .if4 .left), ← b3 .within .ensures, b2 .if5 .left, ← b1 .within2 .ensures, c .if6 .taken)
-
-within-requires-3 : tie.Need-within-requires-3
-within-requires-3 c κs = search needs
 
 returns-7 : tie.Need-returns-7
 unfolding isAlphabetic
@@ -88,14 +76,14 @@ pub is-alphabetic-spec : {M : Type 1} → statement M
 is-alphabetic-spec =
     tie.close
     (tie.spec
-    is-ascii-alphabetic-requires
+    (λ c κs. search needs)
     returns
     returns-2
     returns-3
     returns-4
-    within-requires
+    (λ c κs. search needs)
     returns-5
-    within-requires-2
+    (λ c κs. search needs)
     returns-6
-    within-requires-3
+    (λ c κs. search needs)
     returns-7)

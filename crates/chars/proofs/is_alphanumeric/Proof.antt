@@ -3,17 +3,11 @@ use borrow.Author.Needs.{needs}
 use Rattle.chars.proofs.is_alphanumeric.Statement.{statement}
 use Rattle.chars.proofs.is_alphanumeric.Tie as tie
 
-is-alphabetic-requires : tie.Need-is-alphabetic-requires
-is-alphabetic-requires c κs = search needs
-
 returns : tie.Need-returns
 unfolding isAlphanumeric
 returns c =
     let b1 = c .before in
     simp (← b1 .is-alphabetic .ensures, c .if1 .taken)
-
-is-numeric-requires : tie.Need-is-numeric-requires
-is-numeric-requires c κs = search needs
 
 returns-2 : tie.Need-returns-2
 unfolding isAlphanumeric
@@ -24,4 +18,4 @@ returns-2 c =
 
 pub is-alphanumeric-spec : {M : Type 1} → statement M
 is-alphanumeric-spec =
-    tie.close (tie.spec is-alphabetic-requires returns is-numeric-requires returns-2)
+    tie.close (tie.spec (λ c κs. search needs) returns (λ c κs. search needs) returns-2)

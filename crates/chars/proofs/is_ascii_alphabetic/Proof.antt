@@ -3,17 +3,11 @@ use borrow.Author.Needs.{needs}
 use Rattle.chars.proofs.is_ascii_alphabetic.Statement.{statement}
 use Rattle.chars.proofs.is_ascii_alphabetic.Tie as tie
 
-within-requires : tie.Need-within-requires
-within-requires c κs = search needs
-
 returns : tie.Need-returns
 unfolding isAsciiAlphabetic
 returns c =
     let b1 = c .before in
     simp (← b1 .within .ensures, c .if1 .taken)
-
-within-requires-2 : tie.Need-within-requires-2
-within-requires-2 c κs = search needs
 
 returns-2 : tie.Need-returns-2
 unfolding isAsciiAlphabetic
@@ -23,4 +17,4 @@ returns-2 c =
     simp (← b2 .within .ensures, b1 .if1 .left, ← c .within2 .ensures)
 
 pub is-ascii-alphabetic-spec : {M : Type 1} → statement M
-is-ascii-alphabetic-spec = tie.close (tie.spec within-requires returns within-requires-2 returns-2)
+is-ascii-alphabetic-spec = tie.close (tie.spec (λ c κs. search needs) returns (λ c κs. search needs) returns-2)

@@ -3,12 +3,9 @@ use borrow.Author.Needs.{needs}
 use Rattle.chars.proofs.is_ascii_digit.Statement.{statement}
 use Rattle.chars.proofs.is_ascii_digit.Tie as tie
 
-within-requires : tie.Need-within-requires
-within-requires c κs = search needs
-
 returns : tie.Need-returns
 unfolding isAsciiDigit
 returns c = simp (← c .within .ensures)
 
 pub is-ascii-digit-spec : {M : Type 1} → statement M
-is-ascii-digit-spec = tie.close (tie.spec within-requires returns)
+is-ascii-digit-spec = tie.close (tie.spec (λ c κs. search needs) returns)

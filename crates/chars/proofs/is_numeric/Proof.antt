@@ -4,17 +4,11 @@ use borrow.Author.Needs.{needs}
 use Rattle.chars.proofs.is_numeric.Statement.{statement}
 use Rattle.chars.proofs.is_numeric.Tie as tie
 
-is-ascii-digit-requires : tie.Need-is-ascii-digit-requires
-is-ascii-digit-requires c κs = search needs
-
 returns : tie.Need-returns
 unfolding isNumeric
 returns c =
     let b1 = c .before in
     simp (← b1 .is-ascii-digit .ensures, c .if1 .taken)
-
-within-requires : tie.Need-within-requires
-within-requires c κs = search needs
 
 returns-2 : tie.Need-returns-2
 unfolding isNumeric
@@ -33,9 +27,6 @@ returns-3 c =
     let b4 = b3 .before in
     simp (← b4 .is-ascii-digit .ensures, b3 .if1 .left, ← b2 .within .ensures, b1 .if2 .left, eq-eqb _ _ (c .if3 .taken))
 
-within-requires-2 : tie.Need-within-requires-2
-within-requires-2 c κs = search needs
-
 returns-4 : tie.Need-returns-4
 unfolding isNumeric
 returns-4 c =
@@ -50,10 +41,10 @@ pub is-numeric-spec : {M : Type 1} → statement M
 is-numeric-spec =
     tie.close
     (tie.spec
-    is-ascii-digit-requires
+    (λ c κs. search needs)
     returns
-    within-requires
+    (λ c κs. search needs)
     returns-2
     returns-3
-    within-requires-2
+    (λ c κs. search needs)
     returns-4)

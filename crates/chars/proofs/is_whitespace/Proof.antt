@@ -4,9 +4,6 @@ use borrow.Author.Needs.{needs}
 use Rattle.chars.proofs.is_whitespace.Statement.{statement}
 use Rattle.chars.proofs.is_whitespace.Tie as tie
 
-within-requires : tie.Need-within-requires
-within-requires c κs = search needs
-
 returns : tie.Need-returns
 unfolding isWhitespace
 returns c =
@@ -37,9 +34,6 @@ returns-4 c =
     let b4 = b3 .before in
     simp (← b4 .within .ensures, b3 .if1 .left, ne-eqb _ _ (b2 .if2 .left), ne-eqb _ _ (b1 .if3 .left), eq-eqb _ _ (c .if4 .taken))
 
-is-wide-space-requires : tie.Need-is-wide-space-requires
-is-wide-space-requires c κs = search needs
-
 returns-5 : tie.Need-returns-5
 unfolding isWhitespace
 returns-5 c =
@@ -54,10 +48,10 @@ pub is-whitespace-spec : {M : Type 1} → statement M
 is-whitespace-spec =
     tie.close
     (tie.spec
-    within-requires
+    (λ c κs. search needs)
     returns
     returns-2
     returns-3
     returns-4
-    is-wide-space-requires
+    (λ c κs. search needs)
     returns-5)

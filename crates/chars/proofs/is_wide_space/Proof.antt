@@ -3,16 +3,10 @@ use borrow.Author.Needs.{needs}
 use Rattle.chars.proofs.is_wide_space.Statement.{statement}
 use Rattle.chars.proofs.is_wide_space.Tie as tie
 
-within-requires : tie.Need-within-requires
-within-requires c κs = search needs
-
 returns : tie.Need-returns
 returns c =
     let b1 = c .before in
     simp (← b1 .within .ensures, c .if1 .taken)
-
-within-requires-2 : tie.Need-within-requires-2
-within-requires-2 c κs = search needs
 
 returns-2 : tie.Need-returns-2
 returns-2 c =
@@ -39,4 +33,4 @@ returns-4 c =
 
 pub is-wide-space-spec : {M : Type 1} → statement M
 is-wide-space-spec =
-    tie.close (tie.spec within-requires returns within-requires-2 returns-2 returns-3 returns-4)
+    tie.close (tie.spec (λ c κs. search needs) returns (λ c κs. search needs) returns-2 returns-3 returns-4)

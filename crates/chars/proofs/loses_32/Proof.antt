@@ -3,17 +3,11 @@ use borrow.Author.Needs.{needs}
 use Rattle.chars.proofs.loses_32.Statement.{statement}
 use Rattle.chars.proofs.loses_32.Tie as tie
 
-within-requires : tie.Need-within-requires
-within-requires c κs = search needs
-
 returns : tie.Need-returns
 unfolding loses32
 returns c =
     let b1 = c .before in
     simp (← b1 .within .ensures, c .if1 .taken)
-
-within-requires-2 : tie.Need-within-requires-2
-within-requires-2 c κs = search needs
 
 returns-2 : tie.Need-returns-2
 unfolding loses32
@@ -22,9 +16,6 @@ returns-2 c =
     let b2 = b1 .before in
     let b3 = b2 .before in
     simp (← b3 .within .ensures, b2 .if1 .left, ← b1 .within2 .ensures, c .if2 .taken)
-
-within-requires-3 : tie.Need-within-requires-3
-within-requires-3 c κs = search needs
 
 returns-3 : tie.Need-returns-3
 unfolding loses32
@@ -38,4 +29,4 @@ returns-3 c =
 pub loses-32-spec : {M : Type 1} → statement M
 loses-32-spec =
     tie.close
-    (tie.spec within-requires returns within-requires-2 returns-2 within-requires-3 returns-3)
+    (tie.spec (λ c κs. search needs) returns (λ c κs. search needs) returns-2 (λ c κs. search needs) returns-3)

@@ -5,24 +5,6 @@ use borrow.Author.Needs.{needs}
 use Rattle.chars.proofs.three.Statement.{statement}
 use Rattle.chars.proofs.three.Tie as tie
 
-is-cont-requires : tie.Need-is-cont-requires
-is-cont-requires c κs = search needs
-
-is-cont-requires-2 : tie.Need-is-cont-requires-2
-is-cont-requires-2 c κs = search needs
-
-head3-requires : tie.Need-head3-requires
-head3-requires c κs = search needs
-
-join-requires : tie.Need-join-requires
-join-requires c κs = search needs
-
-join-requires-2 : tie.Need-join-requires-2
-join-requires-2 c κs = search needs
-
-is-surrogate-requires : tie.Need-is-surrogate-requires
-is-surrogate-requires c κs = search needs
-
 returns : tie.Need-returns
 unfolding three pick
 returns c =
@@ -81,12 +63,12 @@ pub three-spec : {M : Type 1} → statement M
 three-spec =
     tie.close
     (tie.spec
-    is-cont-requires
-    is-cont-requires-2
-    head3-requires
-    join-requires
-    join-requires-2
-    is-surrogate-requires
+    (λ c κs. search needs)
+    (λ c κs. search needs)
+    (λ c κs. search needs)
+    (λ c κs. search needs)
+    (λ c κs. search needs)
+    (λ c κs. search needs)
     returns
     returns-2
     returns-3

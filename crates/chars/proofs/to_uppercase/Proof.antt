@@ -8,9 +8,6 @@ use borrow.Author.Needs.{needs}
 use Rattle.chars.proofs.to_uppercase.Statement.{statement}
 use Rattle.chars.proofs.to_uppercase.Tie as tie
 
-loses-32-requires : tie.Need-loses-32-requires
-loses-32-requires c κs = search needs
-
 sub-t3 : tie.Need-sub-t3
 sub-t3 c = omega (arith, loses-above (c .before .before .args .code) (sym (c .before .loses-32 .ensures) ∙ c .if1 .taken))
 
@@ -55,4 +52,4 @@ returns-5 c =
 
 pub to-uppercase-spec : {M : Type 1} → statement M
 to-uppercase-spec =
-    tie.close (tie.spec loses-32-requires sub-t3 returns returns-2 returns-3 returns-4 returns-5)
+    tie.close (tie.spec (λ c κs. search needs) sub-t3 returns returns-2 returns-3 returns-4 returns-5)

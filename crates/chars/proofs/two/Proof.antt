@@ -5,15 +5,6 @@ use borrow.Author.Needs.{needs}
 use Rattle.chars.proofs.two.Statement.{statement}
 use Rattle.chars.proofs.two.Tie as tie
 
-is-cont-requires : tie.Need-is-cont-requires
-is-cont-requires c κs = search needs
-
-head2-requires : tie.Need-head2-requires
-head2-requires c κs = search needs
-
-join-requires : tie.Need-join-requires
-join-requires c κs = search needs
-
 returns : tie.Need-returns
 unfolding two pick
 returns c =
@@ -40,4 +31,4 @@ returns-3 c =
 
 pub two-spec : {M : Type 1} → statement M
 two-spec =
-    tie.close (tie.spec is-cont-requires head2-requires join-requires returns returns-2 returns-3)
+    tie.close (tie.spec (λ c κs. search needs) (λ c κs. search needs) (λ c κs. search needs) returns returns-2 returns-3)

@@ -6,24 +6,12 @@ use borrow.Author.Needs.{needs}
 use Rattle.chronology.proofs.add_answer.Statement.{statement}
 use Rattle.chronology.proofs.add_answer.Tie as tie
 
-sound-requires : tie.Need-sound-requires
-sound-requires c κs = search needs
-
-refused-requires : tie.Need-refused-requires
-refused-requires c κs = search needs
-
 returns : tie.Need-returns
 returns c =
     let b1 = c .before in
     let b2 = b1 .before in
     let b4 = b2 .before .before in
     c .refused .ensures ∙ add-bad _ (b4 .args .period) (b4 .args .id) (sym (b2 .sound .ensures) ∙ not-true _ (b1 .if1 .taken))
-
-good-period-requires : tie.Need-good-period-requires
-good-period-requires c κs = search needs
-
-refused-requires-2 : tie.Need-refused-requires-2
-refused-requires-2 c κs = search needs
 
 returns-2 : tie.Need-returns-2
 returns-2 c =
@@ -41,9 +29,6 @@ find-requires c κs =
     let b6 = b4 .before .before in
     (omega arith, sound-few _ (sym (b4 .sound .ensures) ∙ not-false _ (b3 .if1 .left)), b6 .pre .of-ids)
 
-refused-requires-3 : tie.Need-refused-requires-3
-refused-requires-3 c κs = search needs
-
 returns-3 : tie.Need-returns-3
 returns-3 c =
     let b1 = c .before in
@@ -55,9 +40,6 @@ returns-3 c =
     let b9 = b7 .before .before in
     c .refused3 .ensures ∙ add-twice _ (b9 .args .period) (b9 .args .id) (sym (b7 .sound .ensures) ∙ not-false _ (b6 .if1 .left)) (sym (b5 .good-period .ensures) ∙ not-false _ (b4 .if2 .left))
     (has-it _ (b9 .args .id) (b2 .find .result) (sound-room _ (b9 .pre) (sym (b7 .sound .ensures) ∙ not-false _ (b6 .if1 .left))) (b2 .find .ensures .0) (b1 .if3 .taken))
-
-refused-requires-4 : tie.Need-refused-requires-4
-refused-requires-4 c κs = search needs
 
 returns-4 : tie.Need-returns-4
 returns-4 c =
@@ -94,16 +76,16 @@ pub add-answer-spec : {M : Type 1} → statement M
 add-answer-spec =
     tie.close
     (tie.spec
-    sound-requires
-    refused-requires
+    (λ c κs. search needs)
+    (λ c κs. search needs)
     returns
-    good-period-requires
-    refused-requires-2
+    (λ c κs. search needs)
+    (λ c κs. search needs)
     returns-2
     find-requires
-    refused-requires-3
+    (λ c κs. search needs)
     returns-3
-    refused-requires-4
+    (λ c κs. search needs)
     returns-4
     add-t13
     returns-5)

@@ -6,12 +6,6 @@ use borrow.Author.Needs.{needs}
 use Rattle.chronology.proofs.add_entry.Statement.{statement}
 use Rattle.chronology.proofs.add_entry.Tie as tie
 
-add-answer-requires : tie.Need-add-answer-requires
-add-answer-requires c κs = search needs
-
-enum-known-n : tie.Need-enum-known-n
-enum-known-n c = search needs
-
 rank-requires : tie.Need-rank-requires
 rank-requires c κs =
     let b6 = c .before .before .before .before .before .before in
@@ -27,18 +21,6 @@ insert-row-requires c κs =
     let b19 = b13 .before .before .before .before .before .before in
     (b4 .rank .ensures .1, omega (arith, add-says _ _ _ _ (sym (b13 .add-answer .ensures) ∙ b11 .n .given .1) .not-full), b19 .pre .of-firsts, b19 .pre .of-lasts, b19 .pre .of-ids)
 
-enum-known-e : tie.Need-enum-known-e
-enum-known-e c = search needs
-
-same-length : tie.Need-same-length
-same-length c = search needs
-
-same-length-2 : tie.Need-same-length-2
-same-length-2 c = search needs
-
-same-length-3 : tie.Need-same-length-3
-same-length-3 c = search needs
-
 returns : tie.Need-returns
 returns c =
     let b4 = c .before .before .before .before in
@@ -52,15 +34,6 @@ returns c =
     let r = b4 .insert-row .ensures in
     (sym q, add-leaves _ p (b24 .args .id) q (entry-is p (b24 .args .id) (record { sfits = b14 .struct-told .given .0 .1 }) (record { sfits = b14 .struct-told .given .1 .0 .1 })) (b9 .rank .ensures .0) (r .0) (r .1) (r .2))
 
-same-length-4 : tie.Need-same-length-4
-same-length-4 c = search needs
-
-same-length-5 : tie.Need-same-length-5
-same-length-5 c = search needs
-
-same-length-6 : tie.Need-same-length-6
-same-length-6 c = search needs
-
 returns-2 : tie.Need-returns-2
 returns-2 c =
     let b1 = c .before in
@@ -71,16 +44,16 @@ pub add-entry-spec : {M : Type 1} → statement M
 add-entry-spec =
     tie.close
     (tie.spec
-    add-answer-requires
-    enum-known-n
+    (λ c κs. search needs)
+    (λ c. search needs)
     rank-requires
     insert-row-requires
-    enum-known-e
-    same-length
-    same-length-2
-    same-length-3
+    (λ c. search needs)
+    (λ c. search needs)
+    (λ c. search needs)
+    (λ c. search needs)
     returns
-    same-length-4
-    same-length-5
-    same-length-6
+    (λ c. search needs)
+    (λ c. search needs)
+    (λ c. search needs)
     returns-2)

@@ -1,34 +1,38 @@
 use mathlib.Core.Path.{sym, ap, _∙_}
 use mathlib.Core.Bool.{not}
 use Prim.Native.Nat.{ℕ}
-use native.Mathlib.Omega.{arith}
 use lib.ListN.{getD}
-use Rattle.chronology.proofs.Marks.{unmarked, searched}
+use Rattle.chronology.proofs.Marks.{unmarked, unmarked-other}
 use borrow.Author.Needs.{needs}
 use Rattle.chronology.proofs.alone.Statement.{statement}
 use Rattle.chronology.proofs.alone.Tie as tie
 
-mark-of-requires : tie.Need-mark-of-requires
-mark-of-requires c κs = search needs
-
-element-copy-out-if1 : tie.Need-element-copy-out-if1
-element-copy-out-if1 c = search needs
-
 returns : tie.Need-returns
 returns c =
-    let b = c .before .before in
-    let s = b .before .before in
-    let m = s .args .marks .now in
-    sym (ap not (unmarked m _ (s .args .id) (s .pre .3) (ap (λ (k : ℕ). getD m k 0) (sym (b .mark-of .ensures .0)) ∙ c .if1 .taken)))
-
-find-requires : tie.Need-find-requires
-find-requires c κs = search needs
+    let b2 = c .before .before in
+    let b4 = b2 .before .before in
+    let m = b4 .args .marks .now in
+    sym (ap not (unmarked m _ (b4 .args .id) (b4 .pre .3) (ap (λ (k : ℕ). getD m k 0) (sym (b2 .mark-of .ensures .0)) ∙ c .if1 .taken)))
 
 returns-2 : tie.Need-returns-2
 returns-2 c =
-    let s = c .before .before .before .before .before in
-    searched (s .args .marks .now) (s .args .ids .now) (s .args .count) (s .args .from) (s .args .id) _ (s .pre .0) (omega arith) (c .find .ensures .0)
+    let b2 = c .before .before in
+    let b7 = b2 .before .before .before .before .before in
+    let m = b7 .args .marks .now in
+    sym (ap not (unmarked-other m _ (b7 .args .id) (b7 .pre .3) (ap (λ (k : ℕ). getD m k 0) (sym (b2 .other-mark-of .ensures .0)) ∙ c .if2 .taken)))
+
+returns-3 : tie.Need-returns-3
+returns-3 c = ap not (c .occurs .ensures)
 
 pub alone-spec : {M : Type 1} → statement M
 alone-spec =
-    tie.close (tie.spec mark-of-requires element-copy-out-if1 returns find-requires returns-2)
+    tie.close
+    (tie.spec
+    (λ c κs. search needs)
+    (λ c. search needs)
+    returns
+    (λ c κs. search needs)
+    (λ c. search needs)
+    returns-2
+    (λ c κs. search needs)
+    returns-3)

@@ -6,24 +6,12 @@ use borrow.Author.Needs.{needs}
 use Rattle.chronology.proofs.asked_entries.Statement.{statement}
 use Rattle.chronology.proofs.asked_entries.Tie as tie
 
-sound-requires : tie.Need-sound-requires
-sound-requires c κs = search needs
-
-untold-requires : tie.Need-untold-requires
-untold-requires c κs = search needs
-
 returns : tie.Need-returns
 returns c =
     let b1 = c .before in
     let b2 = b1 .before in
     let b4 = b2 .before .before in
     c .untold .ensures ∙ reply-bad _ (b4 .args .period) (sym (b2 .sound .ensures) ∙ not-true _ (b1 .if1 .taken))
-
-good-period-requires : tie.Need-good-period-requires
-good-period-requires c κs = search needs
-
-untold-requires-2 : tie.Need-untold-requires-2
-untold-requires-2 c κs = search needs
 
 returns-2 : tie.Need-returns-2
 returns-2 c =
@@ -54,11 +42,11 @@ pub asked-entries-spec : {M : Type 1} → statement M
 asked-entries-spec =
     tie.close
     (tie.spec
-    sound-requires
-    untold-requires
+    (λ c κs. search needs)
+    (λ c κs. search needs)
     returns
-    good-period-requires
-    untold-requires-2
+    (λ c κs. search needs)
+    (λ c κs. search needs)
     returns-2
     walk-requires
     returns-3)

@@ -5,9 +5,6 @@ use borrow.Author.Needs.{needs}
 use Rattle.chronology.proofs.before_next.Statement.{statement}
 use Rattle.chronology.proofs.before_next.Tie as tie
 
-add-if1 : tie.Need-add-if1
-add-if1 c = omega arith
-
 entry-at-requires : tie.Need-entry-at-requires
 entry-at-requires c κs =
     let s = c .before .before .before in (omega arith, s .pre .2 .of-firsts, s .pre .2 .of-lasts, s .pre .2 .of-ids)
@@ -18,9 +15,6 @@ add-entry-at c = let s = c .before .before .before .before in omega arith
 entry-at-requires-2 : tie.Need-entry-at-requires-2
 entry-at-requires-2 c κs =
     let s = c .before .before .before .before in (omega arith, s .pre .2 .of-firsts, s .pre .2 .of-lasts, s .pre .2 .of-ids)
-
-precedes-requires : tie.Need-precedes-requires
-precedes-requires c κs = search needs
 
 returns : tie.Need-returns
 returns c =
@@ -37,10 +31,10 @@ pub before-next-spec : {M : Type 1} → statement M
 before-next-spec =
     tie.close
     (tie.spec
-    add-if1
+    (λ c. omega arith)
     entry-at-requires
     add-entry-at
     entry-at-requires-2
-    precedes-requires
+    (λ c κs. search needs)
     returns
     returns-2)

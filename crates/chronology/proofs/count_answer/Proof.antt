@@ -4,17 +4,11 @@ use borrow.Author.Needs.{needs}
 use Rattle.chronology.proofs.count_answer.Statement.{statement}
 use Rattle.chronology.proofs.count_answer.Tie as tie
 
-sound-requires : tie.Need-sound-requires
-sound-requires c κs = search needs
-
 returns : tie.Need-returns
 returns c =
     let b1 = c .before in
     let b2 = b1 .before in
     count-done _ (sym (b2 .sound .ensures) ∙ b1 .if1 .taken)
-
-refused-requires : tie.Need-refused-requires
-refused-requires c κs = search needs
 
 returns-2 : tie.Need-returns-2
 returns-2 c =
@@ -23,4 +17,4 @@ returns-2 c =
     c .refused .ensures ∙ count-bad _ (sym (b2 .sound .ensures) ∙ b1 .if1 .left)
 
 pub count-answer-spec : {M : Type 1} → statement M
-count-answer-spec = tie.close (tie.spec sound-requires returns refused-requires returns-2)
+count-answer-spec = tie.close (tie.spec (λ c κs. search needs) returns (λ c κs. search needs) returns-2)

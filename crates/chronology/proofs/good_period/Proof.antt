@@ -5,17 +5,11 @@ use Rattle.chronology.proofs.Signs.{period-first, period-last, period-b
 use Rattle.chronology.proofs.good_period.Statement.{statement}
 use Rattle.chronology.proofs.good_period.Tie as tie
 
-in-span-requires : tie.Need-in-span-requires
-in-span-requires c κs = search needs
-
 returns : tie.Need-returns
 returns c =
     let t = c .before .before in
     period-first (t .before .before .args .period) (record { sfits = t .before .struct-told .given .0 .1 }) (record { sfits = t .struct-told2 .given .1 .0 .1 })
     (sym (c .before .in-span .ensures) ∙ not-true _ (c .if1 .taken))
-
-in-span-requires-2 : tie.Need-in-span-requires-2
-in-span-requires-2 c κs = search needs
 
 returns-2 : tie.Need-returns-2
 returns-2 c =
@@ -33,4 +27,4 @@ returns-3 c =
 
 pub good-period-spec : {M : Type 1} → statement M
 good-period-spec =
-    tie.close (tie.spec in-span-requires returns in-span-requires-2 returns-2 returns-3)
+    tie.close (tie.spec (λ c κs. search needs) returns (λ c κs. search needs) returns-2 returns-3)

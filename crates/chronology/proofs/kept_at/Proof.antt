@@ -10,9 +10,6 @@ entry-at-requires : tie.Need-entry-at-requires
 entry-at-requires c κs =
     let s = c .before in (omega arith, s .pre .2 .of-firsts, s .pre .2 .of-lasts, s .pre .2 .of-ids)
 
-good-days-requires : tie.Need-good-days-requires
-good-days-requires c κs = search needs
-
 before-next-requires : tie.Need-before-next-requires
 before-next-requires c κs = let s = c .before .before .before .before in (s .pre .0, s .pre .1, s .pre .2)
 
@@ -53,7 +50,7 @@ kept-at-spec =
     tie.close
     (tie.spec
     entry-at-requires
-    good-days-requires
+    (λ c κs. search needs)
     before-next-requires
     add-alone
     alone-requires

@@ -6,12 +6,6 @@ use borrow.Author.Needs.{needs}
 use Rattle.chronology.proofs.list_answer.Statement.{statement}
 use Rattle.chronology.proofs.list_answer.Tie as tie
 
-sound-requires : tie.Need-sound-requires
-sound-requires c κs = search needs
-
-refused-requires : tie.Need-refused-requires
-refused-requires c κs = search needs
-
 returns : tie.Need-returns
 returns c =
     let b1 = c .before in
@@ -32,9 +26,6 @@ returns-2 c =
     let b5 = b3 .before .before in
     list-done _ (b5 .args .room) (sym (b3 .sound .ensures) ∙ not-false _ (b2 .if1 .left)) (c .if2 .taken)
 
-refused-requires-2 : tie.Need-refused-requires-2
-refused-requires-2 c κs = search needs
-
 returns-3 : tie.Need-returns-3
 returns-3 c =
     let b1 = c .before in
@@ -47,10 +38,10 @@ pub list-answer-spec : {M : Type 1} → statement M
 list-answer-spec =
     tie.close
     (tie.spec
-    sound-requires
-    refused-requires
+    (λ c κs. search needs)
+    (λ c κs. search needs)
     returns
     mul-if2
     returns-2
-    refused-requires-2
+    (λ c κs. search needs)
     returns-3)

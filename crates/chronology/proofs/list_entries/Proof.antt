@@ -4,24 +4,12 @@ use borrow.Author.Needs.{needs}
 use Rattle.chronology.proofs.list_entries.Statement.{statement}
 use Rattle.chronology.proofs.list_entries.Tie as tie
 
-list-answer-requires : tie.Need-list-answer-requires
-list-answer-requires c κs = search needs
-
-enum-known-n : tie.Need-enum-known-n
-enum-known-n c = search needs
-
 put-entries-requires : tie.Need-put-entries-requires
 put-entries-requires c κs =
     let b2 = c .before .before in
     let b4 = b2 .before .before in
     let b6 = b4 .before .before in
     let w = list-says _ _ _ (sym (b4 .list-answer .ensures) ∙ b2 .n .given .1) in (sound-few _ (w .0), b6 .pre, w .1)
-
-enum-known-e : tie.Need-enum-known-e
-enum-known-e c = search needs
-
-same-length : tie.Need-same-length
-same-length c = search needs
 
 returns : tie.Need-returns
 returns c =
@@ -41,10 +29,10 @@ pub list-entries-spec : {M : Type 1} → statement M
 list-entries-spec =
     tie.close
     (tie.spec
-    list-answer-requires
-    enum-known-n
+    (λ c κs. search needs)
+    (λ c. search needs)
     put-entries-requires
-    enum-known-e
-    same-length
+    (λ c. search needs)
+    (λ c. search needs)
     returns
     returns-2)

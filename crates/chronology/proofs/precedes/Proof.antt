@@ -3,12 +3,6 @@ use Rattle.chronology.proofs.Signs.{precedes-is}
 use Rattle.chronology.proofs.precedes.Statement.{statement}
 use Rattle.chronology.proofs.precedes.Tie as tie
 
-sooner-requires : tie.Need-sooner-requires
-sooner-requires c κs = search needs
-
-sooner-requires-2 : tie.Need-sooner-requires-2
-sooner-requires-2 c κs = search needs
-
 returns : tie.Need-returns
 returns c =
     let t = c .before .before .before in
@@ -20,4 +14,4 @@ returns c =
     (t .sooner .ensures) (c .sooner2 .ensures)
 
 pub precedes-spec : {M : Type 1} → statement M
-precedes-spec = tie.close (tie.spec sooner-requires sooner-requires-2 returns)
+precedes-spec = tie.close (tie.spec (λ c κs. search needs) (λ c κs. search needs) returns)

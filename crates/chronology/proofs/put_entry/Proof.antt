@@ -8,38 +8,14 @@ use Rattle.chronology.proofs.put_entry.Tie as tie
 cast-out : tie.Need-cast-out
 cast-out c = wider (c .before .before .args .e .first) (record { sfits = c .struct-told .given .0 .1 })
 
-mul-out : tie.Need-mul-out
-mul-out c = search needs
-
-slice-set-from-out : tie.Need-slice-set-from-out
-slice-set-from-out c = search needs
-
 cast-out-2 : tie.Need-cast-out-2
 cast-out-2 c = wider (c .before .before .before .before .args .e .last) (record { sfits = c .struct-told2 .given .1 .0 .1 })
-
-add-out : tie.Need-add-out
-add-out c = search needs
-
-mul-out-2 : tie.Need-mul-out-2
-mul-out-2 c = search needs
 
 slice-set-from-out-2 : tie.Need-slice-set-from-out-2
 slice-set-from-out-2 c = simp length-set (omega arith)
 
-cast-out-3 : tie.Need-cast-out-3
-cast-out-3 c = search needs
-
-add-t7 : tie.Need-add-t7
-add-t7 c = search needs
-
-mul-t5 : tie.Need-mul-t5
-mul-t5 c = search needs
-
 slice-set-from-out-3 : tie.Need-slice-set-from-out-3
 slice-set-from-out-3 c = simp length-set (omega arith)
-
-same-length : tie.Need-same-length
-same-length c = search needs
 
 returns : tie.Need-returns
 returns c =
@@ -55,15 +31,15 @@ put-entry-spec =
     tie.close
     (tie.spec
     cast-out
-    mul-out
-    slice-set-from-out
+    (λ c. search needs)
+    (λ c. search needs)
     cast-out-2
-    add-out
-    mul-out-2
+    (λ c. search needs)
+    (λ c. search needs)
     slice-set-from-out-2
-    cast-out-3
-    add-t7
-    mul-t5
+    (λ c. search needs)
+    (λ c. search needs)
+    (λ c. search needs)
     slice-set-from-out-3
-    same-length
+    (λ c. search needs)
     returns)

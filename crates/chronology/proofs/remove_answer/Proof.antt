@@ -6,12 +6,6 @@ use borrow.Author.Needs.{needs}
 use Rattle.chronology.proofs.remove_answer.Statement.{statement}
 use Rattle.chronology.proofs.remove_answer.Tie as tie
 
-sound-requires : tie.Need-sound-requires
-sound-requires c κs = search needs
-
-refused-requires : tie.Need-refused-requires
-refused-requires c κs = search needs
-
 returns : tie.Need-returns
 returns c =
     let b1 = c .before in
@@ -26,9 +20,6 @@ find-requires c κs =
     let b4 = b2 .before .before in
     (omega arith, sound-few _ (sym (b2 .sound .ensures) ∙ not-false _ (b1 .if1 .left)), b4 .pre .of-ids)
 
-sub-t13 : tie.Need-sub-t13
-sub-t13 c = search needs
-
 returns-2 : tie.Need-returns-2
 returns-2 c =
     let b1 = c .before in
@@ -37,9 +28,6 @@ returns-2 c =
     let b6 = b4 .before .before in
     remove-done _ (b6 .args .id) (sym (b4 .sound .ensures) ∙ not-false _ (b3 .if1 .left))
     (has-it _ (b6 .args .id) (b1 .find .result) (sound-room _ (b6 .pre) (sym (b4 .sound .ensures) ∙ not-false _ (b3 .if1 .left))) (b1 .find .ensures .0) (c .if2 .taken))
-
-refused-requires-2 : tie.Need-refused-requires-2
-refused-requires-2 c κs = search needs
 
 returns-3 : tie.Need-returns-3
 returns-3 c =
@@ -55,11 +43,11 @@ pub remove-answer-spec : {M : Type 1} → statement M
 remove-answer-spec =
     tie.close
     (tie.spec
-    sound-requires
-    refused-requires
+    (λ c κs. search needs)
+    (λ c κs. search needs)
     returns
     find-requires
-    sub-t13
+    (λ c. search needs)
     returns-2
-    refused-requires-2
+    (λ c κs. search needs)
     returns-3)

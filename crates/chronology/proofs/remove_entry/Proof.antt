@@ -5,12 +5,6 @@ use borrow.Author.Needs.{needs}
 use Rattle.chronology.proofs.remove_entry.Statement.{statement}
 use Rattle.chronology.proofs.remove_entry.Tie as tie
 
-remove-answer-requires : tie.Need-remove-answer-requires
-remove-answer-requires c κs = search needs
-
-enum-known-left : tie.Need-enum-known-left
-enum-known-left c = search needs
-
 find-requires : tie.Need-find-requires
 find-requires c κs =
     let b3 = c .before .before .before in
@@ -27,18 +21,6 @@ remove-row-requires c κs =
     let w = remove-says _ _ _ (sym (b9 .remove-answer .ensures) ∙ b7 .left .given .1) in
     (place-found _ (b15 .args .id) (sound-room _ (b15 .pre) (w .was-sound)) (w .id-there) (b3 .find .ensures .0), sound-few _ (w .was-sound), b15 .pre .of-firsts, b15 .pre .of-lasts, b15 .pre .of-ids)
 
-enum-known-e : tie.Need-enum-known-e
-enum-known-e c = search needs
-
-same-length : tie.Need-same-length
-same-length c = search needs
-
-same-length-2 : tie.Need-same-length-2
-same-length-2 c = search needs
-
-same-length-3 : tie.Need-same-length-3
-same-length-3 c = search needs
-
 returns : tie.Need-returns
 returns c =
     let b4 = c .before .before .before .before in
@@ -50,15 +32,6 @@ returns c =
     let r = b4 .remove-row .ensures in
     (sym q, remove-leaves _ (b20 .args .id) (b20 .pre) q (b8 .find .ensures .0) (r .0) (r .1) (r .2))
 
-same-length-4 : tie.Need-same-length-4
-same-length-4 c = search needs
-
-same-length-5 : tie.Need-same-length-5
-same-length-5 c = search needs
-
-same-length-6 : tie.Need-same-length-6
-same-length-6 c = search needs
-
 returns-2 : tie.Need-returns-2
 returns-2 c =
     let b1 = c .before in
@@ -69,16 +42,16 @@ pub remove-entry-spec : {M : Type 1} → statement M
 remove-entry-spec =
     tie.close
     (tie.spec
-    remove-answer-requires
-    enum-known-left
+    (λ c κs. search needs)
+    (λ c. search needs)
     find-requires
     remove-row-requires
-    enum-known-e
-    same-length
-    same-length-2
-    same-length-3
+    (λ c. search needs)
+    (λ c. search needs)
+    (λ c. search needs)
+    (λ c. search needs)
     returns
-    same-length-4
-    same-length-5
-    same-length-6
+    (λ c. search needs)
+    (λ c. search needs)
+    (λ c. search needs)
     returns-2)

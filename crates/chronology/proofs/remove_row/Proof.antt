@@ -23,60 +23,6 @@ loop-holds : tie.Need-loop-holds Inv-loop μ-loop
 loop-holds c =
     (omega arith, c .pre .0, (begun (pos 0) (c .args .firsts .now) (c .args .at), refl), (begun (pos 0) (c .args .lasts .now) (c .args .at), refl), (begun 0 (c .args .ids .now) (c .args .at), refl))
 
-add-loop : tie.Need-add-loop Inv-loop μ-loop
-add-loop c = omega arith
-
-add-firsts : tie.Need-add-firsts Inv-loop μ-loop
-add-firsts c = omega arith
-
-mul-firsts : tie.Need-mul-firsts Inv-loop μ-loop
-mul-firsts c = omega arith
-
-slice-copy-out-firsts : tie.Need-slice-copy-out-firsts Inv-loop μ-loop
-slice-copy-out-firsts c = omega arith
-
-mul-lasts : tie.Need-mul-lasts Inv-loop μ-loop
-mul-lasts c = omega arith
-
-slice-set-from-lasts : tie.Need-slice-set-from-lasts Inv-loop μ-loop
-slice-set-from-lasts c = omega arith
-
-add-lasts : tie.Need-add-lasts Inv-loop μ-loop
-add-lasts c = omega arith
-
-mul-lasts-2 : tie.Need-mul-lasts-2 Inv-loop μ-loop
-mul-lasts-2 c = omega arith
-
-slice-copy-out-lasts : tie.Need-slice-copy-out-lasts Inv-loop μ-loop
-slice-copy-out-lasts c = omega arith
-
-mul-t9 : tie.Need-mul-t9 Inv-loop μ-loop
-mul-t9 c = omega arith
-
-slice-set-from-lasts-2 : tie.Need-slice-set-from-lasts-2 Inv-loop μ-loop
-slice-set-from-lasts-2 c = omega arith
-
-add-ids : tie.Need-add-ids Inv-loop μ-loop
-add-ids c = omega arith
-
-mul-ids : tie.Need-mul-ids Inv-loop μ-loop
-mul-ids c = omega arith
-
-slice-read-ids : tie.Need-slice-read-ids Inv-loop μ-loop
-slice-read-ids c = omega arith
-
-mul-ids-2 : tie.Need-mul-ids-2 Inv-loop μ-loop
-mul-ids-2 c = omega arith
-
-slice-write-ids : tie.Need-slice-write-ids Inv-loop μ-loop
-slice-write-ids c = omega arith
-
-add-i : tie.Need-add-i Inv-loop μ-loop
-add-i c = omega arith
-
-loop-less : tie.Need-loop-less Inv-loop μ-loop
-loop-less c = omega arith
-
 loop-again : tie.Need-loop-again Inv-loop μ-loop
 loop-again c =
     let l = c .before .before .before .before in
@@ -119,24 +65,24 @@ remove-row-spec =
     Inv-loop
     μ-loop
     loop-holds
-    add-loop
-    add-firsts
-    mul-firsts
-    slice-copy-out-firsts
-    mul-lasts
-    slice-set-from-lasts
-    add-lasts
-    mul-lasts-2
-    slice-copy-out-lasts
-    mul-t9
-    slice-set-from-lasts-2
-    add-ids
-    mul-ids
-    slice-read-ids
-    mul-ids-2
-    slice-write-ids
-    add-i
-    loop-less
+    (λ c. omega arith)
+    (λ c. omega arith)
+    (λ c. omega arith)
+    (λ c. omega arith)
+    (λ c. omega arith)
+    (λ c. omega arith)
+    (λ c. omega arith)
+    (λ c. omega arith)
+    (λ c. omega arith)
+    (λ c. omega arith)
+    (λ c. omega arith)
+    (λ c. omega arith)
+    (λ c. omega arith)
+    (λ c. omega arith)
+    (λ c. omega arith)
+    (λ c. omega arith)
+    (λ c. omega arith)
+    (λ c. omega arith)
     loop-again
     same-length
     same-length-2

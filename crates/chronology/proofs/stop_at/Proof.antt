@@ -25,9 +25,6 @@ entry-at-requires : tie.Need-entry-at-requires Inv-loop μ-loop
 entry-at-requires c κs =
     (omega arith, c .before .before .before .pre .1 .of-firsts, c .before .before .before .pre .1 .of-lasts, c .before .before .before .pre .1 .of-ids)
 
-stops-requires : tie.Need-stops-requires Inv-loop μ-loop
-stops-requires c κs = search needs
-
 returns : tie.Need-returns Inv-loop μ-loop
 unfolding stopAt
 returns c =
@@ -39,9 +36,6 @@ returns c =
 add-i : tie.Need-add-i Inv-loop μ-loop
 add-i c =
     omega arith
-
-loop-less : tie.Need-loop-less Inv-loop μ-loop
-loop-less c = omega arith
 
 loop-again : tie.Need-loop-again Inv-loop μ-loop
 unfolding stopAt
@@ -66,9 +60,9 @@ stop-at-spec =
     μ-loop
     loop-holds
     entry-at-requires
-    stops-requires
+    (λ c κs. search needs)
     returns
     add-i
-    loop-less
+    (λ c. omega arith)
     loop-again
     returns-2)

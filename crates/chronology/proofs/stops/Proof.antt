@@ -3,9 +3,6 @@ use Rattle.chronology.proofs.Signs.{stop-touch, stop-after}
 use Rattle.chronology.proofs.stops.Statement.{statement}
 use Rattle.chronology.proofs.stops.Tie as tie
 
-touches-requires : tie.Need-touches-requires
-touches-requires c κs = search needs
-
 returns : tie.Need-returns
 returns c =
     let s = c .before .before in
@@ -19,4 +16,4 @@ returns-2 c =
     (record { sfits = c .struct-told2 .given .0 .1 }) (b .before .touches .ensures) (b .if1 .left)
 
 pub stops-spec : {M : Type 1} → statement M
-stops-spec = tie.close (tie.spec touches-requires returns returns-2)
+stops-spec = tie.close (tie.spec (λ c κs. search needs) returns returns-2)

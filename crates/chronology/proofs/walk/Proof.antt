@@ -6,15 +6,9 @@ use borrow.Author.Needs.{needs}
 use Rattle.chronology.proofs.walk.Statement.{statement}
 use Rattle.chronology.proofs.walk.Tie as tie
 
-stop-at-requires : tie.Need-stop-at-requires
-stop-at-requires c κs = search needs
-
 entry-at-requires : tie.Need-entry-at-requires
 entry-at-requires c κs =
     let s = c .before .before .before .before in (omega arith, s .pre .1 .of-firsts, s .pre .1 .of-lasts, s .pre .1 .of-ids)
-
-touches-requires : tie.Need-touches-requires
-touches-requires c κs = search needs
 
 add-t11 : tie.Need-add-t11
 add-t11 c = let t = c .before .before in omega arith
@@ -36,4 +30,4 @@ returns-2 c =
 pub walk-spec : {M : Type 1} → statement M
 walk-spec =
     tie.close
-    (tie.spec stop-at-requires entry-at-requires touches-requires add-t11 returns returns-2)
+    (tie.spec (λ c κs. search needs) entry-at-requires (λ c κs. search needs) add-t11 returns returns-2)

@@ -5,12 +5,6 @@ use borrow.Author.Needs.{needs}
 use Rattle.chunks.proofs.check.Statement.{statement}
 use Rattle.chunks.proofs.check.Tie as tie
 
-fits-requires : tie.Need-fits-requires
-fits-requires c κs = search needs
-
-is-short-requires : tie.Need-is-short-requires
-is-short-requires c κs = search needs
-
 check-characters-requires : tie.Need-check-characters-requires
 check-characters-requires c κs = sym (c .before .before .before .fits2 .ensures) ∙ c .before .before .if1 .taken
 
@@ -23,9 +17,6 @@ returns c =
     let b4 = b3 .before in
     simp (← b4 .fits2 .ensures, b3 .if1 .taken, ← b2 .is-short .ensures, b1 .if2 .taken, ← c .check-characters .ensures)
 
-refused-requires : tie.Need-refused-requires
-refused-requires c κs = search needs
-
 returns-2 : tie.Need-returns-2
 unfolding checked pick
 returns-2 c =
@@ -33,27 +24,24 @@ returns-2 c =
     let b2 = b1 .before in
     let b3 = b2 .before in
     let b4 = b3 .before in
-    simp (← b4 .fits2 .ensures, b3 .if1 .taken, ← b2 .is-short .ensures, b1 .if2 .left, ← c .refused .ensures)
-
-refused-requires-2 : tie.Need-refused-requires-2
-refused-requires-2 c κs = search needs
+    simp (← b4 .fits2 .ensures, b3 .if1 .taken, ← b2 .is-short .ensures, b1 .if2 .left, ← c .nowhere .ensures)
 
 returns-3 : tie.Need-returns-3
 unfolding checked pick
 returns-3 c =
     let b1 = c .before in
     let b2 = b1 .before in
-    simp (← b2 .fits2 .ensures, b1 .if1 .left, ← c .refused2 .ensures)
+    simp (← b2 .fits2 .ensures, b1 .if1 .left, ← c .nowhere2 .ensures)
 
 pub check-spec : {M : Type 1} → statement M
 check-spec =
     tie.close
     (tie.spec
-    fits-requires
-    is-short-requires
+    (λ c κs. search needs)
+    (λ c κs. search needs)
     check-characters-requires
     returns
-    refused-requires
+    (λ c κs. search needs)
     returns-2
-    refused-requires-2
+    (λ c κs. search needs)
     returns-3)

@@ -11,7 +11,7 @@ use Rattle.chunks.proofs.Faults.{fault-high, fault-bad, fault-end, faul
 use mathlib.Core.List.{List}
 use native.Mathlib.Nat.{add-zero}
 use lib.ListN.{length, take, drop, getD}
-use Prim.Native.Nat.{_+_, _-_, _≤_, _<_, ℕ}
+use Prim.Native.Nat.{_+_, _-_, _≤_, ℕ}
 use borrow.Author.Needs.{needs}
 use native.Mathlib.Omega.{arith}
 use mathlib.Core.Path.{sym, _∙_, refl, _≡_}
@@ -86,9 +86,6 @@ module _ (c : tie.After-code Inv-characters μ-characters Inv-chunks μ-chunks) 
 chunks-holds : tie.Need-chunks-holds Inv-characters μ-characters Inv-chunks μ-chunks
 chunks-holds c = record { none = refl; same = refl; stands = standing-start _ _ (c .before .before .pre) }
 
-add-len : tie.Need-add-len Inv-characters μ-characters Inv-chunks μ-chunks
-add-len c = omega arith
-
 mul-len : tie.Need-mul-len Inv-characters μ-characters Inv-chunks μ-chunks
 mul-len c = omega (arith, whole (st c) (c .chunks-test .taken))
 
@@ -99,20 +96,11 @@ shared-slice-read-len c = omega (arith, whole (st (c .before)) (c .before .chunk
 add-t : tie.Need-add-t Inv-characters μ-characters Inv-chunks μ-chunks
 add-t c = omega (arith, sums (st (c .before)) (c .before .chunks-test .taken))
 
-sub-t : tie.Need-sub-t Inv-characters μ-characters Inv-chunks μ-chunks
-sub-t c = omega arith
-
-part-t-start : tie.Need-part-t-start Inv-characters μ-characters Inv-chunks μ-chunks
-part-t-start c = omega arith
-
 part-t-end : tie.Need-part-t-end Inv-characters μ-characters Inv-chunks μ-chunks
 part-t-end c = omega (arith, sums (st (c .before)) (c .before .chunks-test .taken))
 
 characters-holds : tie.Need-characters-holds Inv-characters μ-characters Inv-chunks μ-chunks
 characters-holds c = record { none = c .before .before .before .chunks .inv .none; same = rw add-zero refl; inside = omega arith }
-
-decode-at-requires : tie.Need-decode-at-requires Inv-characters μ-characters Inv-chunks μ-chunks
-decode-at-requires c κs = search needs
 
 enum-known-code : tie.Need-enum-known-code Inv-characters μ-characters Inv-chunks μ-chunks
 enum-known-code c = c .match .keys1
@@ -206,15 +194,15 @@ check-characters-spec =
     Inv-chunks
     μ-chunks
     chunks-holds
-    add-len
+    (λ c. omega arith)
     mul-len
     shared-slice-read-len
     add-t
-    sub-t
-    part-t-start
+    (λ c. omega arith)
+    (λ c. omega arith)
     part-t-end
     characters-holds
-    decode-at-requires
+    (λ c κs. search needs)
     enum-known-code
     is-admitted-requires
     add-i

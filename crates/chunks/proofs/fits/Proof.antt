@@ -4,9 +4,6 @@ use borrow.Author.Needs.{needs}
 use Rattle.chunks.proofs.fits.Statement.{statement}
 use Rattle.chunks.proofs.fits.Tie as tie
 
-lengths-fit-requires : tie.Need-lengths-fit-requires
-lengths-fit-requires c κs = search needs
-
 returns : tie.Need-returns
 unfolding fits
 returns c =
@@ -18,4 +15,4 @@ unfolding fits
 returns-2 c = simp (ne-eqb _ _ (c .if1 .left))
 
 pub fits-spec : {M : Type 1} → statement M
-fits-spec = tie.close (tie.spec lengths-fit-requires returns returns-2)
+fits-spec = tie.close (tie.spec (λ c κs. search needs) returns returns-2)

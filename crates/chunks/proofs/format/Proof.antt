@@ -8,29 +8,17 @@ use borrow.Author.Needs.{needs}
 use Rattle.chunks.proofs.format.Statement.{statement}
 use Rattle.chunks.proofs.format.Tie as tie
 
-is-plain-requires : tie.Need-is-plain-requires
-is-plain-requires c κs = search needs
-
-add-if2 : tie.Need-add-if2
-add-if2 c = omega arith
-
-refused-requires : tie.Need-refused-requires
-refused-requires c κs = search needs
-
 returns : tie.Need-returns
 returns c =
     let a = c .before .before .before .before .before .before .before .args in
     let p = plainly (a .bytes .now) (a .table .now) (of-plain (a .bytes .now) (a .table .now) (sym (c .before .before .before .is-plain .ensures) ∙ c .before .before .if1 .taken)) in
-    no-room (a .bytes .now) (a .table .now) (a .upper) (a .buf .now) (p .clean) (omega (arith, p .room)) (c .refused .ensures)
+    no-room (a .bytes .now) (a .table .now) (a .upper) (a .buf .now) (p .clean) (omega (arith, p .room)) (c .nowhere .ensures)
 
 put-plain-requires : tie.Need-put-plain-requires
 put-plain-requires c κs =
     let a = c .before .before .before .before .before .before .before .args in
     let p = of-plain (a .bytes .now) (a .table .now) (sym (c .before .before .before .is-plain .ensures) ∙ c .before .before .if1 .taken) in
     (omega arith, p .ascii)
-
-same-length : tie.Need-same-length
-same-length c = search needs
 
 returns-2 : tie.Need-returns-2
 returns-2 c =
@@ -40,26 +28,17 @@ returns-2 c =
     let t = p .text (a .upper) in
     texted (a .bytes .now) (a .table .now) (a .upper) (a .buf .now) _ _ (p .clean) (omega (arith, p .room)) (e .0 ∙ ap length (sym t)) (e .1 ∙ ap (sets (a .buf .now) 0) (sym t))
 
-format-any-requires : tie.Need-format-any-requires
-format-any-requires c κs = search needs
-
-same-length-2 : tie.Need-same-length-2
-same-length-2 c = search needs
-
-returns-3 : tie.Need-returns-3
-returns-3 c = search needs
-
 pub format-spec : {M : Type 1} → statement M
 format-spec =
     tie.close
     (tie.spec
-    is-plain-requires
-    add-if2
-    refused-requires
+    (λ c κs. search needs)
+    (λ c. omega arith)
+    (λ c κs. search needs)
     returns
     put-plain-requires
-    same-length
+    (λ c. search needs)
     returns-2
-    format-any-requires
-    same-length-2
-    returns-3)
+    (λ c κs. search needs)
+    (λ c. search needs)
+    (λ c. search needs))

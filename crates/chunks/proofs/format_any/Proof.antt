@@ -9,52 +9,31 @@ use borrow.Author.Needs.{needs}
 use Rattle.chunks.proofs.format_any.Statement.{statement}
 use Rattle.chunks.proofs.format_any.Tie as tie
 
-check-requires : tie.Need-check-requires
-check-requires c κs = search needs
-
 enum-known-e : tie.Need-enum-known-e
 enum-known-e c = c .match .keys1
 
 enum-told : tie.Need-enum-told
 enum-told c = c .match .keys2
 
-mul-if1 : tie.Need-mul-if1
-mul-if1 c = omega arith
-
-add-if1 : tie.Need-add-if1
-add-if1 c = omega arith
-
-refused-requires : tie.Need-refused-requires
-refused-requires c κs = search needs
-
 returns : tie.Need-returns
 returns c =
     let a = c .before .before .before .before .before .before .before .before .args in
-    no-room (a .bytes .now) (a .table .now) (a .upper) (a .buf .now) (sym (c .before .before .before .before .check .ensures) ∙ c .before .before .enum-told .given .1) (omega (arith, room-is (a .bytes .now) (a .table .now))) (c .refused .ensures)
+    no-room (a .bytes .now) (a .table .now) (a .upper) (a .buf .now) (sym (c .before .before .before .before .check .ensures) ∙ c .before .before .enum-told .given .1) (omega (arith, room-is (a .bytes .now) (a .table .now))) (c .nowhere .ensures)
 
 put-list-requires : tie.Need-put-list-requires
 put-list-requires c κs =
     let a = c .before .before .before .before .before .before .before .before .args in
     (clean-fits (a .bytes .now) (a .table .now) (sym (c .before .before .before .before .check .ensures) ∙ c .before .before .enum-told .given .1), omega (arith, room-is (a .bytes .now) (a .table .now)))
 
-slice-relend-prefix-upper-all : tie.Need-slice-relend-prefix-upper-all
-slice-relend-prefix-upper-all c = search needs
-
 slice-aggregate-upper-all : tie.Need-slice-aggregate-upper-all
 slice-aggregate-upper-all c =
     let e = c .before .before .before .before .put-list .ensures in
     sym (length-take-le _ _ (omega (arith, e .2, c .before .before .before .before .put-list .kept .1 .1 .0)))
 
-upper-all-requires : tie.Need-upper-all-requires
-upper-all-requires c κs = search needs
-
 returns-2 : tie.Need-returns-2
 returns-2 c =
     let a = c .before .before .before .before .before .before .before .args in
     faulted (a .bytes .now) (a .table .now) (a .upper) (a .buf .now) (sym (c .before .before .before .check .ensures) ∙ c .before .e .given .1)
-
-same-length : tie.Need-same-length
-same-length c = search needs
 
 returns-3 : tie.Need-returns-3
 returns-3 c =
@@ -67,9 +46,6 @@ returns-3 c =
     let n = upper-same b t h in
     texted b t (a .upper) (a .buf .now) _ _ h (omega (arith, room-is b t)) (e .0 ∙ sym (same-long b t (a .upper) h))
     (raised (a .buf .now) _ _ (formatted b t) _ (e .0) (omega (arith, e .0, e .2)) (e .1) n (c .before .before .upper-all .ensures) ∙ ap (sets (a .buf .now) 0) (sym up))
-
-same-length-2 : tie.Need-same-length-2
-same-length-2 c = search needs
 
 returns-4 : tie.Need-returns-4
 returns-4 c =
@@ -85,19 +61,19 @@ pub format-any-spec : {M : Type 1} → statement M
 format-any-spec =
     tie.close
     (tie.spec
-    check-requires
+    (λ c κs. search needs)
     enum-known-e
     enum-told
-    mul-if1
-    add-if1
-    refused-requires
+    (λ c. omega arith)
+    (λ c. omega arith)
+    (λ c κs. search needs)
     returns
     put-list-requires
-    slice-relend-prefix-upper-all
+    (λ c. search needs)
     slice-aggregate-upper-all
-    upper-all-requires
+    (λ c κs. search needs)
     returns-2
-    same-length
+    (λ c. search needs)
     returns-3
-    same-length-2
+    (λ c. search needs)
     returns-4)

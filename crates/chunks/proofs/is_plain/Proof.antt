@@ -5,15 +5,6 @@ use borrow.Author.Needs.{needs}
 use Rattle.chunks.proofs.is_plain.Statement.{statement}
 use Rattle.chunks.proofs.is_plain.Tie as tie
 
-shared-slice-read-if2 : tie.Need-shared-slice-read-if2
-shared-slice-read-if2 c = omega arith
-
-shared-slice-read-if3 : tie.Need-shared-slice-read-if3
-shared-slice-read-if3 c = omega arith
-
-all-ascii-requires : tie.Need-all-ascii-requires
-all-ascii-requires c κs = search needs
-
 returns : tie.Need-returns
 unfolding isPlain
 returns c =
@@ -52,9 +43,9 @@ pub is-plain-spec : {M : Type 1} → statement M
 is-plain-spec =
     tie.close
     (tie.spec
-    shared-slice-read-if2
-    shared-slice-read-if3
-    all-ascii-requires
+    (λ c. omega arith)
+    (λ c. omega arith)
+    (λ c κs. search needs)
     returns
     returns-2
     returns-3

@@ -37,14 +37,8 @@ module _ (c : tie.After-code Inv-loop μ-loop) where
 loop-holds : tie.Need-loop-holds Inv-loop μ-loop
 loop-holds c = refl
 
-decode-at-requires : tie.Need-decode-at-requires Inv-loop μ-loop
-decode-at-requires c κs = search needs
-
 enum-known-code : tie.Need-enum-known-code Inv-loop μ-loop
 enum-known-code c = c .match .keys1
-
-is-whitespace-requires : tie.Need-is-whitespace-requires Inv-loop μ-loop
-is-whitespace-requires c κs = search needs
 
 add-i : tie.Need-add-i Inv-loop μ-loop
 add-i c = let p = c .before .before in omega (arith, sees p .inside, sees p .some)
@@ -77,9 +71,9 @@ last-white-spec =
     Inv-loop
     μ-loop
     loop-holds
-    decode-at-requires
+    (λ c κs. search needs)
     enum-known-code
-    is-whitespace-requires
+    (λ c κs. search needs)
     add-i
     loop-less
     loop-again

@@ -40,12 +40,6 @@ module _ (c : tie.In-loop Inv-loop μ-loop) where
 loop-holds : tie.Need-loop-holds Inv-loop μ-loop
 loop-holds c = record { same = refl; fours = omega arith; inside = omega arith }
 
-mul-kind : tie.Need-mul-kind Inv-loop μ-loop
-mul-kind c = omega arith
-
-shared-slice-read-kind : tie.Need-shared-slice-read-kind Inv-loop μ-loop
-shared-slice-read-kind c = omega arith
-
 returns : tie.Need-returns Inv-loop μ-loop
 returns c = let p = c .before .before in sym (kind-unknown (table p) (k p) (left p) (whole p) (c .if1 .taken)) ∙ v p .same
 
@@ -86,8 +80,8 @@ lengths-fit-spec =
     Inv-loop
     μ-loop
     loop-holds
-    mul-kind
-    shared-slice-read-kind
+    (λ c. omega arith)
+    (λ c. omega arith)
     returns
     add-len
     mul-len

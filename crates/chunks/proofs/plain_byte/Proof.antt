@@ -5,9 +5,6 @@ use borrow.Author.Tests.{le-leb, lt-leb}
 use Rattle.chunks.proofs.plain_byte.Statement.{statement}
 use Rattle.chunks.proofs.plain_byte.Tie as tie
 
-sub-result : tie.Need-sub-result
-sub-result c = omega arith
-
 returns : tie.Need-returns
 unfolding plainByte pick
 returns c =
@@ -33,4 +30,4 @@ unfolding plainByte pick
 returns-4 c = simp (c .if1 .left)
 
 pub plain-byte-spec : {M : Type 1} → statement M
-plain-byte-spec = tie.close (tie.spec sub-result returns returns-2 returns-3 returns-4)
+plain-byte-spec = tie.close (tie.spec (λ c. omega arith) returns returns-2 returns-3 returns-4)

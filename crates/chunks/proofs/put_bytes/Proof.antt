@@ -18,20 +18,11 @@ abbrev μ-loop : tie.MeasureT-loop
 loop-holds : tie.Need-loop-holds Inv-loop μ-loop
 loop-holds c = (fill-start _ _ _, omega arith)
 
-shared-slice-read-buf : tie.Need-shared-slice-read-buf Inv-loop μ-loop
-shared-slice-read-buf c = omega arith
-
 slice-write-buf : tie.Need-slice-write-buf Inv-loop μ-loop
 slice-write-buf c = omega (arith, length-drop (c .before .before .loop .i) (c .before .before .before .args .t .now))
 
 add-m : tie.Need-add-m Inv-loop μ-loop
 add-m c = omega (arith, length-drop (c .before .before .loop .i) (c .before .before .before .args .t .now))
-
-add-i : tie.Need-add-i Inv-loop μ-loop
-add-i c = omega arith
-
-loop-less : tie.Need-loop-less Inv-loop μ-loop
-loop-less c = omega arith
 
 loop-again : tie.Need-loop-again Inv-loop μ-loop
 loop-again c = let i = c .before .before .loop .i in let t = c .before .before .before .args .t .now in (fill-put (getD t i 0 ∷ []) (rw (drop-cons t i 0 (c .before .loop-test .taken), ← add-one i) at (c .before .before .loop .inv .0)) refl refl, omega arith)
@@ -49,11 +40,11 @@ put-bytes-spec =
     Inv-loop
     μ-loop
     loop-holds
-    shared-slice-read-buf
+    (λ c. omega arith)
     slice-write-buf
     add-m
-    add-i
-    loop-less
+    (λ c. omega arith)
+    (λ c. omega arith)
     loop-again
     same-length
     returns)

@@ -40,23 +40,8 @@ module _ (c : tie.Else2) where
   unfolding chunkFlag pick
   flag2 = simp (ne-eqb _ _ (c .before .if1 .left), ne-eqb _ _ (c .if2 .left))
 
-put-normal-requires : tie.Need-put-normal-requires
-put-normal-requires c κs = search needs
-
-same-length : tie.Need-same-length
-same-length c = search needs
-
 returns : tie.Need-returns
 returns c = let e = c .before .before .before .before .if1 .taken in rw (out0 _ _ _ e, flag0 _ _ _ e) (c .before .before .put-normal .ensures)
-
-put-bytes-requires : tie.Need-put-bytes-requires
-put-bytes-requires c κs = search needs
-
-last-white-requires : tie.Need-last-white-requires
-last-white-requires c κs = search needs
-
-same-length-2 : tie.Need-same-length-2
-same-length-2 c = search needs
 
 returns-2 : tie.Need-returns-2
 returns-2 c = let p = c .before .before .before .before .before in rw (out1 p, flag1 p) (c .before .before .before .put-bytes .ensures .0, c .last-white .ensures, c .before .before .before .put-bytes .ensures .1)
@@ -72,9 +57,6 @@ put-bytes-requires-2 c κs = omega arith
 put-char-requires-2 : tie.Need-put-char-requires-2
 unfolding encode pick
 put-char-requires-2 c κs = (omega arith, omega arith)
-
-same-length-3 : tie.Need-same-length-3
-same-length-3 c = search needs
 
 returns-3 : tie.Need-returns-3
 unfolding encode pick
@@ -94,15 +76,15 @@ pub put-chunk-spec : {M : Type 1} → statement M
 put-chunk-spec =
     tie.close
     (tie.spec
-    put-normal-requires
-    same-length
+    (λ c κs. search needs)
+    (λ c. search needs)
     returns
-    put-bytes-requires
-    last-white-requires
-    same-length-2
+    (λ c κs. search needs)
+    (λ c κs. search needs)
+    (λ c. search needs)
     returns-2
     put-char-requires
     put-bytes-requires-2
     put-char-requires-2
-    same-length-3
+    (λ c. search needs)
     returns-3)

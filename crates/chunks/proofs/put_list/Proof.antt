@@ -8,7 +8,7 @@ use Rattle.chunks.proofs.Turn.{text-length, standing-start, whole, stan
 use mathlib.Core.Bool.{Bool}
 use mathlib.Core.List.{List}
 use lib.ListN.{length, take, drop, getD}
-use Prim.Native.Nat.{_+_, _-_, _*_, _≤_, _<_, ℕ}
+use Prim.Native.Nat.{_+_, _-_, _*_, _≤_, ℕ}
 use native.Mathlib.Omega.{arith}
 use mathlib.Core.Path.{ap}
 use Rattle.chunks.proofs.put_list.Statement.{statement}
@@ -51,15 +51,6 @@ loop-holds : tie.Need-loop-holds Inv-loop μ-loop
 unfolding formatted roomOf
 loop-holds c = record { fill = fill-start _ _ _; stands = standing-start _ _ (c .before .before .before .pre .0); room = omega (arith, c .before .before .before .pre .1) }
 
-mul-kind : tie.Need-mul-kind Inv-loop μ-loop
-mul-kind c = omega arith
-
-shared-slice-read-kind : tie.Need-shared-slice-read-kind Inv-loop μ-loop
-shared-slice-read-kind c = omega arith
-
-add-len : tie.Need-add-len Inv-loop μ-loop
-add-len c = omega arith
-
 mul-len : tie.Need-mul-len Inv-loop μ-loop
 mul-len c = let p = c .before in omega (arith, whole (st p) (p .loop-test .taken))
 
@@ -68,12 +59,6 @@ shared-slice-read-len c = let p = c .before .before in omega (arith, whole (st p
 
 add-put-chunk : tie.Need-add-put-chunk Inv-loop μ-loop
 add-put-chunk c = let p = c .before .before .before in omega (arith, sums (st p) (p .loop-test .taken))
-
-sub-put-chunk : tie.Need-sub-put-chunk Inv-loop μ-loop
-sub-put-chunk c = omega arith
-
-part-put-chunk-start : tie.Need-part-put-chunk-start Inv-loop μ-loop
-part-put-chunk-start c = omega arith
 
 part-put-chunk-end : tie.Need-part-put-chunk-end Inv-loop μ-loop
 part-put-chunk-end c = let p = c .before .before .before in omega (arith, sums (st p) (p .loop-test .taken))
@@ -134,14 +119,14 @@ put-list-spec =
     Inv-loop
     μ-loop
     loop-holds
-    mul-kind
-    shared-slice-read-kind
-    add-len
+    (λ c. omega arith)
+    (λ c. omega arith)
+    (λ c. omega arith)
     mul-len
     shared-slice-read-len
     add-put-chunk
-    sub-put-chunk
-    part-put-chunk-start
+    (λ c. omega arith)
+    (λ c. omega arith)
     part-put-chunk-end
     put-chunk-requires
     add-at

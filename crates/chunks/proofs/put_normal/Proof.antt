@@ -55,9 +55,6 @@ module _ (c : tie.After-code Inv-loop μ-loop) where
 loop-holds : tie.Need-loop-holds Inv-loop μ-loop
 loop-holds c = (fill-start _ _ _, refl, omega arith)
 
-decode-at-requires : tie.Need-decode-at-requires Inv-loop μ-loop
-decode-at-requires c κs = search needs
-
 enum-known-code : tie.Need-enum-known-code Inv-loop μ-loop
 enum-known-code c = c .match .keys1
 
@@ -114,7 +111,7 @@ put-normal-spec =
     Inv-loop
     μ-loop
     loop-holds
-    decode-at-requires
+    (λ c κs. search needs)
     enum-known-code
     put-one-requires
     add-i

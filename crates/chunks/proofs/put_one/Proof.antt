@@ -33,18 +33,12 @@ flag-plain : (c : tie.Else1) → let a = c .before .before .before .args in oneF
 unfolding oneFlag pick
 flag-plain c = simp (← c .before .is-break .ensures, c .if1 .left)
 
-is-break-requires : tie.Need-is-break-requires
-is-break-requires c κs = search needs
-
 returns : tie.Need-returns
 returns c = rw (dropped c) (sym (add-zero _), sym (flagged (c .before)), refl)
 
 put-char-requires : tie.Need-put-char-requires
 unfolding encode pick
 put-char-requires c κs = (omega arith, omega (arith, ap length (spaced (c .before))))
-
-same-length : tie.Need-same-length
-same-length c = search needs
 
 returns-2 : tie.Need-returns-2
 unfolding encode pick
@@ -53,12 +47,6 @@ returns-2 c = let e = c .before .before .put-char .ensures in rw (spaced (c .bef
 put-char-requires-2 : tie.Need-put-char-requires-2
 put-char-requires-2 c κs = (c .before .before .before .before .pre .0, omega (arith, ap length (plain (c .before))))
 
-is-whitespace-requires : tie.Need-is-whitespace-requires
-is-whitespace-requires c κs = search needs
-
-same-length-2 : tie.Need-same-length-2
-same-length-2 c = search needs
-
 returns-3 : tie.Need-returns-3
 returns-3 c = let e = c .before .before .before .put-char2 .ensures in let p = c .before .before .before .before .before in rw (plain p, flag-plain p) (e .0, c .is-whitespace .ensures, e .1)
 
@@ -66,12 +54,12 @@ pub put-one-spec : {M : Type 1} → statement M
 put-one-spec =
     tie.close
     (tie.spec
-    is-break-requires
+    (λ c κs. search needs)
     returns
     put-char-requires
-    same-length
+    (λ c. search needs)
     returns-2
     put-char-requires-2
-    is-whitespace-requires
-    same-length-2
+    (λ c κs. search needs)
+    (λ c. search needs)
     returns-3)

@@ -47,19 +47,10 @@ module _ (c : tie.In-loop Inv-loop μ-loop) where
 loop-holds : tie.Need-loop-holds Inv-loop μ-loop
 loop-holds c = (fill-start _ _ _, refl, omega arith, omega arith)
 
-shared-slice-read-put-plain-byte : tie.Need-shared-slice-read-put-plain-byte Inv-loop μ-loop
-shared-slice-read-put-plain-byte c = omega arith
-
 put-plain-byte-requires : tie.Need-put-plain-byte-requires Inv-loop μ-loop
 put-plain-byte-requires c κs =
     let p = c .before .before in
     (omega (arith, p .before .loop .inv .2), low p)
-
-add-i : tie.Need-add-i Inv-loop μ-loop
-add-i c = omega arith
-
-loop-less : tie.Need-loop-less Inv-loop μ-loop
-loop-less c = omega arith
 
 loop-again : tie.Need-loop-again Inv-loop μ-loop
 loop-again c =
@@ -89,10 +80,10 @@ put-plain-spec =
     Inv-loop
     μ-loop
     loop-holds
-    shared-slice-read-put-plain-byte
+    (λ c. omega arith)
     put-plain-byte-requires
-    add-i
-    loop-less
+    (λ c. omega arith)
+    (λ c. omega arith)
     loop-again
     same-length
     returns)

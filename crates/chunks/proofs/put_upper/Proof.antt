@@ -10,9 +10,6 @@ use borrow.Author.Needs.{needs}
 use Rattle.chunks.proofs.put_upper.Statement.{statement}
 use Rattle.chunks.proofs.put_upper.Tie as tie
 
-to-uppercase-requires : tie.Need-to-uppercase-requires
-to-uppercase-requires c κs = search needs
-
 enum-known-a : tie.Need-enum-known-a
 enum-known-a c = c .match .keys1
 
@@ -40,17 +37,11 @@ put-char-requires-3 c κs =
     let e = sym (p .before .before .to-uppercase .ensures) ∙ p .a2 .given .1 in
     (two-below (a .code) (p .before .before .before .before .pre .0) e .1, omega (arith, ap length (two-out (a .code) e), length-append (encode (p .a2 .given .0 .0)) (encode (p .a2 .given .0 .1 .0)), p .before .before .before .before .pre .1, c .before .before .before .put-char2 .ensures .0, c .before .before .before .put-char2 .kept .0))
 
-same-length : tie.Need-same-length
-same-length c = search needs
-
 returns : tie.Need-returns
 returns c =
     let p = c .before .before .before .before .before in
     let e = sym (p .before .before .to-uppercase .ensures) ∙ p .a .given .1 in
     rw (one-out (p .before .before .before .before .args .code) e) (c .before .before .put-char .ensures)
-
-same-length-2 : tie.Need-same-length-2
-same-length-2 c = search needs
 
 returns-2 : tie.Need-returns-2
 returns-2 c =
@@ -70,13 +61,13 @@ pub put-upper-spec : {M : Type 1} → statement M
 put-upper-spec =
     tie.close
     (tie.spec
-    to-uppercase-requires
+    (λ c κs. search needs)
     enum-known-a
     put-char-requires
     enum-known-a-2
     put-char-requires-2
     put-char-requires-3
-    same-length
+    (λ c. search needs)
     returns
-    same-length-2
+    (λ c. search needs)
     returns-2)

@@ -58,9 +58,6 @@ loop-holds : tie.Need-loop-holds Inv-loop μ-loop
 unfolding uppercase
 loop-holds c = record { fill = fill-start _ _ _; same = refl; inside = omega arith }
 
-decode-at-requires : tie.Need-decode-at-requires Inv-loop μ-loop
-decode-at-requires c κs = search needs
-
 enum-known-code : tie.Need-enum-known-code Inv-loop μ-loop
 enum-known-code c = c .match .keys1
 
@@ -119,7 +116,7 @@ upper-all-spec =
     Inv-loop
     μ-loop
     loop-holds
-    decode-at-requires
+    (λ c κs. search needs)
     enum-known-code
     put-upper-requires
     loop-less

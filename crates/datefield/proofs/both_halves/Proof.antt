@@ -3,24 +3,6 @@ use borrow.Author.Needs.{needs}
 use Rattle.datefield.proofs.both_halves.Statement.{statement}
 use Rattle.datefield.proofs.both_halves.Tie as tie
 
-first-half-requires : tie.Need-first-half-requires
-first-half-requires c κs = search needs
-
-enum-known-a : tie.Need-enum-known-a
-enum-known-a c = search needs
-
-second-half-requires : tie.Need-second-half-requires
-second-half-requires c κs = search needs
-
-enum-known-b : tie.Need-enum-known-b
-enum-known-b c = search needs
-
-enum-known-e : tie.Need-enum-known-e
-enum-known-e c = search needs
-
-enum-known-e-2 : tie.Need-enum-known-e-2
-enum-known-e-2 c = search needs
-
 returns : tie.Need-returns
 unfolding bothHalves onHalf
 returns c =
@@ -50,12 +32,12 @@ pub both-halves-spec : {M : Type 1} → statement M
 both-halves-spec =
     tie.close
     (tie.spec
-    first-half-requires
-    enum-known-a
-    second-half-requires
-    enum-known-b
-    enum-known-e
-    enum-known-e-2
+    (λ c κs. search needs)
+    (λ c. search needs)
+    (λ c κs. search needs)
+    (λ c. search needs)
+    (λ c. search needs)
+    (λ c. search needs)
     returns
     returns-2
     returns-3)

@@ -9,12 +9,6 @@ use Rattle.datefield.proofs.first_half.Tie as tie
 slice-aggregate-parse : tie.Need-slice-aggregate-parse
 slice-aggregate-parse c = sym (length-take-le _ _ (omega arith))
 
-parse-requires : tie.Need-parse-requires
-parse-requires c κs = search needs
-
-moved-requires : tie.Need-moved-requires
-moved-requires c κs = search needs
-
 returns : tie.Need-returns
 unfolding firstHalf
 returns c =
@@ -22,4 +16,4 @@ returns c =
     simp (← b1 .parse .ensures, ← c .moved .ensures)
 
 pub first-half-spec : {M : Type 1} → statement M
-first-half-spec = tie.close (tie.spec slice-aggregate-parse parse-requires moved-requires returns)
+first-half-spec = tie.close (tie.spec slice-aggregate-parse (λ c κs. search needs) (λ c κs. search needs) returns)

@@ -12,27 +12,6 @@ use Rattle.datefield.proofs.halves.Tie as tie
 slice-aggregate-is-open-range : tie.Need-slice-aggregate-is-open-range
 slice-aggregate-is-open-range c = sym (length-take-le _ _ (omega arith))
 
-is-open-range-requires : tie.Need-is-open-range-requires
-is-open-range-requires c κs = search needs
-
-add-is-open-range : tie.Need-add-is-open-range
-add-is-open-range c = omega arith
-
-sub-is-open-range : tie.Need-sub-is-open-range
-sub-is-open-range c = omega arith
-
-part-is-open-range-start : tie.Need-part-is-open-range-start
-part-is-open-range-start c = omega arith
-
-part-is-open-range-end : tie.Need-part-is-open-range-end
-part-is-open-range-end c = omega arith
-
-is-open-range-requires-2 : tie.Need-is-open-range-requires-2
-is-open-range-requires-2 c κs = search needs
-
-refuse-requires : tie.Need-refuse-requires
-refuse-requires c κs = search needs
-
 returns : tie.Need-returns
 unfolding halves onHalf pick
 returns c =
@@ -43,15 +22,6 @@ returns c =
     let a = b3 .before .before .before .before .before .args in
     let e = rw (rest (a .s .now) (a .slash + 1)) at (b3 .is-open-range2 .ensures) in
     simp (← b5 .is-open-range .ensures, ← e, b2 .if1 .taken, b1 .if2 .taken, ← c .refuse .ensures)
-
-second-half-requires : tie.Need-second-half-requires
-second-half-requires c κs = search needs
-
-enum-known-b : tie.Need-enum-known-b
-enum-known-b c = search needs
-
-enum-known-e : tie.Need-enum-known-e
-enum-known-e c = search needs
 
 returns-2 : tie.Need-returns-2
 unfolding halves onHalf pick
@@ -79,15 +49,6 @@ returns-3 c =
     let e = rw (rest (a .s .now) (a .slash + 1)) at (b6 .is-open-range2 .ensures) in
     simp (← b8 .is-open-range .ensures, ← e, b5 .if1 .taken, b4 .if2 .left, ← b3 .second-half .ensures, b1 .e .given .1)
 
-first-half-requires : tie.Need-first-half-requires
-first-half-requires c κs = search needs
-
-enum-known-a : tie.Need-enum-known-a
-enum-known-a c = search needs
-
-enum-known-e-2 : tie.Need-enum-known-e-2
-enum-known-e-2 c = search needs
-
 returns-4 : tie.Need-returns-4
 unfolding halves onHalf pick
 returns-4 c =
@@ -114,9 +75,6 @@ returns-5 c =
     let e = rw (rest (a .s .now) (a .slash + 1)) at (b6 .is-open-range2 .ensures) in
     simp (← b8 .is-open-range .ensures, ← e, b5 .if1 .left, b4 .if3 .taken, ← b3 .first-half .ensures, b1 .e2 .given .1)
 
-both-halves-requires : tie.Need-both-halves-requires
-both-halves-requires c κs = search needs
-
 returns-6 : tie.Need-returns-6
 unfolding halves onHalf pick
 returns-6 c =
@@ -133,23 +91,23 @@ halves-spec =
     tie.close
     (tie.spec
     slice-aggregate-is-open-range
-    is-open-range-requires
-    add-is-open-range
-    sub-is-open-range
-    part-is-open-range-start
-    part-is-open-range-end
-    is-open-range-requires-2
-    refuse-requires
+    (λ c κs. search needs)
+    (λ c. omega arith)
+    (λ c. omega arith)
+    (λ c. omega arith)
+    (λ c. omega arith)
+    (λ c κs. search needs)
+    (λ c κs. search needs)
     returns
-    second-half-requires
-    enum-known-b
-    enum-known-e
+    (λ c κs. search needs)
+    (λ c. search needs)
+    (λ c. search needs)
     returns-2
     returns-3
-    first-half-requires
-    enum-known-a
-    enum-known-e-2
+    (λ c κs. search needs)
+    (λ c. search needs)
+    (λ c. search needs)
     returns-4
     returns-5
-    both-halves-requires
+    (λ c κs. search needs)
     returns-6)

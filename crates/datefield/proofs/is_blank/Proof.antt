@@ -3,9 +3,6 @@ use borrow.Author.Needs.{needs}
 use Rattle.datefield.proofs.is_blank.Statement.{statement}
 use Rattle.datefield.proofs.is_blank.Tie as tie
 
-eat-whitespace-requires : tie.Need-eat-whitespace-requires
-eat-whitespace-requires c κs = search needs
-
 returns : tie.Need-returns
 unfolding isBlank
 returns c =
@@ -13,4 +10,4 @@ returns c =
     simp (← b1 .eat-whitespace .ensures)
 
 pub is-blank-spec : {M : Type 1} → statement M
-is-blank-spec = tie.close (tie.spec eat-whitespace-requires returns)
+is-blank-spec = tie.close (tie.spec (λ c κs. search needs) returns)

@@ -4,12 +4,6 @@ use borrow.Author.Tests.{eq-eqb, ne-eqb}
 use Rattle.datefield.proofs.is_dots.Statement.{statement}
 use Rattle.datefield.proofs.is_dots.Tie as tie
 
-shared-slice-read-if2 : tie.Need-shared-slice-read-if2
-shared-slice-read-if2 c = omega arith
-
-shared-slice-read-result : tie.Need-shared-slice-read-result
-shared-slice-read-result c = omega arith
-
 returns : tie.Need-returns
 unfolding isDots
 returns c =
@@ -29,4 +23,4 @@ returns-3 c = simp (ne-eqb _ _ (c .if1 .left))
 
 pub is-dots-spec : {M : Type 1} → statement M
 is-dots-spec =
-    tie.close (tie.spec shared-slice-read-if2 shared-slice-read-result returns returns-2 returns-3)
+    tie.close (tie.spec (λ c. omega arith) (λ c. omega arith) returns returns-2 returns-3)

@@ -3,17 +3,11 @@ use borrow.Author.Needs.{needs}
 use Rattle.datefield.proofs.is_open_range.Statement.{statement}
 use Rattle.datefield.proofs.is_open_range.Tie as tie
 
-is-blank-requires : tie.Need-is-blank-requires
-is-blank-requires c κs = search needs
-
 returns : tie.Need-returns
 unfolding isOpen
 returns c =
     let b1 = c .before in
     simp (← b1 .is-blank .ensures, c .if1 .taken)
-
-is-dots-requires : tie.Need-is-dots-requires
-is-dots-requires c κs = search needs
 
 returns-2 : tie.Need-returns-2
 unfolding isOpen
@@ -23,4 +17,4 @@ returns-2 c =
     simp (← b2 .is-blank .ensures, b1 .if1 .left, ← c .is-dots .ensures)
 
 pub is-open-range-spec : {M : Type 1} → statement M
-is-open-range-spec = tie.close (tie.spec is-blank-requires returns is-dots-requires returns-2)
+is-open-range-spec = tie.close (tie.spec (λ c κs. search needs) (λ c κs. search needs) returns returns-2)

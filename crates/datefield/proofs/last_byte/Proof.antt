@@ -8,15 +8,9 @@ use Rattle.datefield.proofs.last_byte.Tie as tie
 returns : tie.Need-returns
 returns c = last-none _ (c .if1 .taken)
 
-sub-result : tie.Need-sub-result
-sub-result c = omega arith
-
-shared-slice-read-result : tie.Need-shared-slice-read-result
-shared-slice-read-result c = omega arith
-
 returns-2 : tie.Need-returns-2
 unfolding lastByte
 returns-2 c = refl
 
 pub last-byte-spec : {M : Type 1} → statement M
-last-byte-spec = tie.close (tie.spec returns sub-result shared-slice-read-result returns-2)
+last-byte-spec = tie.close (tie.spec returns (λ c. omega arith) (λ c. omega arith) returns-2)

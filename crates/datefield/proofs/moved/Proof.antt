@@ -3,15 +3,6 @@ use borrow.Author.Needs.{needs}
 use Rattle.datefield.proofs.moved.Statement.{statement}
 use Rattle.datefield.proofs.moved.Tie as tie
 
-enum-known-p : tie.Need-enum-known-p
-enum-known-p c = search needs
-
-enum-known-p-2 : tie.Need-enum-known-p-2
-enum-known-p-2 c = search needs
-
-offset-requires : tie.Need-offset-requires
-offset-requires c κs = search needs
-
 returns : tie.Need-returns
 unfolding moved
 returns c =
@@ -25,4 +16,4 @@ returns-2 c =
     simp (b2 .p2 .given .1, ← c .offset .ensures)
 
 pub moved-spec : {M : Type 1} → statement M
-moved-spec = tie.close (tie.spec enum-known-p enum-known-p-2 offset-requires returns returns-2)
+moved-spec = tie.close (tie.spec (λ c. search needs) (λ c. search needs) (λ c κs. search needs) returns returns-2)

@@ -1,4 +1,4 @@
-use Rattle.strs.proofs.Trims.{trim-inside}
+use Rattle.numbers.proofs.Trims.{trim-inside}
 use lib.Seq.{length-take-le}
 use native.Mathlib.Omega.{arith}
 use mathlib.Core.Path.{sym}
@@ -8,14 +8,8 @@ use borrow.Author.Needs.{needs}
 use Rattle.datefield.proofs.parse_text.Statement.{statement}
 use Rattle.datefield.proofs.parse_text.Tie as tie
 
-trim-end-requires : tie.Need-trim-end-requires
-trim-end-requires c κs = search needs
-
 slice-aggregate-read-trimmed : tie.Need-slice-aggregate-read-trimmed
 slice-aggregate-read-trimmed c = sym (length-take-le _ _ (omega (arith, trim-inside (c .before .before .before .args .s .now), c .before .trim-end .ensures)))
-
-read-trimmed-requires : tie.Need-read-trimmed-requires
-read-trimmed-requires c κs = search needs
 
 returns : tie.Need-returns
 unfolding parseText trimmed
@@ -26,4 +20,4 @@ returns c =
 pub parse-text-spec : {M : Type 1} → statement M
 parse-text-spec =
     tie.close
-    (tie.spec trim-end-requires slice-aggregate-read-trimmed read-trimmed-requires returns)
+    (tie.spec (λ c κs. search needs) slice-aggregate-read-trimmed (λ c κs. search needs) returns)

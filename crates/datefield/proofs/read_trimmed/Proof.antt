@@ -7,26 +7,11 @@ use borrow.Author.Needs.{needs}
 use Rattle.datefield.proofs.read_trimmed.Statement.{statement}
 use Rattle.datefield.proofs.read_trimmed.Tie as tie
 
-last-byte-requires : tie.Need-last-byte-requires
-last-byte-requires c κs = search needs
-
-is-uncertain-requires : tie.Need-is-uncertain-requires
-is-uncertain-requires c κs = search needs
-
-is-approximate-requires : tie.Need-is-approximate-requires
-is-approximate-requires c κs = search needs
-
 sub-read-value : tie.Need-sub-read-value
 sub-read-value c = omega (arith, uncertain-some (c .before .before .before .before .before .args .s .now) (rw (c .before .before .before .last-byte .ensures) at (sym (c .before .before .is-uncertain .ensures) ∙ c .if1 .taken)))
 
 slice-aggregate-read-value : tie.Need-slice-aggregate-read-value
 slice-aggregate-read-value c = sym (length-take-le _ _ (omega arith))
-
-read-value-requires : tie.Need-read-value-requires
-read-value-requires c κs = search needs
-
-marked-requires : tie.Need-marked-requires
-marked-requires c κs = search needs
 
 returns : tie.Need-returns
 returns c =
@@ -42,12 +27,6 @@ sub-read-value-2 c = omega (arith, approximate-some (c .before .before .before .
 slice-aggregate-read-value-2 : tie.Need-slice-aggregate-read-value-2
 slice-aggregate-read-value-2 c = sym (length-take-le _ _ (omega arith))
 
-read-value-requires-2 : tie.Need-read-value-requires-2
-read-value-requires-2 c κs = search needs
-
-marked-requires-2 : tie.Need-marked-requires-2
-marked-requires-2 c κs = search needs
-
 returns-2 : tie.Need-returns-2
 returns-2 c =
     let a = c .before .before .before .before .before .before .before .before .before .args in
@@ -55,12 +34,6 @@ returns-2 c =
     let f = c .before .before .before .before .before .before .is-uncertain .ensures in
     let g = c .before .before .before .before .before .is-approximate .ensures in
     mark-date (a .s .now) e f g (a .span) (mark-approximate (a .s .now) e f g (c .before .before .before .before .if1 .left) (c .before .before .before .if2 .taken)) (c .before .read-value2 .ensures) (c .marked2 .ensures)
-
-read-value-requires-3 : tie.Need-read-value-requires-3
-read-value-requires-3 c κs = search needs
-
-marked-requires-3 : tie.Need-marked-requires-3
-marked-requires-3 c κs = search needs
 
 returns-3 : tie.Need-returns-3
 returns-3 c =
@@ -74,19 +47,19 @@ pub read-trimmed-spec : {M : Type 1} → statement M
 read-trimmed-spec =
     tie.close
     (tie.spec
-    last-byte-requires
-    is-uncertain-requires
-    is-approximate-requires
+    (λ c κs. search needs)
+    (λ c κs. search needs)
+    (λ c κs. search needs)
     sub-read-value
     slice-aggregate-read-value
-    read-value-requires
-    marked-requires
+    (λ c κs. search needs)
+    (λ c κs. search needs)
     returns
     sub-read-value-2
     slice-aggregate-read-value-2
-    read-value-requires-2
-    marked-requires-2
+    (λ c κs. search needs)
+    (λ c κs. search needs)
     returns-2
-    read-value-requires-3
-    marked-requires-3
+    (λ c κs. search needs)
+    (λ c κs. search needs)
     returns-3)

@@ -6,30 +6,6 @@ use borrow.Author.Needs.{needs}
 use Rattle.datefield.proofs.second_half.Statement.{statement}
 use Rattle.datefield.proofs.second_half.Tie as tie
 
-add-parse : tie.Need-add-parse
-add-parse c = omega arith
-
-sub-parse : tie.Need-sub-parse
-sub-parse c = omega arith
-
-part-parse-start : tie.Need-part-parse-start
-part-parse-start c = omega arith
-
-part-parse-end : tie.Need-part-parse-end
-part-parse-end c = omega arith
-
-parse-requires : tie.Need-parse-requires
-parse-requires c κs = search needs
-
-enum-known-d : tie.Need-enum-known-d
-enum-known-d c = search needs
-
-enum-known-e : tie.Need-enum-known-e
-enum-known-e c = search needs
-
-offset-second-requires : tie.Need-offset-second-requires
-offset-second-requires c κs = search needs
-
 returns : tie.Need-returns
 unfolding secondHalf moved
 returns c =
@@ -52,13 +28,13 @@ pub second-half-spec : {M : Type 1} → statement M
 second-half-spec =
     tie.close
     (tie.spec
-    add-parse
-    sub-parse
-    part-parse-start
-    part-parse-end
-    parse-requires
-    enum-known-d
-    enum-known-e
-    offset-second-requires
+    (λ c. omega arith)
+    (λ c. omega arith)
+    (λ c. omega arith)
+    (λ c. omega arith)
+    (λ c κs. search needs)
+    (λ c. search needs)
+    (λ c. search needs)
+    (λ c κs. search needs)
     returns
     returns-2)

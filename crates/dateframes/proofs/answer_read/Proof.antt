@@ -8,29 +8,14 @@ use Rattle.dateframes.proofs.Blocks.{left-onward, left-free, read-onwar
 use Rattle.dateframes.proofs.answer_read.Statement.{statement}
 use Rattle.dateframes.proofs.answer_read.Tie as tie
 
-add-n : tie.Need-add-n
-add-n c = omega arith
-
-slice-reshare-prefix-steps : tie.Need-slice-reshare-prefix-steps
-slice-reshare-prefix-steps c = search needs
-
 slice-aggregate-steps : tie.Need-slice-aggregate-steps
 slice-aggregate-steps c = sym (length-take-le _ _ (omega arith))
-
-steps-requires : tie.Need-steps-requires
-steps-requires c κs = search needs
 
 move-down-requires : tie.Need-move-down-requires
 move-down-requires c κs = let b = c .before .before .before in omega (arith, simp length-take at (b .steps .ensures .0))
 
 sub-t16 : tie.Need-sub-t16
 sub-t16 c = let b = c .before .before .before .before .before .before in omega (arith, simp length-take at (b .steps .ensures .0))
-
-same-length : tie.Need-same-length
-same-length c = search needs
-
-same-length-2 : tie.Need-same-length-2
-same-length-2 c = search needs
 
 returns : tie.Need-returns
 returns c =
@@ -48,12 +33,12 @@ pub answer-read-spec : {M : Type 1} → statement M
 answer-read-spec =
     tie.close
     (tie.spec
-    add-n
-    slice-reshare-prefix-steps
+    (λ c. omega arith)
+    (λ c. search needs)
     slice-aggregate-steps
-    steps-requires
+    (λ c κs. search needs)
     move-down-requires
     sub-t16
-    same-length
-    same-length-2
+    (λ c. search needs)
+    (λ c. search needs)
     returns)

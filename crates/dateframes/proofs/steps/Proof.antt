@@ -22,26 +22,11 @@ abbrev μ-loop : tie.MeasureT-loop
 loop-holds : tie.Need-loop-holds Inv-loop μ-loop
 loop-holds c = let a = c .before .before .args in (omega arith, onward-none lineAnswer 16384 (a .block .now) (a .long), refl)
 
-sub-step : tie.Need-sub-step Inv-loop μ-loop
-sub-step c = search needs
-
-part-step-start : tie.Need-part-step-start Inv-loop μ-loop
-part-step-start c = search needs
-
-part-step-end : tie.Need-part-step-end Inv-loop μ-loop
-part-step-end c = search needs
-
-step-requires : tie.Need-step-requires Inv-loop μ-loop
-step-requires c κs = search needs
-
 add-at : tie.Need-add-at Inv-loop μ-loop
 add-at c =
     let x = c .before .before .before in
     let m = x .before .before .before in
     omega (arith, stays-in (m .before .before .before .args .block .now) (m .loop .at) (x .step .ensures) (m .loop .inv .0))
-
-flush-requires : tie.Need-flush-requires Inv-loop μ-loop
-flush-requires c κs = search needs
 
 loop-less : tie.Need-loop-less Inv-loop μ-loop
 loop-less c =
@@ -59,9 +44,6 @@ loop-again c =
     let m = x .before .before .before in
     let b = m .before .before .before .args .block .now in
     (stays-in b (m .loop .at) (x .step .ensures) (m .loop .inv .0), onward-step b (m .loop .at) (x .step .ensures) (m .loop .inv .1), search needs)
-
-same-length : tie.Need-same-length Inv-loop μ-loop
-same-length c = search needs
 
 returns : tie.Need-returns Inv-loop μ-loop
 returns c =
@@ -83,13 +65,13 @@ steps-spec =
     Inv-loop
     μ-loop
     loop-holds
-    sub-step
-    part-step-start
-    part-step-end
-    step-requires
+    (λ c. search needs)
+    (λ c. search needs)
+    (λ c. search needs)
+    (λ c κs. search needs)
     add-at
-    flush-requires
+    (λ c κs. search needs)
     loop-less
     loop-again
-    same-length
+    (λ c. search needs)
     returns)

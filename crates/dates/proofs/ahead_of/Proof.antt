@@ -13,9 +13,6 @@ enum-told c = c .match .keys1
 enum-known-offset : tie.Need-enum-known-offset
 enum-known-offset c = c .match .keys2
 
-to-seconds-requires : tie.Need-to-seconds-requires
-to-seconds-requires c κs = search needs
-
 returns : tie.Need-returns
 unfolding aheadOf
 returns c = (ap aheadOf (sym (c .enum-told .given .1)), omega arith)
@@ -26,4 +23,4 @@ returns-2 c = rw (toZ-ofZ w64 (c .to-seconds .result) (record { sfits = c .to-se
 
 pub ahead-of-spec : {M : Type 1} → statement M
 ahead-of-spec =
-    tie.close (tie.spec enum-told enum-known-offset to-seconds-requires returns returns-2)
+    tie.close (tie.spec enum-told enum-known-offset (λ c κs. search needs) returns returns-2)

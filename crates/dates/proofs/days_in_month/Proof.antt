@@ -9,9 +9,6 @@ use borrow.Author.Needs.{needs}
 use Rattle.dates.proofs.days_in_month.Statement.{statement}
 use Rattle.dates.proofs.days_in_month.Tie as tie
 
-is-leap-requires : tie.Need-is-leap-requires
-is-leap-requires c κs = search needs
-
 returns : tie.Need-returns
 unfolding february
 returns c =
@@ -26,14 +23,8 @@ returns-2 c =
     let said : leapYear (s .args .year) ≡ false = sym (rw (toZ-ofZ w32 (s .args .year) (s .fits .year)) at (c .before .is-leap .ensures)) ∙ c .if2 .left in
     sym (second _ _ (c .before .before .if1 .taken) ∙ ap february said)
 
-sub-result : tie.Need-sub-result
-sub-result c = omega arith
-
 returns-3 : tie.Need-returns-3
 returns-3 c = low _ _ (c .before .if1 .left) (c .if3 .taken)
-
-add-result : tie.Need-add-result
-add-result c = omega arith
 
 returns-4 : tie.Need-returns-4
 returns-4 c = high _ _ (c .before .if3 .left) (c .if4 .taken)
@@ -45,11 +36,11 @@ pub days-in-month-spec : {M : Type 1} → statement M
 days-in-month-spec =
     tie.close
     (tie.spec
-    is-leap-requires
+    (λ c κs. search needs)
     returns
     returns-2
-    sub-result
+    (λ c. omega arith)
     returns-3
-    add-result
+    (λ c. omega arith)
     returns-4
     returns-5)

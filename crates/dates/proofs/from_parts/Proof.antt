@@ -4,9 +4,6 @@ use borrow.Author.Needs.{needs}
 use Rattle.dates.proofs.from_parts.Statement.{statement}
 use Rattle.dates.proofs.from_parts.Tie as tie
 
-in-range-requires : tie.Need-in-range-requires
-in-range-requires c κs = search needs
-
 returns : tie.Need-returns
 unfolding timeOf pick
 returns c =
@@ -20,4 +17,4 @@ returns-2 c =
     simp (← b1 .in-range .ensures, c .if1 .left)
 
 pub from-parts-spec : {M : Type 1} → statement M
-from-parts-spec = tie.close (tie.spec in-range-requires returns returns-2)
+from-parts-spec = tie.close (tie.spec (λ c κs. search needs) returns returns-2)

@@ -7,9 +7,6 @@ use borrow.Author.Needs.{needs}
 use Rattle.days.proofs.asked.Statement.{statement}
 use Rattle.days.proofs.asked.Tie as tie
 
-in-years-requires : tie.Need-in-years-requires
-in-years-requires c κs = search needs
-
 asked-year-requires : tie.Need-asked-year-requires
 asked-year-requires c κs = sym (c .before .in-years .ensures) ∙ c .if1 .taken
 
@@ -28,4 +25,4 @@ returns-2 c =
     year-out d t
 
 pub asked-spec : {M : Type 1} → statement M
-asked-spec = tie.close (tie.spec in-years-requires asked-year-requires returns returns-2)
+asked-spec = tie.close (tie.spec (λ c κs. search needs) asked-year-requires returns returns-2)

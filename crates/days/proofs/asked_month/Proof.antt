@@ -5,21 +5,6 @@ use borrow.Author.Needs.{needs}
 use Rattle.days.proofs.asked_month.Statement.{statement}
 use Rattle.days.proofs.asked_month.Tie as tie
 
-counted-requires : tie.Need-counted-requires
-counted-requires c κs = search needs
-
-days-in-month-requires : tie.Need-days-in-month-requires
-days-in-month-requires c κs = search needs
-
-enum-told : tie.Need-enum-told
-enum-told c = search needs
-
-cast-t8 : tie.Need-cast-t8
-cast-t8 c = search needs
-
-enum-known-day : tie.Need-enum-known-day
-enum-known-day c = search needs
-
 returns : tie.Need-returns
 returns c =
     let s = c .before .before .before .before .before .before .before in
@@ -50,11 +35,11 @@ pub asked-month-spec : {M : Type 1} → statement M
 asked-month-spec =
     tie.close
     (tie.spec
-    counted-requires
-    days-in-month-requires
-    enum-told
-    cast-t8
-    enum-known-day
+    (λ c κs. search needs)
+    (λ c κs. search needs)
+    (λ c. search needs)
+    (λ c. search needs)
+    (λ c. search needs)
     returns
     returns-2
     returns-3)

@@ -5,27 +5,6 @@ use borrow.Author.Needs.{needs}
 use Rattle.days.proofs.asked_year.Statement.{statement}
 use Rattle.days.proofs.asked_year.Tie as tie
 
-enum-told : tie.Need-enum-told
-enum-told c = search needs
-
-enum-told-2 : tie.Need-enum-told-2
-enum-told-2 c = search needs
-
-counted-requires : tie.Need-counted-requires
-counted-requires c κs = search needs
-
-year-length-requires : tie.Need-year-length-requires
-year-length-requires c κs = search needs
-
-enum-told-3 : tie.Need-enum-told-3
-enum-told-3 c = search needs
-
-enum-known-month : tie.Need-enum-known-month
-enum-known-month c = search needs
-
-asked-month-requires : tie.Need-asked-month-requires
-asked-month-requires c κs = search needs
-
 returns : tie.Need-returns
 returns c =
     let s = c .before .before .before .before .before .before in
@@ -63,13 +42,13 @@ pub asked-year-spec : {M : Type 1} → statement M
 asked-year-spec =
     tie.close
     (tie.spec
-    enum-told
-    enum-told-2
-    counted-requires
-    year-length-requires
-    enum-told-3
-    enum-known-month
-    asked-month-requires
+    (λ c. search needs)
+    (λ c. search needs)
+    (λ c κs. search needs)
+    (λ c κs. search needs)
+    (λ c. search needs)
+    (λ c. search needs)
+    (λ c κs. search needs)
     returns
     returns-2
     returns-3

@@ -12,21 +12,6 @@ use borrow.Author.Needs.{needs}
 use Rattle.days.proofs.by_formula.Statement.{statement}
 use Rattle.days.proofs.by_formula.Tie as tie
 
-cast-is-leap : tie.Need-cast-is-leap
-cast-is-leap c = search needs
-
-is-leap-requires : tie.Need-is-leap-requires
-is-leap-requires c κs = search needs
-
-before-year-requires : tie.Need-before-year-requires
-before-year-requires c κs = search needs
-
-before-month-requires : tie.Need-before-month-requires
-before-month-requires c κs = search needs
-
-add-result : tie.Need-add-result
-add-result c = search needs
-
 returns : tie.Need-returns
 unfolding daysTo daysBefore
 returns c =
@@ -39,9 +24,9 @@ pub by-formula-spec : {M : Type 1} → statement M
 by-formula-spec =
     tie.close
     (tie.spec
-    cast-is-leap
-    is-leap-requires
-    before-year-requires
-    before-month-requires
-    add-result
+    (λ c. search needs)
+    (λ c κs. search needs)
+    (λ c κs. search needs)
+    (λ c κs. search needs)
+    (λ c. search needs)
     returns)

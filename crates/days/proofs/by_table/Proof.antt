@@ -7,21 +7,6 @@ use borrow.Author.Needs.{needs}
 use Rattle.days.proofs.by_table.Statement.{statement}
 use Rattle.days.proofs.by_table.Tie as tie
 
-mul-i : tie.Need-mul-i
-mul-i c = search needs
-
-add-i : tie.Need-add-i
-add-i c = search needs
-
-mul-result : tie.Need-mul-result
-mul-result c = search needs
-
-cast-entry : tie.Need-cast-entry
-cast-entry c = search needs
-
-entry-requires : tie.Need-entry-requires
-entry-requires c κs = search needs
-
 add-result : tie.Need-add-result
 add-result c =
     let y = c .before .args .year in
@@ -37,4 +22,4 @@ returns c =
 
 pub by-table-spec : {M : Type 1} → statement M
 by-table-spec =
-    tie.close (tie.spec mul-i add-i mul-result cast-entry entry-requires add-result returns)
+    tie.close (tie.spec (λ c. search needs) (λ c. search needs) (λ c. search needs) (λ c. search needs) (λ c κs. search needs) add-result returns)

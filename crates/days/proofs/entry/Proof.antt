@@ -3,15 +3,9 @@ use borrow.Author.Needs.{needs}
 use Rattle.days.proofs.entry.Statement.{statement}
 use Rattle.days.proofs.entry.Tie as tie
 
-mul-result : tie.Need-mul-result
-mul-result c = search needs
-
-array-read-result : tie.Need-array-read-result
-array-read-result c = search needs
-
 returns : tie.Need-returns
 unfolding table
 returns c = entry-is (c .args .i) (c .pre)
 
 pub entry-spec : {M : Type 1} → statement M
-entry-spec = tie.close (tie.spec mul-result array-read-result returns)
+entry-spec = tie.close (tie.spec (λ c. search needs) (λ c. search needs) returns)

@@ -6,28 +6,10 @@ use borrow.Author.Needs.{needs}
 use Rattle.days.proofs.formula_days.Statement.{statement}
 use Rattle.days.proofs.formula_days.Tie as tie
 
-asked-requires : tie.Need-asked-requires
-asked-requires c κs = search needs
-
-enum-told : tie.Need-enum-told
-enum-told c = search needs
-
-refused-requires : tie.Need-refused-requires
-refused-requires c κs = search needs
-
-enum-known-year : tie.Need-enum-known-year
-enum-known-year c = search needs
-
 by-formula-requires : tie.Need-by-formula-requires
 by-formula-requires c κs =
     let h = bounds (c .before .before .before .before .args .d) (c .before .before .before .asked .ensures) (c .before .year .given .1) in
     (h .1, h .2)
-
-cast-period-from : tie.Need-cast-period-from
-cast-period-from c = search needs
-
-add-period-from : tie.Need-add-period-from
-add-period-from c = search needs
 
 period-from-requires : tie.Need-period-from-requires
 period-from-requires c κs =
@@ -46,13 +28,13 @@ pub formula-days-spec : {M : Type 1} → statement M
 formula-days-spec =
     tie.close
     (tie.spec
-    asked-requires
-    enum-told
-    refused-requires
-    enum-known-year
+    (λ c κs. search needs)
+    (λ c. search needs)
+    (λ c κs. search needs)
+    (λ c. search needs)
     by-formula-requires
-    cast-period-from
-    add-period-from
+    (λ c. search needs)
+    (λ c. search needs)
     period-from-requires
     returns
     returns-2)

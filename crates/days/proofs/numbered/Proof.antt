@@ -3,9 +3,6 @@ use borrow.Author.Needs.{needs}
 use Rattle.days.proofs.numbered.Statement.{statement}
 use Rattle.days.proofs.numbered.Tie as tie
 
-cast-result : tie.Need-cast-result
-cast-result c = search needs
-
 sub-result : tie.Need-sub-result
 sub-result c = search (needs, taken-fits)
 
@@ -13,4 +10,4 @@ returns : tie.Need-returns
 returns c = taken (c .args .n) (c .pre)
 
 pub numbered-spec : {M : Type 1} → statement M
-numbered-spec = tie.close (tie.spec cast-result sub-result returns)
+numbered-spec = tie.close (tie.spec (λ c. search needs) sub-result returns)

@@ -6,18 +6,6 @@ use borrow.Author.Needs.{needs}
 use Rattle.days.proofs.period_from.Statement.{statement}
 use Rattle.days.proofs.period_from.Tie as tie
 
-numbered-requires : tie.Need-numbered-requires
-numbered-requires c κs = search needs
-
-add-numbered : tie.Need-add-numbered
-add-numbered c = search needs
-
-sub-numbered : tie.Need-sub-numbered
-sub-numbered c = search needs
-
-numbered-requires-2 : tie.Need-numbered-requires-2
-numbered-requires-2 c κs = omega arith
-
 returns : tie.Need-returns
 unfolding periodFrom
 returns c =
@@ -27,4 +15,4 @@ returns c =
 
 pub period-from-spec : {M : Type 1} → statement M
 period-from-spec =
-    tie.close (tie.spec numbered-requires add-numbered sub-numbered numbered-requires-2 returns)
+    tie.close (tie.spec (λ c κs. search needs) (λ c. search needs) (λ c. search needs) (λ c κs. omega arith) returns)

@@ -5,12 +5,9 @@ use borrow.Author.Needs.{needs}
 use Rattle.days.proofs.seasoned.Statement.{statement}
 use Rattle.days.proofs.seasoned.Tie as tie
 
-refuse-requires : tie.Need-refuse-requires
-refuse-requires c κs = search needs
-
 returns : tie.Need-returns
 unfolding seasoned
-returns c = ap Refused (c .refuse .ensures)
+returns c = ap Refused (c .nowhere .ensures)
 
 pub seasoned-spec : {M : Type 1} → statement M
-seasoned-spec = tie.close (tie.spec refuse-requires returns)
+seasoned-spec = tie.close (tie.spec (λ c κs. search needs) returns)

@@ -9,9 +9,6 @@ use borrow.Author.Needs.{needs}
 use Rattle.days.proofs.year_length.Statement.{statement}
 use Rattle.days.proofs.year_length.Tie as tie
 
-is-leap-requires : tie.Need-is-leap-requires
-is-leap-requires c κs = search needs
-
 returns : tie.Need-returns
 returns c =
     let s = c .before .before in
@@ -25,4 +22,4 @@ returns-2 c =
     sym (year-is (s .args .year) ∙ ap (λ (b : Bool). 365 + one-if b) said)
 
 pub year-length-spec : {M : Type 1} → statement M
-year-length-spec = tie.close (tie.spec is-leap-requires returns returns-2)
+year-length-spec = tie.close (tie.spec (λ c κs. search needs) returns returns-2)

@@ -8,17 +8,8 @@ use borrow.Author.Needs.{needs}
 use Rattle.fields.proofs.behind_digits.Statement.{statement}
 use Rattle.fields.proofs.behind_digits.Tie as tie
 
-parse-era-marker-requires : tie.Need-parse-era-marker-requires
-parse-era-marker-requires c κs = search needs
-
 enum-known-positive : tie.Need-enum-known-positive
 enum-known-positive c = c .match .keys1
-
-has-sign-requires : tie.Need-has-sign-requires
-has-sign-requires c κs = search needs
-
-refuse-text-requires : tie.Need-refuse-text-requires
-refuse-text-requires c κs = search needs
 
 returns : tie.Need-returns
 unfolding behindDigits withEra pick
@@ -29,9 +20,6 @@ returns c =
     let b6 = b4 .before .before in
     simp (← b6 .parse-era-marker .ensures, b4 .positive .given .1, ← b2 .has-sign .ensures, b1 .if1 .taken, ← c .refuse-text .ensures)
 
-refuse-text-requires-2 : tie.Need-refuse-text-requires-2
-refuse-text-requires-2 c κs = search needs
-
 returns-2 : tie.Need-returns-2
 unfolding behindDigits withEra pick
 returns-2 c =
@@ -41,12 +29,6 @@ returns-2 c =
     let b5 = b3 .before .before in
     let b7 = b5 .before .before in
     simp (← b7 .parse-era-marker .ensures, b5 .positive .given .1, ← b3 .has-sign .ensures, b2 .if1 .left, eq-eqb _ _ (b1 .if2 .taken), ← c .refuse-text2 .ensures)
-
-signed-requires : tie.Need-signed-requires
-signed-requires c κs = search needs
-
-ended-requires : tie.Need-ended-requires
-ended-requires c κs = search needs
 
 returns-3 : tie.Need-returns-3
 unfolding behindDigits withEra pick
@@ -61,17 +43,8 @@ returns-3 c =
     let e = rw (toZ-ofZ w32 (b1 .signed .result) (record { sfits = b1 .signed .ok }) ∙ b1 .signed .ensures) at (c .ended .ensures) in
     simp (← b9 .parse-era-marker .ensures, b7 .positive .given .1, ← b5 .has-sign .ensures, b4 .if1 .left, ne-eqb _ _ (b3 .if2 .left), b2 .if3 .taken, ← e)
 
-before-christ-requires : tie.Need-before-christ-requires
-before-christ-requires c κs = search needs
-
 enum-known-next : tie.Need-enum-known-next
 enum-known-next c = c .match .keys2
-
-signed-requires-2 : tie.Need-signed-requires-2
-signed-requires-2 c κs = search needs
-
-ended-requires-2 : tie.Need-ended-requires-2
-ended-requires-2 c κs = search needs
 
 enum-known-e : tie.Need-enum-known-e
 enum-known-e c = c .match .keys3
@@ -107,20 +80,20 @@ pub behind-digits-spec : {M : Type 1} → statement M
 behind-digits-spec =
     tie.close
     (tie.spec
-    parse-era-marker-requires
+    (λ c κs. search needs)
     enum-known-positive
-    has-sign-requires
-    refuse-text-requires
+    (λ c κs. search needs)
+    (λ c κs. search needs)
     returns
-    refuse-text-requires-2
+    (λ c κs. search needs)
     returns-2
-    signed-requires
-    ended-requires
+    (λ c κs. search needs)
+    (λ c κs. search needs)
     returns-3
-    before-christ-requires
+    (λ c κs. search needs)
     enum-known-next
-    signed-requires-2
-    ended-requires-2
+    (λ c κs. search needs)
+    (λ c κs. search needs)
     enum-known-e
     returns-4
     returns-5

@@ -1,5 +1,5 @@
 use Rattle.scanner.proofs.Runs.{run-start, run-end}
-use Rattle.strs.proofs.Digits.{value-in}
+use Rattle.numbers.proofs.Whole.{value-in}
 use native.Mathlib.Omega.{arith}
 use mathlib.Core.Path.{sym, _∙_}
 use Rattle.chars.specs.Pick.{pick}
@@ -8,15 +8,6 @@ use borrow.Author.Tests.{lt-ltb, le-ltb, eq-eqb, ne-eqb}
 use borrow.Author.Needs.{needs}
 use Rattle.fields.proofs.behind_sign.Statement.{statement}
 use Rattle.fields.proofs.behind_sign.Tie as tie
-
-next-run-requires : tie.Need-next-run-requires
-next-run-requires c κs = search needs
-
-from-requires : tie.Need-from-requires
-from-requires c κs = search needs
-
-refuse-text-requires : tie.Need-refuse-text-requires
-refuse-text-requires c κs = search needs
 
 returns : tie.Need-returns
 unfolding behindSign yearFrom yearDigits onNumber pick
@@ -28,9 +19,6 @@ returns c =
     let e = b4 .before .next-run .ensures in
     simp (← run-start _ _ _ _ e, ← run-end _ _ _ _ e, ← b2 .from .ensures, eq-eqb _ _ (b1 .if1 .taken), ← c .refuse-text .ensures)
 
-refuse-text-requires-2 : tie.Need-refuse-text-requires-2
-refuse-text-requires-2 c κs = search needs
-
 returns-2 : tie.Need-returns-2
 unfolding behindSign yearFrom yearDigits onNumber pick
 returns-2 c =
@@ -41,9 +29,6 @@ returns-2 c =
     let b5 = b4 .before in
     let e = b5 .before .next-run .ensures in
     simp (← run-start _ _ _ _ e, ← run-end _ _ _ _ e, ← b3 .from .ensures, ne-eqb _ _ (b2 .if1 .left), lt-ltb _ _ (b1 .if2 .taken), ← c .refuse-text2 .ensures)
-
-panics-requires : tie.Need-panics-requires
-panics-requires c κs = search needs
 
 returns-3 : tie.Need-returns-3
 unfolding behindSign yearFrom yearDigits onNumber pick
@@ -57,9 +42,6 @@ returns-3 c =
     let e = b8 .before .next-run .ensures in
     simp (← run-start _ _ _ _ e, ← run-end _ _ _ _ e, ← b6 .from .ensures, ne-eqb _ _ (b5 .if1 .left), le-ltb _ _ (b4 .if2 .left), ne-eqb _ _ (b1 .if3 .taken), ← c .panics .ensures)
 
-parse-requires : tie.Need-parse-requires
-parse-requires c κs = search needs
-
 enum-known-n : tie.Need-enum-known-n
 enum-known-n c = c .match .keys1
 
@@ -68,9 +50,6 @@ behind-digits-requires c κs = let h = value-in 9999 _ (sym (c .before .before .
 
 enum-told : tie.Need-enum-told
 enum-told c = c .match .keys2
-
-panics-requires-2 : tie.Need-panics-requires-2
-panics-requires-2 c κs = search needs
 
 returns-4 : tie.Need-returns-4
 unfolding behindSign yearFrom yearDigits onNumber pick
@@ -104,18 +83,18 @@ pub behind-sign-spec : {M : Type 1} → statement M
 behind-sign-spec =
     tie.close
     (tie.spec
-    next-run-requires
-    from-requires
-    refuse-text-requires
+    (λ c κs. search needs)
+    (λ c κs. search needs)
+    (λ c κs. search needs)
     returns
-    refuse-text-requires-2
+    (λ c κs. search needs)
     returns-2
-    panics-requires
+    (λ c κs. search needs)
     returns-3
-    parse-requires
+    (λ c κs. search needs)
     enum-known-n
     behind-digits-requires
     enum-told
-    panics-requires-2
+    (λ c κs. search needs)
     returns-4
     returns-5)

@@ -7,17 +7,8 @@ use borrow.Author.Needs.{needs}
 use Rattle.fields.proofs.day_digits.Statement.{statement}
 use Rattle.fields.proofs.day_digits.Tie as tie
 
-from-requires : tie.Need-from-requires
-from-requires c κs = search needs
-
-parse-requires : tie.Need-parse-requires
-parse-requires c κs = search needs
-
 enum-known-d : tie.Need-enum-known-d
 enum-known-d c = c .match .keys1
-
-is-day-requires : tie.Need-is-day-requires
-is-day-requires c κs = search needs
 
 sub-t9 : tie.Need-sub-t9
 sub-t9 c = let h = day-in _ (sym (c .before .is-day .ensures) ∙ c .if1 .taken) in omega arith
@@ -34,14 +25,8 @@ returns c =
     let b6 = b5 .before in
     simp (← b6 .from .ensures, ← b5 .parse .ensures, b3 .d .given .1, ← b1 .is-day .ensures, c .if1 .taken)
 
-refuse-text-requires : tie.Need-refuse-text-requires
-refuse-text-requires c κs = search needs
-
 enum-told : tie.Need-enum-told
 enum-told c = c .match .keys2
-
-panics-requires : tie.Need-panics-requires
-panics-requires c κs = search needs
 
 returns-2 : tie.Need-returns-2
 unfolding dayDigits dayOf pick
@@ -65,15 +50,15 @@ pub day-digits-spec : {M : Type 1} → statement M
 day-digits-spec =
     tie.close
     (tie.spec
-    from-requires
-    parse-requires
+    (λ c κs. search needs)
+    (λ c κs. search needs)
     enum-known-d
-    is-day-requires
+    (λ c κs. search needs)
     sub-t9
     cast-t10
     returns
-    refuse-text-requires
+    (λ c κs. search needs)
     enum-told
-    panics-requires
+    (λ c κs. search needs)
     returns-2
     returns-3)

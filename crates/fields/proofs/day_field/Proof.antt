@@ -8,17 +8,8 @@ use borrow.Author.Needs.{needs}
 use Rattle.fields.proofs.day_field.Statement.{statement}
 use Rattle.fields.proofs.day_field.Tie as tie
 
-trim-requires : tie.Need-trim-requires
-trim-requires c κs = search needs
-
-parse-requires : tie.Need-parse-requires
-parse-requires c κs = search needs
-
 enum-known-d : tie.Need-enum-known-d
 enum-known-d c = c .match .keys1
-
-is-day-requires : tie.Need-is-day-requires
-is-day-requires c κs = search needs
 
 sub-t8 : tie.Need-sub-t8
 sub-t8 c = let h = day-in _ (sym (c .before .is-day .ensures) ∙ c .if1 .taken) in omega arith
@@ -35,14 +26,8 @@ returns c =
     let b6 = b5 .before in
     simp (← b6 .trim .ensures, ← b5 .parse .ensures, b3 .d .given .1, ← b1 .is-day .ensures, c .if1 .taken)
 
-not-given-requires : tie.Need-not-given-requires
-not-given-requires c κs = search needs
-
 enum-told : tie.Need-enum-told
 enum-told c = c .match .keys2
-
-not-given-requires-2 : tie.Need-not-given-requires-2
-not-given-requires-2 c κs = search needs
 
 returns-2 : tie.Need-returns-2
 unfolding dayField dayGiven pick
@@ -52,9 +37,6 @@ returns-2 c =
     let b5 = b3 .before .before in
     let b6 = b5 .before in
     simp (← b6 .trim .ensures, ← b5 .parse .ensures, b3 .enum-told .given .1, lt-ltb _ _ (b1 .if2 .taken), ← c .not-given2 .ensures)
-
-not-given-requires-3 : tie.Need-not-given-requires-3
-not-given-requires-3 c κs = search needs
 
 returns-3 : tie.Need-returns-3
 unfolding dayField dayGiven pick
@@ -79,17 +61,17 @@ pub day-field-spec : {M : Type 1} → statement M
 day-field-spec =
     tie.close
     (tie.spec
-    trim-requires
-    parse-requires
+    (λ c κs. search needs)
+    (λ c κs. search needs)
     enum-known-d
-    is-day-requires
+    (λ c κs. search needs)
     sub-t8
     cast-t9
     returns
-    not-given-requires
+    (λ c κs. search needs)
     enum-told
-    not-given-requires-2
+    (λ c κs. search needs)
     returns-2
-    not-given-requires-3
+    (λ c κs. search needs)
     returns-3
     returns-4)

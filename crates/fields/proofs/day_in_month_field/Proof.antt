@@ -5,18 +5,6 @@ use borrow.Author.Needs.{needs}
 use Rattle.fields.proofs.day_in_month_field.Statement.{statement}
 use Rattle.fields.proofs.day_in_month_field.Tie as tie
 
-eat-while-requires : tie.Need-eat-while-requires
-eat-while-requires c κs = search needs
-
-eat-while-requires-2 : tie.Need-eat-while-requires-2
-eat-while-requires-2 c κs = search needs
-
-eat-while-requires-3 : tie.Need-eat-while-requires-3
-eat-while-requires-3 c κs = search needs
-
-from-requires : tie.Need-from-requires
-from-requires c κs = search needs
-
 returns : tie.Need-returns
 unfolding dayInMonthField dayFrom dayAt dayBehind pick
 returns c =
@@ -26,9 +14,6 @@ returns c =
     let b6 = b5 .before in
     let b7 = b6 .before in
     simp (← b7 .eat-while .ensures, ← b6 .eat-while2 .ensures, ← b5 .eat-while3 .ensures, ← b4 .from .ensures, eq-eqb _ _ (b3 .if1 .taken), eq-eqb _ _ (c .if2 .taken))
-
-refuse-text-requires : tie.Need-refuse-text-requires
-refuse-text-requires c κs = search needs
 
 returns-2 : tie.Need-returns-2
 unfolding dayInMonthField dayFrom dayAt dayBehind pick
@@ -40,9 +25,6 @@ returns-2 c =
     let b7 = b6 .before in
     let b8 = b7 .before in
     simp (← b8 .eat-while .ensures, ← b7 .eat-while2 .ensures, ← b6 .eat-while3 .ensures, ← b5 .from .ensures, eq-eqb _ _ (b4 .if1 .taken), ne-eqb _ _ (b1 .if2 .left), ← c .refuse-text .ensures)
-
-day-digits-requires : tie.Need-day-digits-requires
-day-digits-requires c κs = search needs
 
 returns-3 : tie.Need-returns-3
 unfolding dayInMonthField dayFrom dayAt dayBehind pick
@@ -58,12 +40,12 @@ pub day-in-month-field-spec : {M : Type 1} → statement M
 day-in-month-field-spec =
     tie.close
     (tie.spec
-    eat-while-requires
-    eat-while-requires-2
-    eat-while-requires-3
-    from-requires
+    (λ c κs. search needs)
+    (λ c κs. search needs)
+    (λ c κs. search needs)
+    (λ c κs. search needs)
     returns
-    refuse-text-requires
+    (λ c κs. search needs)
     returns-2
-    day-digits-requires
+    (λ c κs. search needs)
     returns-3)

@@ -6,17 +6,11 @@ use borrow.Author.Needs.{needs}
 use Rattle.fields.proofs.ended.Statement.{statement}
 use Rattle.fields.proofs.ended.Tie as tie
 
-done-requires : tie.Need-done-requires
-done-requires c κs = search needs
-
 returns : tie.Need-returns
 unfolding ended pick
 returns c =
     let b1 = c .before in
     simp (← b1 .done .ensures, c .if1 .taken, toZ-ofZ w32 (b1 .before .before .args .year) (b1 .before .before .fits .year))
-
-refuse-text-requires : tie.Need-refuse-text-requires
-refuse-text-requires c κs = search needs
 
 returns-2 : tie.Need-returns-2
 unfolding ended pick
@@ -26,4 +20,4 @@ returns-2 c =
     simp (← b2 .done .ensures, b1 .if1 .left, ← c .refuse-text .ensures)
 
 pub ended-spec : {M : Type 1} → statement M
-ended-spec = tie.close (tie.spec done-requires returns refuse-text-requires returns-2)
+ended-spec = tie.close (tie.spec (λ c κs. search needs) returns (λ c κs. search needs) returns-2)

@@ -4,12 +4,6 @@ use borrow.Author.Needs.{needs}
 use Rattle.fields.proofs.era_end.Statement.{statement}
 use Rattle.fields.proofs.era_end.Tie as tie
 
-at-requires : tie.Need-at-requires
-at-requires c κs = search needs
-
-refuse-text-requires : tie.Need-refuse-text-requires
-refuse-text-requires c κs = search needs
-
 returns : tie.Need-returns
 unfolding eraEnd pick
 returns c =
@@ -24,4 +18,4 @@ returns-2 c =
     simp (← b1 .at .ensures, c .if1 .left)
 
 pub era-end-spec : {M : Type 1} → statement M
-era-end-spec = tie.close (tie.spec at-requires refuse-text-requires returns returns-2)
+era-end-spec = tie.close (tie.spec (λ c κs. search needs) (λ c κs. search needs) returns returns-2)

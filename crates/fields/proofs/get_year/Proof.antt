@@ -3,35 +3,17 @@ use borrow.Author.Needs.{needs}
 use Rattle.fields.proofs.get_year.Statement.{statement}
 use Rattle.fields.proofs.get_year.Tie as tie
 
-eat-whitespace-requires : tie.Need-eat-whitespace-requires
-eat-whitespace-requires c κs = search needs
-
-eat-if-requires : tie.Need-eat-if-requires
-eat-if-requires c κs = search needs
-
 enum-known-c : tie.Need-enum-known-c
 enum-known-c c = c .match .keys1
-
-behind-sign-requires : tie.Need-behind-sign-requires
-behind-sign-requires c κs = search needs
 
 enum-told : tie.Need-enum-told
 enum-told c = c .match .keys2
 
-eat-if-requires-2 : tie.Need-eat-if-requires-2
-eat-if-requires-2 c κs = search needs
-
 enum-known-c-2 : tie.Need-enum-known-c-2
 enum-known-c-2 c = c .match2 .keys1
 
-behind-sign-requires-2 : tie.Need-behind-sign-requires-2
-behind-sign-requires-2 c κs = search needs
-
 enum-told-2 : tie.Need-enum-told-2
 enum-told-2 c = c .match2 .keys2
-
-behind-sign-requires-3 : tie.Need-behind-sign-requires-3
-behind-sign-requires-3 c κs = search needs
 
 returns : tie.Need-returns
 unfolding getYear yearAt onPast
@@ -65,16 +47,16 @@ pub get-year-spec : {M : Type 1} → statement M
 get-year-spec =
     tie.close
     (tie.spec
-    eat-whitespace-requires
-    eat-if-requires
+    (λ c κs. search needs)
+    (λ c κs. search needs)
     enum-known-c
-    behind-sign-requires
+    (λ c κs. search needs)
     enum-told
-    eat-if-requires-2
+    (λ c κs. search needs)
     enum-known-c-2
-    behind-sign-requires-2
+    (λ c κs. search needs)
     enum-told-2
-    behind-sign-requires-3
+    (λ c κs. search needs)
     returns
     returns-2
     returns-3)

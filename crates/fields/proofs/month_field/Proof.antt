@@ -9,14 +9,8 @@ use borrow.Author.Needs.{needs}
 use Rattle.fields.proofs.month_field.Statement.{statement}
 use Rattle.fields.proofs.month_field.Tie as tie
 
-parse-unsigned-int-requires : tie.Need-parse-unsigned-int-requires
-parse-unsigned-int-requires c κs = search needs
-
 enum-known-value : tie.Need-enum-known-value
 enum-known-value c = c .match .keys1
-
-panics-requires : tie.Need-panics-requires
-panics-requires c κs = search needs
 
 returns : tie.Need-returns
 unfolding monthField monthOf named pick
@@ -26,29 +20,14 @@ returns c =
     let b5 = b3 .before .before in
     simp (← b5 .parse-unsigned-int .ensures, b3 .value .given .1, eq-eqb _ _ (b1 .if1 .taken), ← c .panics .ensures)
 
-sub-m : tie.Need-sub-m
-sub-m c = omega arith
-
 cast-m : tie.Need-cast-m
 cast-m c = let h = unsigned-value _ _ OneOrTwo (sym (c .before .before .before .before .parse-unsigned-int .ensures) ∙ c .before .before .value .given .1) in omega arith
 
 enum-known-next : tie.Need-enum-known-next
 enum-known-next c = c .match .keys2
 
-eat-while-requires : tie.Need-eat-while-requires
-eat-while-requires c κs = search needs
-
-from-requires : tie.Need-from-requires
-from-requires c κs = search needs
-
-month-for-requires : tie.Need-month-for-requires
-month-for-requires c κs = search needs
-
 enum-told : tie.Need-enum-told
 enum-told c = c .match .keys3
-
-panics-requires-2 : tie.Need-panics-requires-2
-panics-requires-2 c κs = search needs
 
 returns-2 : tie.Need-returns-2
 unfolding monthField monthOf named pick
@@ -77,18 +56,18 @@ pub month-field-spec : {M : Type 1} → statement M
 month-field-spec =
     tie.close
     (tie.spec
-    parse-unsigned-int-requires
+    (λ c κs. search needs)
     enum-known-value
-    panics-requires
+    (λ c κs. search needs)
     returns
-    sub-m
+    (λ c. omega arith)
     cast-m
     enum-known-next
-    eat-while-requires
-    from-requires
-    month-for-requires
+    (λ c κs. search needs)
+    (λ c κs. search needs)
+    (λ c κs. search needs)
     enum-told
-    panics-requires-2
+    (λ c κs. search needs)
     returns-2
     returns-3
     returns-4)

@@ -1,19 +1,13 @@
-use Rattle.months.specs.Names.{monthFor, orElse}
+use Rattle.fields.specs.Names.{monthFor, orElse}
 use borrow.Author.Needs.{needs}
 use Rattle.fields.proofs.month_for.Statement.{statement}
 use Rattle.fields.proofs.month_for.Tie as tie
-
-get-month-for-name-requires : tie.Need-get-month-for-name-requires
-get-month-for-name-requires c κs = search needs
 
 enum-known-m : tie.Need-enum-known-m
 enum-known-m c = c .match .keys1
 
 enum-told : tie.Need-enum-told
 enum-told c = c .match .keys2
-
-get-month-for-abbr-requires : tie.Need-get-month-for-abbr-requires
-get-month-for-abbr-requires c κs = search needs
 
 returns : tie.Need-returns
 unfolding monthFor orElse
@@ -33,9 +27,9 @@ pub month-for-spec : {M : Type 1} → statement M
 month-for-spec =
     tie.close
     (tie.spec
-    get-month-for-name-requires
+    (λ c κs. search needs)
     enum-known-m
     enum-told
-    get-month-for-abbr-requires
+    (λ c κs. search needs)
     returns
     returns-2)

@@ -3,32 +3,14 @@ use borrow.Author.Needs.{needs}
 use Rattle.fields.proofs.negative_era.Statement.{statement}
 use Rattle.fields.proofs.negative_era.Tie as tie
 
-slice-aggregate-eat-text : tie.Need-slice-aggregate-eat-text
-slice-aggregate-eat-text c = search needs
-
-eat-text-requires : tie.Need-eat-text-requires
-eat-text-requires c κs = search needs
-
 enum-known-c : tie.Need-enum-known-c
 enum-known-c c = c .match .keys1
-
-slice-aggregate-eat-text-2 : tie.Need-slice-aggregate-eat-text-2
-slice-aggregate-eat-text-2 c = search needs
-
-eat-text-requires-2 : tie.Need-eat-text-requires-2
-eat-text-requires-2 c κs = search needs
 
 enum-known-e : tie.Need-enum-known-e
 enum-known-e c = c .match2 .keys1
 
-era-end-requires : tie.Need-era-end-requires
-era-end-requires c κs = search needs
-
 enum-told : tie.Need-enum-told
 enum-told c = c .match2 .keys2
-
-era-end-requires-2 : tie.Need-era-end-requires-2
-era-end-requires-2 c κs = search needs
 
 enum-told-2 : tie.Need-enum-told-2
 enum-told-2 c = c .match .keys2
@@ -61,15 +43,15 @@ pub negative-era-spec : {M : Type 1} → statement M
 negative-era-spec =
     tie.close
     (tie.spec
-    slice-aggregate-eat-text
-    eat-text-requires
+    (λ c. search needs)
+    (λ c κs. search needs)
     enum-known-c
-    slice-aggregate-eat-text-2
-    eat-text-requires-2
+    (λ c. search needs)
+    (λ c κs. search needs)
     enum-known-e
-    era-end-requires
+    (λ c κs. search needs)
     enum-told
-    era-end-requires-2
+    (λ c κs. search needs)
     enum-told-2
     returns
     returns-2

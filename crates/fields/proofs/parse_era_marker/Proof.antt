@@ -3,41 +3,17 @@ use borrow.Author.Needs.{needs}
 use Rattle.fields.proofs.parse_era_marker.Statement.{statement}
 use Rattle.fields.proofs.parse_era_marker.Tie as tie
 
-eat-whitespace-requires : tie.Need-eat-whitespace-requires
-eat-whitespace-requires c κs = search needs
-
-slice-aggregate-eat-text : tie.Need-slice-aggregate-eat-text
-slice-aggregate-eat-text c = search needs
-
-eat-text-requires : tie.Need-eat-text-requires
-eat-text-requires c κs = search needs
-
 enum-known-e : tie.Need-enum-known-e
 enum-known-e c = c .match .keys1
-
-era-end-requires : tie.Need-era-end-requires
-era-end-requires c κs = search needs
 
 enum-told : tie.Need-enum-told
 enum-told c = c .match .keys2
 
-slice-aggregate-eat-text-2 : tie.Need-slice-aggregate-eat-text-2
-slice-aggregate-eat-text-2 c = search needs
-
-eat-text-requires-2 : tie.Need-eat-text-requires-2
-eat-text-requires-2 c κs = search needs
-
 enum-known-e-2 : tie.Need-enum-known-e-2
 enum-known-e-2 c = c .match2 .keys1
 
-era-end-requires-2 : tie.Need-era-end-requires-2
-era-end-requires-2 c κs = search needs
-
 enum-told-2 : tie.Need-enum-told-2
 enum-told-2 c = c .match2 .keys2
-
-negative-era-requires : tie.Need-negative-era-requires
-negative-era-requires c κs = search needs
 
 returns : tie.Need-returns
 unfolding parseEraMarker eraAt onPast
@@ -71,18 +47,18 @@ pub parse-era-marker-spec : {M : Type 1} → statement M
 parse-era-marker-spec =
     tie.close
     (tie.spec
-    eat-whitespace-requires
-    slice-aggregate-eat-text
-    eat-text-requires
+    (λ c κs. search needs)
+    (λ c. search needs)
+    (λ c κs. search needs)
     enum-known-e
-    era-end-requires
+    (λ c κs. search needs)
     enum-told
-    slice-aggregate-eat-text-2
-    eat-text-requires-2
+    (λ c. search needs)
+    (λ c κs. search needs)
     enum-known-e-2
-    era-end-requires-2
+    (λ c κs. search needs)
     enum-told-2
-    negative-era-requires
+    (λ c κs. search needs)
     returns
     returns-2
     returns-3)

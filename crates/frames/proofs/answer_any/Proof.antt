@@ -1,23 +1,7 @@
-use mathlib.Core.Path.{_∙_}
 use Rattle.frames.proofs.Parts.{answer-is}
 use borrow.Author.Needs.{needs}
 use Rattle.frames.proofs.answer_any.Statement.{statement}
 use Rattle.frames.proofs.answer_any.Tie as tie
-
-byte-at-requires : tie.Need-byte-at-requires
-byte-at-requires c κs = search needs
-
-asked-requires : tie.Need-asked-requires
-asked-requires c κs = search needs
-
-read-frame-requires : tie.Need-read-frame-requires
-read-frame-requires c κs = search needs
-
-write-read-requires : tie.Need-write-read-requires
-write-read-requires c κs = search needs
-
-same-length : tie.Need-same-length
-same-length c = search needs
 
 returns : tie.Need-returns
 returns c =
@@ -33,9 +17,9 @@ pub answer-any-spec : {M : Type 1} → statement M
 answer-any-spec =
     tie.close
     (tie.spec
-    byte-at-requires
-    asked-requires
-    read-frame-requires
-    write-read-requires
-    same-length
+    (λ c κs. search needs)
+    (λ c κs. search needs)
+    (λ c κs. search needs)
+    (λ c κs. search needs)
+    (λ c. search needs)
     returns)

@@ -1,21 +1,12 @@
 use mathlib.Core.Path.{ap, _∙_}
 use mathlib.Core.Bool.{false}
 use lib.ListN.{length}
-use Rattle.datefield.specs.declared.ReadDate.{ReadDate}
-use Rattle.writer.specs.Answers.{answer, afterwards}
+use Rattle.refusals.specs.declared.ReadDate.{ReadDate}
+use Rattle.puts.specs.Answers.{answer, afterwards}
 use Rattle.answers.specs.Answer.{answerLine}
 use borrow.Author.Needs.{needs}
 use Rattle.frames.proofs.answer_long.Statement.{statement}
 use Rattle.frames.proofs.answer_long.Tie as tie
-
-bad-frame-requires : tie.Need-bad-frame-requires
-bad-frame-requires c κs = search needs
-
-write-answer-requires : tie.Need-write-answer-requires
-write-answer-requires c κs = search needs
-
-same-length : tie.Need-same-length
-same-length c = search needs
 
 returns : tie.Need-returns
 returns c =
@@ -28,4 +19,4 @@ returns c =
 
 pub answer-long-spec : {M : Type 1} → statement M
 answer-long-spec =
-    tie.close (tie.spec bad-frame-requires write-answer-requires same-length returns)
+    tie.close (tie.spec (λ c κs. search needs) (λ c κs. search needs) (λ c. search needs) returns)

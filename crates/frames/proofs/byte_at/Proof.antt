@@ -4,9 +4,6 @@ use borrow.Author.Needs.{needs}
 use Rattle.frames.proofs.byte_at.Statement.{statement}
 use Rattle.frames.proofs.byte_at.Tie as tie
 
-shared-slice-read-result : tie.Need-shared-slice-read-result
-shared-slice-read-result c = search needs
-
 returns : tie.Need-returns
 returns c = refl
 
@@ -16,4 +13,4 @@ returns-2 c =
     sym (List·getD-eq-default (s .args .f .now) 0 (c .if1 .left))
 
 pub byte-at-spec : {M : Type 1} → statement M
-byte-at-spec = tie.close (tie.spec shared-slice-read-result returns returns-2)
+byte-at-spec = tie.close (tie.spec (λ c. search needs) returns returns-2)

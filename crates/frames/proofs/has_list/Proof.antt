@@ -3,12 +3,9 @@ use borrow.Author.Needs.{needs}
 use Rattle.frames.proofs.has_list.Statement.{statement}
 use Rattle.frames.proofs.has_list.Tie as tie
 
-byte-at-requires : tie.Need-byte-at-requires
-byte-at-requires c κs = search needs
-
 returns : tie.Need-returns
 unfolding hasList
 returns c = simp (← c .byte-at .ensures)
 
 pub has-list-spec : {M : Type 1} → statement M
-has-list-spec = tie.close (tie.spec byte-at-requires returns)
+has-list-spec = tie.close (tie.spec (λ c κs. search needs) returns)

@@ -3,33 +3,6 @@ use borrow.Author.Needs.{needs}
 use Rattle.frames.proofs.is_formed.Statement.{statement}
 use Rattle.frames.proofs.is_formed.Tie as tie
 
-enum-told : tie.Need-enum-told
-enum-told c = search needs
-
-one-fills-requires : tie.Need-one-fills-requires
-one-fills-requires c κs = search needs
-
-enum-told-2 : tie.Need-enum-told-2
-enum-told-2 c = search needs
-
-one-fills-requires-2 : tie.Need-one-fills-requires-2
-one-fills-requires-2 c κs = search needs
-
-enum-told-3 : tie.Need-enum-told-3
-enum-told-3 c = search needs
-
-one-fills-requires-3 : tie.Need-one-fills-requires-3
-one-fills-requires-3 c κs = search needs
-
-enum-told-4 : tie.Need-enum-told-4
-enum-told-4 c = search needs
-
-three-fill-requires : tie.Need-three-fill-requires
-three-fill-requires c κs = search needs
-
-enum-told-5 : tie.Need-enum-told-5
-enum-told-5 c = search needs
-
 returns : tie.Need-returns
 unfolding formed
 returns c =
@@ -62,15 +35,15 @@ pub is-formed-spec : {M : Type 1} → statement M
 is-formed-spec =
     tie.close
     (tie.spec
-    enum-told
-    one-fills-requires
-    enum-told-2
-    one-fills-requires-2
-    enum-told-3
-    one-fills-requires-3
-    enum-told-4
-    three-fill-requires
-    enum-told-5
+    (λ c. search needs)
+    (λ c κs. search needs)
+    (λ c. search needs)
+    (λ c κs. search needs)
+    (λ c. search needs)
+    (λ c κs. search needs)
+    (λ c. search needs)
+    (λ c κs. search needs)
+    (λ c. search needs)
     returns
     returns-2
     returns-3

@@ -4,15 +4,6 @@ use borrow.Author.Needs.{needs}
 use Rattle.frames.proofs.is_single.Statement.{statement}
 use Rattle.frames.proofs.is_single.Tie as tie
 
-has-list-requires : tie.Need-has-list-requires
-has-list-requires c κs = search needs
-
-add-byte-at : tie.Need-add-byte-at
-add-byte-at c = search needs
-
-byte-at-requires : tie.Need-byte-at-requires
-byte-at-requires c κs = search needs
-
 returns : tie.Need-returns
 unfolding isSingle pick
 returns c = simp (← c .before .before .has-list .ensures, c .before .if1 .taken, ← c .byte-at .ensures)
@@ -25,8 +16,8 @@ pub is-single-spec : {M : Type 1} → statement M
 is-single-spec =
     tie.close
     (tie.spec
-    has-list-requires
-    add-byte-at
-    byte-at-requires
+    (λ c κs. search needs)
+    (λ c. search needs)
+    (λ c κs. search needs)
     returns
     returns-2)

@@ -8,17 +8,11 @@ returns : tie.Need-returns
 unfolding isUsual
 returns c = simp (lt-leb _ _ (c .if1 .taken))
 
-shared-slice-read-if2 : tie.Need-shared-slice-read-if2
-shared-slice-read-if2 c = search needs
-
 returns-2 : tie.Need-returns-2
 unfolding isUsual
 returns-2 c =
     let b2 = c .before .before in
     simp (le-leb _ _ (b2 .if1 .left), ne-eqb _ _ (c .if2 .taken))
-
-shared-slice-read-if3 : tie.Need-shared-slice-read-if3
-shared-slice-read-if3 c = search needs
 
 returns-3 : tie.Need-returns-3
 unfolding isUsual
@@ -26,15 +20,6 @@ returns-3 c =
     let b2 = c .before .before in
     let b4 = b2 .before .before in
     simp (le-leb _ _ (b4 .if1 .left), eq-eqb _ _ (b2 .if2 .left), ne-eqb _ _ (c .if3 .taken))
-
-byte-at-requires : tie.Need-byte-at-requires
-byte-at-requires c κs = search needs
-
-cast-if4 : tie.Need-cast-if4
-cast-if4 c = search needs
-
-sub-if4 : tie.Need-sub-if4
-sub-if4 c = search needs
 
 returns-4 : tie.Need-returns-4
 unfolding isUsual
@@ -44,15 +29,6 @@ returns-4 c =
     let b4 = b2 .before .before in
     let b6 = b4 .before .before in
     simp (le-leb _ _ (b6 .if1 .left), eq-eqb _ _ (b4 .if2 .left), eq-eqb _ _ (b2 .if3 .left), ← b1 .byte-at .ensures, ne-eqb _ _ (c .if4 .taken))
-
-shared-slice-read-asked : tie.Need-shared-slice-read-asked
-shared-slice-read-asked c = search needs
-
-asked-requires : tie.Need-asked-requires
-asked-requires c κs = search needs
-
-reads-usual-requires : tie.Need-reads-usual-requires
-reads-usual-requires c κs = search needs
 
 returns-5 : tie.Need-returns-5
 unfolding isUsual
@@ -70,15 +46,15 @@ is-usual-spec =
     tie.close
     (tie.spec
     returns
-    shared-slice-read-if2
+    (λ c. search needs)
     returns-2
-    shared-slice-read-if3
+    (λ c. search needs)
     returns-3
-    byte-at-requires
-    cast-if4
-    sub-if4
+    (λ c κs. search needs)
+    (λ c. search needs)
+    (λ c. search needs)
     returns-4
-    shared-slice-read-asked
-    asked-requires
-    reads-usual-requires
+    (λ c. search needs)
+    (λ c κs. search needs)
+    (λ c κs. search needs)
     returns-5)

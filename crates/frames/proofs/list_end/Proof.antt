@@ -6,18 +6,6 @@ use borrow.Author.Needs.{needs}
 use Rattle.frames.proofs.list_end.Statement.{statement}
 use Rattle.frames.proofs.list_end.Tie as tie
 
-byte-at-requires : tie.Need-byte-at-requires
-byte-at-requires c κs = search needs
-
-add-chunks-end : tie.Need-add-chunks-end
-add-chunks-end c = search needs
-
-cast-chunks-end : tie.Need-cast-chunks-end
-cast-chunks-end c = search needs
-
-chunks-end-requires : tie.Need-chunks-end-requires
-chunks-end-requires c κs = search needs
-
 returns : tie.Need-returns
 returns c =
     let b1 = c .before in
@@ -29,4 +17,4 @@ returns c =
 pub list-end-spec : {M : Type 1} → statement M
 list-end-spec =
     tie.close
-    (tie.spec byte-at-requires add-chunks-end cast-chunks-end chunks-end-requires returns)
+    (tie.spec (λ c κs. search needs) (λ c. search needs) (λ c. search needs) (λ c κs. search needs) returns)

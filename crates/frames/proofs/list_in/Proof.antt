@@ -34,15 +34,6 @@ slice-aggregate-read-by-2 c =
     let s = b6 .before .before .before .before .before .before in
     sym (length-take-le _ _ (table-in (s .pre .0) (s .pre .1) (b6 .unpack-list .ensures .1 .0)))
 
-read-by-requires : tie.Need-read-by-requires
-read-by-requires c κs = search needs
-
-same-length : tie.Need-same-length
-same-length c = search needs
-
-same-length-2 : tie.Need-same-length-2
-same-length-2 c = search needs
-
 returns : tie.Need-returns
 returns c =
     let b7 = c .before .before .before .before .before .before .before in
@@ -60,7 +51,7 @@ list-in-spec =
     slice-aggregate-read-by
     slice-reshare-prefix-read-by-2
     slice-aggregate-read-by-2
-    read-by-requires
-    same-length
-    same-length-2
+    (λ c κs. search needs)
+    (λ c. search needs)
+    (λ c. search needs)
     returns)

@@ -6,13 +6,10 @@ use borrow.Author.Needs.{needs}
 use Rattle.frames.proofs.one_fills.Statement.{statement}
 use Rattle.frames.proofs.one_fills.Tie as tie
 
-list-end-requires : tie.Need-list-end-requires
-list-end-requires c κs = search needs
-
 returns : tie.Need-returns
 returns c =
     let s = c .before .before in
     ap (λ (n : ℕ). eqb n (length (s .args .f .now))) (c .list-end .ensures .0)
 
 pub one-fills-spec : {M : Type 1} → statement M
-one-fills-spec = tie.close (tie.spec list-end-requires returns)
+one-fills-spec = tie.close (tie.spec (λ c κs. search needs) returns)

@@ -5,15 +5,6 @@ use borrow.Author.Needs.{needs}
 use Rattle.frames.proofs.optional_end.Statement.{statement}
 use Rattle.frames.proofs.optional_end.Tie as tie
 
-has-list-requires : tie.Need-has-list-requires
-has-list-requires c κs = search needs
-
-add-list-end : tie.Need-add-list-end
-add-list-end c = search needs
-
-list-end-requires : tie.Need-list-end-requires
-list-end-requires c κs = search needs
-
 returns : tie.Need-returns
 unfolding optionalEnd pick
 returns c =
@@ -21,9 +12,6 @@ returns c =
     let b2 = b1 .before in
     let q = c .list-end .ensures in
     (simp (← b2 .has-list .ensures, b1 .if1 .taken, ← q .0), omega (arith, q .1))
-
-add-result : tie.Need-add-result
-add-result c = search needs
 
 returns-2 : tie.Need-returns-2
 unfolding optionalEnd pick
@@ -34,4 +22,4 @@ returns-2 c =
 pub optional-end-spec : {M : Type 1} → statement M
 optional-end-spec =
     tie.close
-    (tie.spec has-list-requires add-list-end list-end-requires returns add-result returns-2)
+    (tie.spec (λ c κs. search needs) (λ c. search needs) (λ c κs. search needs) returns (λ c. search needs) returns-2)

@@ -22,34 +22,16 @@ loop-holds c =
     let e : c .args .n - 0 ≡ c .args .n = omega arith in
     (rw (add-zero (c .args .m), add-zero (c .args .from)) (ap (λ (x : ℕ). sets (c .args .text .now) (c .args .m) (partAt (c .args .f .now) (c .args .from) x)) e), omega arith, refl)
 
-add-text : tie.Need-add-text Inv-loop μ-loop
-add-text c = search needs
-
-shared-slice-read-text : tie.Need-shared-slice-read-text Inv-loop μ-loop
-shared-slice-read-text c = search needs
-
-add-text-2 : tie.Need-add-text-2 Inv-loop μ-loop
-add-text-2 c = search needs
-
 slice-write-text : tie.Need-slice-write-text Inv-loop μ-loop
 slice-write-text c =
     let b2 = c .before .before in
     omega (arith, b2 .loop .inv .2)
-
-add-i : tie.Need-add-i Inv-loop μ-loop
-add-i c = search needs
-
-loop-less : tie.Need-loop-less Inv-loop μ-loop
-loop-less c = omega arith
 
 loop-again : tie.Need-loop-again Inv-loop μ-loop
 loop-again c =
     let b2 = c .before .before in
     let s = b2 .before in
     (next-byte (s .args .f .now) (b2 .loop .text) (s .args .from) (s .args .n) (s .args .m) (b2 .loop .i) (s .pre .0) (omega arith) ∙ b2 .loop .inv .0, omega arith, length-set (b2 .loop .text) _ _ ∙ b2 .loop .inv .2)
-
-add-result : tie.Need-add-result Inv-loop μ-loop
-add-result c = search needs
 
 same-length : tie.Need-same-length Inv-loop μ-loop
 same-length c =
@@ -69,13 +51,13 @@ put-part-spec =
     Inv-loop
     μ-loop
     loop-holds
-    add-text
-    shared-slice-read-text
-    add-text-2
+    (λ c. search needs)
+    (λ c. search needs)
+    (λ c. search needs)
     slice-write-text
-    add-i
-    loop-less
+    (λ c. search needs)
+    (λ c. omega arith)
     loop-again
-    add-result
+    (λ c. search needs)
     same-length
     returns)

@@ -4,7 +4,7 @@ use Prim.Native.Nat.{ℕ, _+_, _-_, _*_}
 use native.Mathlib.Omega.{arith}
 use lib.Seq.{sets}
 use lib.ListN.{length}
-use Rattle.writer.proofs.Puts.{kept}
+use Rattle.puts.proofs.Puts.{kept}
 use Rattle.frames.specs.Lists.{endOf, tableOf}
 use Rattle.frames.proofs.Places.{end-next, end-above, next-row, no-rows, length-row, length-table}
 use borrow.Author.Needs.{needs}
@@ -34,27 +34,12 @@ add-byte-at c =
     let a = end-above (s .args .f .now) (b5 .loop .p) (b5 .loop .left) in
     omega (arith, a, b5 .loop .inv .1)
 
-byte-at-requires : tie.Need-byte-at-requires Inv-loop μ-loop
-byte-at-requires c κs = search needs
-
-cast-p : tie.Need-cast-p Inv-loop μ-loop
-cast-p c = search needs
-
-add-p : tie.Need-add-p Inv-loop μ-loop
-add-p c = search needs
-
 add-p-2 : tie.Need-add-p-2 Inv-loop μ-loop
 add-p-2 c =
     let b6 = c .before .before .before .before .before .before in
     let s = b6 .before .before .before in
     let a = end-above (s .args .f .now) (b6 .loop .p) (b6 .loop .left) in
     omega (arith, a, b6 .loop .inv .1)
-
-sub-left : tie.Need-sub-left Inv-loop μ-loop
-sub-left c = search needs
-
-loop-less : tie.Need-loop-less Inv-loop μ-loop
-loop-less c = omega arith
 
 loop-again : tie.Need-loop-again Inv-loop μ-loop
 loop-again c =
@@ -92,12 +77,12 @@ put-rows-spec =
     loop-holds
     put-row-requires
     add-byte-at
-    byte-at-requires
-    cast-p
-    add-p
+    (λ c κs. search needs)
+    (λ c. search needs)
+    (λ c. search needs)
     add-p-2
-    sub-left
-    loop-less
+    (λ c. search needs)
+    (λ c. omega arith)
     loop-again
     same-length
     returns)

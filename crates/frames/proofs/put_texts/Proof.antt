@@ -4,7 +4,7 @@ use Prim.Native.Nat.{ℕ, _+_, _-_, _≤_}
 use native.Mathlib.Omega.{arith}
 use lib.Seq.{sets}
 use lib.ListN.{length}
-use Rattle.writer.proofs.Puts.{kept}
+use Rattle.puts.proofs.Puts.{kept}
 use Rattle.frames.specs.Lists.{endOf, textOf}
 use Rattle.frames.proofs.Places.{end-next, chunk-inside, next-text, text-more, no-texts, length-part}
 use borrow.Author.Needs.{needs}
@@ -27,12 +27,6 @@ add-byte-at c =
     let a = chunk-inside (s .args .f .now) (b1 .loop .p) (b1 .loop .left) (c .loop-test .taken) in
     omega (arith, a, b1 .loop .inv .1)
 
-byte-at-requires : tie.Need-byte-at-requires Inv-loop μ-loop
-byte-at-requires c κs = search needs
-
-cast-len : tie.Need-cast-len Inv-loop μ-loop
-cast-len c = search needs
-
 add-put-part : tie.Need-add-put-part Inv-loop μ-loop
 add-put-part c =
     let b1 = c .before in
@@ -50,9 +44,6 @@ put-part-requires c κs =
     let a = chunk-inside (s .args .f .now) (b3 .loop .p) (b3 .loop .left) (b2 .loop-test .taken) in
     (omega (arith, a, b3 .loop .inv .1, b1 .byte-at .ensures), omega (arith, a, b3 .loop .inv .1, b3 .loop .inv .2, b3 .loop .inv .4, b1 .byte-at .ensures))
 
-add-p : tie.Need-add-p Inv-loop μ-loop
-add-p c = search needs
-
 add-p-2 : tie.Need-add-p-2 Inv-loop μ-loop
 add-p-2 c =
     let b4 = c .before .before .before .before in
@@ -61,12 +52,6 @@ add-p-2 c =
     let s = b6 .before .before .before in
     let a = chunk-inside (s .args .f .now) (b6 .loop .p) (b6 .loop .left) (b5 .loop-test .taken) in
     omega (arith, a, b6 .loop .inv .1, b4 .byte-at .ensures)
-
-sub-left : tie.Need-sub-left Inv-loop μ-loop
-sub-left c = search needs
-
-loop-less : tie.Need-loop-less Inv-loop μ-loop
-loop-less c = omega arith
 
 loop-again : tie.Need-loop-again Inv-loop μ-loop
 loop-again c =
@@ -109,14 +94,14 @@ put-texts-spec =
     μ-loop
     loop-holds
     add-byte-at
-    byte-at-requires
-    cast-len
+    (λ c κs. search needs)
+    (λ c. search needs)
     add-put-part
     put-part-requires
-    add-p
+    (λ c. search needs)
     add-p-2
-    sub-left
-    loop-less
+    (λ c. search needs)
+    (λ c. omega arith)
     loop-again
     same-length
     returns)

@@ -5,18 +5,6 @@ use borrow.Author.Needs.{needs}
 use Rattle.frames.proofs.read_frame.Statement.{statement}
 use Rattle.frames.proofs.read_frame.Tie as tie
 
-byte-at-requires : tie.Need-byte-at-requires
-byte-at-requires c κs = search needs
-
-asked-requires : tie.Need-asked-requires
-asked-requires c κs = search needs
-
-is-formed-requires : tie.Need-is-formed-requires
-is-formed-requires c κs = search needs
-
-enum-told : tie.Need-enum-told
-enum-told c = search needs
-
 read-list-requires : tie.Need-read-list-requires
 unfolding readsList
 read-list-requires c κs =
@@ -28,9 +16,6 @@ read-list-requires c κs =
     let f = s .args .f .now in
     let r = ap readsList (c .enum-told .given .1) in
     (s .pre, sym (list-formed f (o .asked .result) r) ∙ is-formed f (b .byte-at .ensures) (o .asked .ensures) (m .is-formed .ensures) (g .if1 .taken) refl, r, op-is f (b .byte-at .ensures) (o .asked .ensures) refl)
-
-enum-told-2 : tie.Need-enum-told-2
-enum-told-2 c = search needs
 
 read-list-requires-2 : tie.Need-read-list-requires-2
 unfolding readsList
@@ -44,9 +29,6 @@ read-list-requires-2 c κs =
     let r = ap readsList (c .enum-told2 .given .1) in
     (s .pre, sym (list-formed f (o .asked .result) r) ∙ is-formed f (b .byte-at .ensures) (o .asked .ensures) (m .is-formed .ensures) (g .if1 .taken) refl, r, op-is f (b .byte-at .ensures) (o .asked .ensures) refl)
 
-enum-told-3 : tie.Need-enum-told-3
-enum-told-3 c = search needs
-
 read-list-requires-3 : tie.Need-read-list-requires-3
 unfolding readsList
 read-list-requires-3 c κs =
@@ -59,9 +41,6 @@ read-list-requires-3 c κs =
     let r = ap readsList (c .enum-told3 .given .1) in
     (s .pre, sym (list-formed f (o .asked .result) r) ∙ is-formed f (b .byte-at .ensures) (o .asked .ensures) (m .is-formed .ensures) (g .if1 .taken) refl, r, op-is f (b .byte-at .ensures) (o .asked .ensures) refl)
 
-enum-told-4 : tie.Need-enum-told-4
-enum-told-4 c = search needs
-
 read-three-requires : tie.Need-read-three-requires
 read-three-requires c κs =
     let g = c .before .before in
@@ -71,12 +50,6 @@ read-three-requires c κs =
     let s = b .before .before in
     let f = s .args .f .now in
     (s .pre, three-of f (is-formed f (b .byte-at .ensures) (o .asked .ensures) (m .is-formed .ensures) (g .if1 .taken) (c .enum-told4 .given .1)), op-is f (b .byte-at .ensures) (o .asked .ensures) (c .enum-told4 .given .1))
-
-enum-told-5 : tie.Need-enum-told-5
-enum-told-5 c = search needs
-
-bad-frame-requires : tie.Need-bad-frame-requires
-bad-frame-requires c κs = search needs
 
 returns : tie.Need-returns
 unfolding readsList
@@ -136,9 +109,6 @@ returns-5 c =
     let f = s .args .f .now in
     c .bad-frame .ensures ∙ nothing-read f ∙ formed-read f (b .byte-at .ensures) (o .asked .ensures) (m .is-formed .ensures) (g .if1 .taken) (t .enum-told5 .given .1)
 
-bad-frame-requires-2 : tie.Need-bad-frame-requires-2
-bad-frame-requires-2 c κs = search needs
-
 returns-6 : tie.Need-returns-6
 returns-6 c =
     let g = c .before in
@@ -152,23 +122,23 @@ pub read-frame-spec : {M : Type 1} → statement M
 read-frame-spec =
     tie.close
     (tie.spec
-    byte-at-requires
-    asked-requires
-    is-formed-requires
-    enum-told
+    (λ c κs. search needs)
+    (λ c κs. search needs)
+    (λ c κs. search needs)
+    (λ c. search needs)
     read-list-requires
-    enum-told-2
+    (λ c. search needs)
     read-list-requires-2
-    enum-told-3
+    (λ c. search needs)
     read-list-requires-3
-    enum-told-4
+    (λ c. search needs)
     read-three-requires
-    enum-told-5
-    bad-frame-requires
+    (λ c. search needs)
+    (λ c κs. search needs)
     returns
     returns-2
     returns-3
     returns-4
     returns-5
-    bad-frame-requires-2
+    (λ c κs. search needs)
     returns-6)

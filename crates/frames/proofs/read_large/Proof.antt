@@ -8,21 +8,6 @@ use borrow.Author.Needs.{needs}
 use Rattle.frames.proofs.read_large.Statement.{statement}
 use Rattle.frames.proofs.read_large.Tie as tie
 
-byte-at-requires : tie.Need-byte-at-requires
-byte-at-requires c κs = search needs
-
-asked-requires : tie.Need-asked-requires
-asked-requires c κs = search needs
-
-enum-told : tie.Need-enum-told
-enum-told c = search needs
-
-slice-aggregate-list-in : tie.Need-slice-aggregate-list-in
-slice-aggregate-list-in c = search needs
-
-slice-aggregate-list-in-2 : tie.Need-slice-aggregate-list-in-2
-slice-aggregate-list-in-2 c = search needs
-
 list-in-requires : tie.Need-list-in-requires
 unfolding readsList
 list-in-requires c κs =
@@ -33,15 +18,6 @@ list-in-requires c κs =
     let f = s .args .f .now in
     let e = op-is f (b .byte-at .ensures) (o .asked .ensures) refl in
     (record { small = s .pre .0; for-text = omega (arith, s .pre .0); for-table = omega (arith, s .pre .0) }, sym (list-formed f (o .asked .result) (ap readsList (t .enum-told .given .1))) ∙ ap (λ (x : Operation). formed x f) (sym e) ∙ s .pre .1)
-
-enum-told-2 : tie.Need-enum-told-2
-enum-told-2 c = search needs
-
-slice-aggregate-list-in-3 : tie.Need-slice-aggregate-list-in-3
-slice-aggregate-list-in-3 c = search needs
-
-slice-aggregate-list-in-4 : tie.Need-slice-aggregate-list-in-4
-slice-aggregate-list-in-4 c = search needs
 
 list-in-requires-2 : tie.Need-list-in-requires-2
 unfolding readsList
@@ -54,15 +30,6 @@ list-in-requires-2 c κs =
     let e = op-is f (b .byte-at .ensures) (o .asked .ensures) refl in
     (record { small = s .pre .0; for-text = omega (arith, s .pre .0); for-table = omega (arith, s .pre .0) }, sym (list-formed f (o .asked .result) (ap readsList (t .enum-told2 .given .1))) ∙ ap (λ (x : Operation). formed x f) (sym e) ∙ s .pre .1)
 
-enum-told-3 : tie.Need-enum-told-3
-enum-told-3 c = search needs
-
-slice-aggregate-list-in-5 : tie.Need-slice-aggregate-list-in-5
-slice-aggregate-list-in-5 c = search needs
-
-slice-aggregate-list-in-6 : tie.Need-slice-aggregate-list-in-6
-slice-aggregate-list-in-6 c = search needs
-
 list-in-requires-3 : tie.Need-list-in-requires-3
 unfolding readsList
 list-in-requires-3 c κs =
@@ -74,15 +41,6 @@ list-in-requires-3 c κs =
     let e = op-is f (b .byte-at .ensures) (o .asked .ensures) refl in
     (record { small = s .pre .0; for-text = omega (arith, s .pre .0); for-table = omega (arith, s .pre .0) }, sym (list-formed f (o .asked .result) (ap readsList (t .enum-told3 .given .1))) ∙ ap (λ (x : Operation). formed x f) (sym e) ∙ s .pre .1)
 
-enum-told-4 : tie.Need-enum-told-4
-enum-told-4 c = search needs
-
-slice-aggregate-three-in : tie.Need-slice-aggregate-three-in
-slice-aggregate-three-in c = search needs
-
-slice-aggregate-three-in-2 : tie.Need-slice-aggregate-three-in-2
-slice-aggregate-three-in-2 c = search needs
-
 three-in-requires : tie.Need-three-in-requires
 three-in-requires c κs =
     let t = c .before .before in
@@ -92,12 +50,6 @@ three-in-requires c κs =
     let f = s .args .f .now in
     let e = op-is f (b .byte-at .ensures) (o .asked .ensures) (t .enum-told4 .given .1) in
     (record { small = s .pre .0; for-text = omega (arith, s .pre .0); for-table = omega (arith, s .pre .0) }, three-of f (ap (λ (x : Operation). formed x f) (sym e) ∙ s .pre .1))
-
-enum-told-5 : tie.Need-enum-told-5
-enum-told-5 c = search needs
-
-bad-frame-requires : tie.Need-bad-frame-requires
-bad-frame-requires c κs = search needs
 
 returns : tie.Need-returns
 unfolding readsList
@@ -160,26 +112,26 @@ pub read-large-spec : {M : Type 1} → statement M
 read-large-spec =
     tie.close
     (tie.spec
-    byte-at-requires
-    asked-requires
-    enum-told
-    slice-aggregate-list-in
-    slice-aggregate-list-in-2
+    (λ c κs. search needs)
+    (λ c κs. search needs)
+    (λ c. search needs)
+    (λ c. search needs)
+    (λ c. search needs)
     list-in-requires
-    enum-told-2
-    slice-aggregate-list-in-3
-    slice-aggregate-list-in-4
+    (λ c. search needs)
+    (λ c. search needs)
+    (λ c. search needs)
     list-in-requires-2
-    enum-told-3
-    slice-aggregate-list-in-5
-    slice-aggregate-list-in-6
+    (λ c. search needs)
+    (λ c. search needs)
+    (λ c. search needs)
     list-in-requires-3
-    enum-told-4
-    slice-aggregate-three-in
-    slice-aggregate-three-in-2
+    (λ c. search needs)
+    (λ c. search needs)
+    (λ c. search needs)
     three-in-requires
-    enum-told-5
-    bad-frame-requires
+    (λ c. search needs)
+    (λ c κs. search needs)
     returns
     returns-2
     returns-3

@@ -7,12 +7,6 @@ use borrow.Author.Needs.{needs}
 use Rattle.frames.proofs.read_list.Statement.{statement}
 use Rattle.frames.proofs.read_list.Tie as tie
 
-byte-at-requires : tie.Need-byte-at-requires
-byte-at-requires c κs = search needs
-
-row-at-requires : tie.Need-row-at-requires
-row-at-requires c κs = search needs
-
 sub-read-by : tie.Need-sub-read-by
 sub-read-by c =
     let b2 = c .before .before in
@@ -27,15 +21,6 @@ part-read-by-start c =
     let o = single (s .args .f .now) (s .pre .1) (b2 .byte-at .ensures) (c .before .if1 .taken) in
     omega (arith, o .long)
 
-part-read-by-end : tie.Need-part-read-by-end
-part-read-by-end c = search needs
-
-slice-aggregate-read-by : tie.Need-slice-aggregate-read-by
-slice-aggregate-read-by c = search needs
-
-read-by-requires : tie.Need-read-by-requires
-read-by-requires c κs = search needs
-
 returns : tie.Need-returns
 returns c =
     let b3 = c .before .before .before in
@@ -44,19 +29,10 @@ returns c =
     let o = single (s .args .f .now) (s .pre .1) (b5 .byte-at .ensures) (b3 .before .if1 .taken) in
     c .read-by .ensures ∙ rw (b3 .row-at .ensures, o .text-there, o .row-there)
 
-slice-aggregate-list-in : tie.Need-slice-aggregate-list-in
-slice-aggregate-list-in c = search needs
-
-slice-aggregate-list-in-2 : tie.Need-slice-aggregate-list-in-2
-slice-aggregate-list-in-2 c = search needs
-
 list-in-requires : tie.Need-list-in-requires
 list-in-requires c κs =
     let s = c .before .before .before .before .before .before in
     (record { small = s .pre .0; for-text = omega arith; for-table = omega arith }, s .pre .1)
-
-returns-2 : tie.Need-returns-2
-returns-2 c = search needs
 
 read-large-requires : tie.Need-read-large-requires
 read-large-requires c κs =
@@ -74,17 +50,17 @@ pub read-list-spec : {M : Type 1} → statement M
 read-list-spec =
     tie.close
     (tie.spec
-    byte-at-requires
-    row-at-requires
+    (λ c κs. search needs)
+    (λ c κs. search needs)
     sub-read-by
     part-read-by-start
-    part-read-by-end
-    slice-aggregate-read-by
-    read-by-requires
+    (λ c. search needs)
+    (λ c. search needs)
+    (λ c κs. search needs)
     returns
-    slice-aggregate-list-in
-    slice-aggregate-list-in-2
+    (λ c. search needs)
+    (λ c. search needs)
     list-in-requires
-    returns-2
+    (λ c. search needs)
     read-large-requires
     returns-3)

@@ -7,21 +7,6 @@ use borrow.Author.Needs.{needs}
 use Rattle.frames.proofs.read_three.Statement.{statement}
 use Rattle.frames.proofs.read_three.Tie as tie
 
-list-end-requires : tie.Need-list-end-requires
-list-end-requires c κs = search needs
-
-optional-end-requires : tie.Need-optional-end-requires
-optional-end-requires c κs = search needs
-
-byte-at-requires : tie.Need-byte-at-requires
-byte-at-requires c κs = search needs
-
-is-single-requires : tie.Need-is-single-requires
-is-single-requires c κs = search needs
-
-is-single-requires-2 : tie.Need-is-single-requires-2
-is-single-requires-2 c κs = search needs
-
 three-there-requires : tie.Need-three-there-requires
 three-there-requires c κs =
     let b1 = c .before in
@@ -40,22 +25,10 @@ three-there-requires c κs =
       one-day = sym (b1 .is-single2 .ensures) ∙ c .if3 .taken;
     }
 
-returns : tie.Need-returns
-returns c = search needs
-
-slice-aggregate-three-in : tie.Need-slice-aggregate-three-in
-slice-aggregate-three-in c = search needs
-
-slice-aggregate-three-in-2 : tie.Need-slice-aggregate-three-in-2
-slice-aggregate-three-in-2 c = search needs
-
 three-in-requires : tie.Need-three-in-requires
 three-in-requires c κs =
     let s = c .before .before .before .before .before .before .before .before in
     (record { small = s .pre .0; for-text = omega arith; for-table = omega arith }, s .pre .1)
-
-returns-2 : tie.Need-returns-2
-returns-2 c = search needs
 
 read-large-requires : tie.Need-read-large-requires
 read-large-requires c κs =
@@ -71,16 +44,16 @@ pub read-three-spec : {M : Type 1} → statement M
 read-three-spec =
     tie.close
     (tie.spec
-    list-end-requires
-    optional-end-requires
-    byte-at-requires
-    is-single-requires
-    is-single-requires-2
+    (λ c κs. search needs)
+    (λ c κs. search needs)
+    (λ c κs. search needs)
+    (λ c κs. search needs)
+    (λ c κs. search needs)
     three-there-requires
-    returns
-    slice-aggregate-three-in
-    slice-aggregate-three-in-2
+    (λ c. search needs)
+    (λ c. search needs)
+    (λ c. search needs)
     three-in-requires
-    returns-2
+    (λ c. search needs)
     read-large-requires
     returns-3)

@@ -6,17 +6,8 @@ use borrow.Author.Needs.{needs}
 use Rattle.frames.proofs.three_fill.Statement.{statement}
 use Rattle.frames.proofs.three_fill.Tie as tie
 
-list-end-requires : tie.Need-list-end-requires
-list-end-requires c κs = search needs
-
 optional-end-requires : tie.Need-optional-end-requires
 optional-end-requires c κs = omega (arith, c .list-end .ensures .1)
-
-byte-at-requires : tie.Need-byte-at-requires
-byte-at-requires c κs = search needs
-
-byte-at-requires-2 : tie.Need-byte-at-requires-2
-byte-at-requires-2 c κs = search needs
 
 optional-end-requires-2 : tie.Need-optional-end-requires-2
 optional-end-requires-2 c κs =
@@ -61,10 +52,10 @@ pub three-fill-spec : {M : Type 1} → statement M
 three-fill-spec =
     tie.close
     (tie.spec
-    list-end-requires
+    (λ c κs. search needs)
     optional-end-requires
-    byte-at-requires
-    byte-at-requires-2
+    (λ c κs. search needs)
+    (λ c κs. search needs)
     optional-end-requires-2
     returns
     returns-2

@@ -5,18 +5,6 @@ use borrow.Author.Needs.{needs}
 use Rattle.frames.proofs.three_in.Statement.{statement}
 use Rattle.frames.proofs.three_in.Tie as tie
 
-list-end-requires : tie.Need-list-end-requires
-list-end-requires c κs = search needs
-
-optional-end-requires : tie.Need-optional-end-requires
-optional-end-requires c κs = search needs
-
-has-list-requires : tie.Need-has-list-requires
-has-list-requires c κs = search needs
-
-has-list-requires-2 : tie.Need-has-list-requires-2
-has-list-requires-2 c κs = search needs
-
 unpack-list-requires : tie.Need-unpack-list-requires
 unpack-list-requires c κs =
     let b4 = c .before .before .before .before in
@@ -62,12 +50,6 @@ read-lists-requires c κs =
     let o = b25 .optional-end .ensures .0 in
     lists-ask (s .pre .0) (s .pre .1) l o (y .0) (y .1 .0) (omega (arith, l, y .1 .1 .0)) (omega (arith, l, y .1 .1 .1)) (m .0) (m .1 .0) (omega (arith, o, m .1 .1 .0)) (omega (arith, o, m .1 .1 .1)) (d .0) (d .1 .0) (d .1 .1 .0) (d .1 .1 .1)
 
-same-length : tie.Need-same-length
-same-length c = search needs
-
-same-length-2 : tie.Need-same-length-2
-same-length-2 c = search needs
-
 returns : tie.Need-returns
 returns c =
     let b7 = c .before .before .before .before .before .before .before in
@@ -89,14 +71,14 @@ pub three-in-spec : {M : Type 1} → statement M
 three-in-spec =
     tie.close
     (tie.spec
-    list-end-requires
-    optional-end-requires
-    has-list-requires
-    has-list-requires-2
+    (λ c κs. search needs)
+    (λ c κs. search needs)
+    (λ c κs. search needs)
+    (λ c κs. search needs)
     unpack-list-requires
     unpack-optional-requires
     unpack-optional-requires-2
     read-lists-requires
-    same-length
-    same-length-2
+    (λ c. search needs)
+    (λ c. search needs)
     returns)

@@ -7,15 +7,6 @@ use borrow.Author.Needs.{needs}
 use Rattle.frames.proofs.three_there.Statement.{statement}
 use Rattle.frames.proofs.three_there.Tie as tie
 
-has-list-requires : tie.Need-has-list-requires
-has-list-requires c κs = search needs
-
-has-list-requires-2 : tie.Need-has-list-requires-2
-has-list-requires-2 c κs = search needs
-
-row-at-requires : tie.Need-row-at-requires
-row-at-requires c κs = search needs
-
 add-row-at : tie.Need-add-row-at
 add-row-at c =
     let s = c .before .before .before .before in
@@ -52,12 +43,6 @@ text-start-requires-2 c κs =
     let t = are-there (s .pre) in
     omega (arith, s .pre .small, t .year-chunk .long, t .month-before, t .day-before)
 
-row-length-requires : tie.Need-row-length-requires
-row-length-requires c κs = search needs
-
-row-length-requires-2 : tie.Need-row-length-requires-2
-row-length-requires-2 c κs = search needs
-
 sub-parse-three-fields : tie.Need-sub-parse-three-fields
 sub-parse-three-fields c =
     let s = c .before .before .before .before .before .before .before .before .before .before in
@@ -75,9 +60,6 @@ part-parse-three-fields-end c =
     let s = c .before .before .before .before .before .before .before .before .before .before in
     let t = are-there (s .pre) in
     omega (arith, s .pre .small, t .year-chunk .long, t .month-before, t .day-before)
-
-slice-aggregate-parse-three-fields : tie.Need-slice-aggregate-parse-three-fields
-slice-aggregate-parse-three-fields c = search needs
 
 sub-parse-three-fields-2 : tie.Need-sub-parse-three-fields-2
 sub-parse-three-fields-2 c =
@@ -127,9 +109,6 @@ array-share-prefix-day c = row-taken (c .before .before .before .before .before 
 slice-aggregate-parse-three-fields-3 : tie.Need-slice-aggregate-parse-three-fields-3
 slice-aggregate-parse-three-fields-3 c = sym (length-take-le _ _ (row-taken (c .before .before .before .before .before .before .before .before .before .before .before .before .before .before .before .before .args .f .now) (c .before .before .before .before .before .before .before .before .before .before .before .before .before .before .before .before .args .day-at + 2) (c .before .before .before .before .before .before .before .before .before .before .before .before .before .has-list2 .result) (c .before .before .before .before .before .before .row-length2 .ensures) (c .before .before .before .before .before .before .before .before .before .before .row-at3 .ensures)))
 
-parse-three-fields-requires : tie.Need-parse-three-fields-requires
-parse-three-fields-requires c κs = search needs
-
 returns : tie.Need-returns
 returns c =
     let s = c .before .before .before .before .before .before .before .before .before .before .before .before .before .before .before .before .before in
@@ -139,21 +118,21 @@ pub three-there-spec : {M : Type 1} → statement M
 three-there-spec =
     tie.close
     (tie.spec
-    has-list-requires
-    has-list-requires-2
-    row-at-requires
+    (λ c κs. search needs)
+    (λ c κs. search needs)
+    (λ c κs. search needs)
     add-row-at
     row-at-requires-2
     add-row-at-2
     row-at-requires-3
     text-start-requires
     text-start-requires-2
-    row-length-requires
-    row-length-requires-2
+    (λ c κs. search needs)
+    (λ c κs. search needs)
     sub-parse-three-fields
     part-parse-three-fields-start
     part-parse-three-fields-end
-    slice-aggregate-parse-three-fields
+    (λ c. search needs)
     sub-parse-three-fields-2
     part-parse-three-fields-start-2
     part-parse-three-fields-end-2
@@ -164,5 +143,5 @@ three-there-spec =
     part-parse-three-fields-end-3
     array-share-prefix-day
     slice-aggregate-parse-three-fields-3
-    parse-three-fields-requires
+    (λ c κs. search needs)
     returns)

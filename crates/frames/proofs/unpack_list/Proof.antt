@@ -1,18 +1,12 @@
 use mathlib.Core.Path.{sym, ap}
 use Prim.Native.Nat.{ℕ, _+_}
 use native.Mathlib.Omega.{arith}
-use Rattle.writer.proofs.Puts.{as-text}
+use Rattle.puts.proofs.Puts.{as-text}
 use Rattle.frames.specs.Lists.{textOf, tableOf}
 use Rattle.frames.proofs.Places.{list-starts, rows-fit, text-behind, table-behind}
 use borrow.Author.Needs.{needs}
 use Rattle.frames.proofs.unpack_list.Statement.{statement}
 use Rattle.frames.proofs.unpack_list.Tie as tie
-
-byte-at-requires : tie.Need-byte-at-requires
-byte-at-requires c κs = search needs
-
-cast-n : tie.Need-cast-n
-cast-n c = search needs
 
 add-put-texts : tie.Need-add-put-texts
 add-put-texts c =
@@ -39,12 +33,6 @@ put-rows-requires c κs =
     let r = rows-fit (s .pre .0) (s .args .at) (s .args .m) (s .args .k) (s .pre .1) (s .pre .2) (s .pre .3) in
     (rw (b5 .byte-at .ensures) (omega (arith, s .pre .1, s .pre .0 .small)), rw (b5 .byte-at .ensures) r)
 
-same-length : tie.Need-same-length
-same-length c = search needs
-
-same-length-2 : tie.Need-same-length-2
-same-length-2 c = search needs
-
 returns : tie.Need-returns
 returns c =
     let b2 = c .before .before in
@@ -63,12 +51,12 @@ pub unpack-list-spec : {M : Type 1} → statement M
 unpack-list-spec =
     tie.close
     (tie.spec
-    byte-at-requires
-    cast-n
+    (λ c κs. search needs)
+    (λ c. search needs)
     add-put-texts
     put-texts-requires
     add-put-rows
     put-rows-requires
-    same-length
-    same-length-2
+    (λ c. search needs)
+    (λ c. search needs)
     returns)

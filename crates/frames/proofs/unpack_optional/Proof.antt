@@ -6,9 +6,6 @@ use borrow.Author.Needs.{needs}
 use Rattle.frames.proofs.unpack_optional.Statement.{statement}
 use Rattle.frames.proofs.unpack_optional.Tie as tie
 
-has-list-requires : tie.Need-has-list-requires
-has-list-requires c κs = search needs
-
 add-unpack-list : tie.Need-add-unpack-list
 add-unpack-list c =
     let b1 = c .before in
@@ -24,12 +21,6 @@ unpack-list-requires c κs =
     let s = b3 .before .before .before .before in
     let i = present (s .args .f .now) (s .args .at) (sym (b3 .has-list .ensures) ∙ b2 .if1 .taken) in
     (s .pre .0, omega (arith, i, s .pre .1), omega (arith, s .pre .2), omega (arith, s .pre .3))
-
-same-length : tie.Need-same-length
-same-length c = search needs
-
-same-length-2 : tie.Need-same-length-2
-same-length-2 c = search needs
 
 returns : tie.Need-returns
 returns c =
@@ -49,10 +40,10 @@ pub unpack-optional-spec : {M : Type 1} → statement M
 unpack-optional-spec =
     tie.close
     (tie.spec
-    has-list-requires
+    (λ c κs. search needs)
     add-unpack-list
     unpack-list-requires
-    same-length
-    same-length-2
+    (λ c. search needs)
+    (λ c. search needs)
     returns
     returns-2)

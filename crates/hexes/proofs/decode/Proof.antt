@@ -1,4 +1,4 @@
-use mathlib.Core.Path.{_≡_, sym, _∙_}
+use mathlib.Core.Path.{sym, _∙_}
 use native.Mathlib.Omega.{arith}
 use Rattle.hexes.proofs.Laws.{odd, long, foreign, good}
 use borrow.Author.Needs.{needs}
@@ -20,17 +20,11 @@ returns-2 c =
     let s = b1 .before .before .before in
     long (s .args .line .now) (s .args .frame .now) (b1 .if1 .left) (c .if2 .taken)
 
-all-digits-requires : tie.Need-all-digits-requires
-all-digits-requires c κs = search needs
-
 put-bytes-requires : tie.Need-put-bytes-requires
 put-bytes-requires c κs =
     let b1 = c .before in
     let b2 = b1 .before in
     (sym (b2 .all-digits .ensures) ∙ b1 .if3 .taken, omega arith)
-
-same-length : tie.Need-same-length
-same-length c = search needs
 
 returns-3 : tie.Need-returns-3
 returns-3 c =
@@ -56,8 +50,8 @@ decode-spec =
     (tie.spec
     returns
     returns-2
-    all-digits-requires
+    (λ c κs. search needs)
     put-bytes-requires
-    same-length
+    (λ c. search needs)
     returns-3
     returns-4)

@@ -22,12 +22,6 @@ abbrev μ-loop : tie.MeasureT-loop
 loop-holds : tie.Need-loop-holds Inv-loop μ-loop
 loop-holds c = (refl, omega arith, refl)
 
-mul-digit : tie.Need-mul-digit Inv-loop μ-loop
-mul-digit c = search needs
-
-shared-slice-read-digit : tie.Need-shared-slice-read-digit Inv-loop μ-loop
-shared-slice-read-digit c = search needs
-
 digit-requires : tie.Need-digit-requires Inv-loop μ-loop
 digit-requires c κs =
     let b2 = c .before .before in
@@ -36,15 +30,6 @@ digit-requires c κs =
 
 mul-frame : tie.Need-mul-frame Inv-loop μ-loop
 mul-frame c = omega (arith, c .digit .ensures .1)
-
-mul-digit-2 : tie.Need-mul-digit-2 Inv-loop μ-loop
-mul-digit-2 c = search needs
-
-add-digit : tie.Need-add-digit Inv-loop μ-loop
-add-digit c = search needs
-
-shared-slice-read-digit-2 : tie.Need-shared-slice-read-digit-2 Inv-loop μ-loop
-shared-slice-read-digit-2 c = search needs
 
 digit-requires-2 : tie.Need-digit-requires-2 Inv-loop μ-loop
 digit-requires-2 c κs =
@@ -62,12 +47,6 @@ slice-write-frame c =
     let b5 = c .before .before .before .before .before in
     let s = b5 .before .before .before in
     omega (arith, b5 .loop .inv .2, s .pre .1)
-
-add-i : tie.Need-add-i Inv-loop μ-loop
-add-i c = search needs
-
-loop-less : tie.Need-loop-less Inv-loop μ-loop
-loop-less c = omega arith
 
 loop-again : tie.Need-loop-again Inv-loop μ-loop
 loop-again c =
@@ -94,18 +73,18 @@ put-bytes-spec =
     Inv-loop
     μ-loop
     loop-holds
-    mul-digit
-    shared-slice-read-digit
+    (λ c. search needs)
+    (λ c. search needs)
     digit-requires
     mul-frame
-    mul-digit-2
-    add-digit
-    shared-slice-read-digit-2
+    (λ c. search needs)
+    (λ c. search needs)
+    (λ c. search needs)
     digit-requires-2
     add-frame
     slice-write-frame
-    add-i
-    loop-less
+    (λ c. search needs)
+    (λ c. omega arith)
     loop-again
     same-length
     returns)

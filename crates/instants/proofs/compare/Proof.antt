@@ -5,27 +5,6 @@ use borrow.Author.Needs.{needs}
 use Rattle.instants.proofs.compare.Statement.{statement}
 use Rattle.instants.proofs.compare.Tie as tie
 
-instant-of-requires : tie.Need-instant-of-requires
-instant-of-requires c κs = search needs
-
-enum-known-x : tie.Need-enum-known-x
-enum-known-x c = search needs
-
-instant-of-requires-2 : tie.Need-instant-of-requires-2
-instant-of-requires-2 c κs = search needs
-
-enum-known-y : tie.Need-enum-known-y
-enum-known-y c = search needs
-
-cmp-requires : tie.Need-cmp-requires
-cmp-requires c κs = search needs
-
-enum-known-e : tie.Need-enum-known-e
-enum-known-e c = search needs
-
-enum-known-e-2 : tie.Need-enum-known-e-2
-enum-known-e-2 c = search needs
-
 returns : tie.Need-returns
 unfolding compared both
 returns c =
@@ -58,13 +37,13 @@ pub compare-spec : {M : Type 1} → statement M
 compare-spec =
     tie.close
     (tie.spec
-    instant-of-requires
-    enum-known-x
-    instant-of-requires-2
-    enum-known-y
-    cmp-requires
-    enum-known-e
-    enum-known-e-2
+    (λ c κs. search needs)
+    (λ c. search needs)
+    (λ c κs. search needs)
+    (λ c. search needs)
+    (λ c κs. search needs)
+    (λ c. search needs)
+    (λ c. search needs)
     returns
     returns-2
     returns-3)

@@ -6,18 +6,6 @@ use borrow.Author.Needs.{needs}
 use Rattle.instants.proofs.instant_of.Statement.{statement}
 use Rattle.instants.proofs.instant_of.Tie as tie
 
-days-by-formula-requires : tie.Need-days-by-formula-requires
-days-by-formula-requires c κs = search needs
-
-enum-known-p : tie.Need-enum-known-p
-enum-known-p c = search needs
-
-has-bad-time-requires : tie.Need-has-bad-time-requires
-has-bad-time-requires c κs = search needs
-
-refuse-requires : tie.Need-refuse-requires
-refuse-requires c κs = search needs
-
 returns : tie.Need-returns
 unfolding instantOf onCovered pick
 returns c =
@@ -26,12 +14,6 @@ returns c =
     let b4 = b2 .before .before in
     let b6 = b4 .before .before in
     simp (← b6 .days-by-formula .ensures, b4 .p .given .1, ← b2 .has-bad-time .ensures, b1 .if1 .taken, ← c .refuse .ensures)
-
-on-day-requires : tie.Need-on-day-requires
-on-day-requires c κs = search needs
-
-enum-known-e : tie.Need-enum-known-e
-enum-known-e c = search needs
 
 returns-2 : tie.Need-returns-2
 unfolding instantOf onCovered pick
@@ -54,12 +36,12 @@ pub instant-of-spec : {M : Type 1} → statement M
 instant-of-spec =
     tie.close
     (tie.spec
-    days-by-formula-requires
-    enum-known-p
-    has-bad-time-requires
-    refuse-requires
+    (λ c κs. search needs)
+    (λ c. search needs)
+    (λ c κs. search needs)
+    (λ c κs. search needs)
     returns
-    on-day-requires
-    enum-known-e
+    (λ c κs. search needs)
+    (λ c. search needs)
     returns-2
     returns-3)

@@ -16,18 +16,6 @@ with-offset : (day : ℤ) (t : Time) {o : TimeOffset} → t .offset ≡ SomeOffs
 unfolding onTime
 with-offset day t e = rw e
 
-enum-told : tie.Need-enum-told
-enum-told c = search needs
-
-refuse-requires : tie.Need-refuse-requires
-refuse-requires c κs = search needs
-
-enum-told-2 : tie.Need-enum-told-2
-enum-told-2 c = search needs
-
-seconds-at-requires : tie.Need-seconds-at-requires
-seconds-at-requires c κs = search needs
-
 returns : tie.Need-returns
 unfolding onTime
 returns c =
@@ -45,4 +33,4 @@ returns-2 c =
 pub on-time-spec : {M : Type 1} → statement M
 on-time-spec =
     tie.close
-    (tie.spec enum-told refuse-requires enum-told-2 seconds-at-requires returns returns-2)
+    (tie.spec (λ c. search needs) (λ c κs. search needs) (λ c. search needs) (λ c κs. search needs) returns returns-2)

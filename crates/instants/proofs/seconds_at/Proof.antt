@@ -13,9 +13,6 @@ cast-result c = wide-fits (c .args .day) (c .fits .day)
 mul-result : tie.Need-mul-result
 mul-result c = times-fits (c .args .day) (c .fits .day)
 
-to-utc-seconds-requires : tie.Need-to-utc-seconds-requires
-to-utc-seconds-requires c κs = search needs
-
 add-result : tie.Need-add-result
 add-result c =
     let u = c .to-utc-seconds in
@@ -30,4 +27,4 @@ returns c =
 
 pub seconds-at-spec : {M : Type 1} → statement M
 seconds-at-spec =
-    tie.close (tie.spec cast-result mul-result to-utc-seconds-requires add-result returns)
+    tie.close (tie.spec cast-result mul-result (λ c κs. search needs) add-result returns)

@@ -3,15 +3,6 @@ use borrow.Author.Needs.{needs}
 use Rattle.knobstream.proofs.date_of.Statement.{statement}
 use Rattle.knobstream.proofs.date_of.Tie as tie
 
-value-of-requires : tie.Need-value-of-requires
-value-of-requires c κs = search needs
-
-is-set-requires : tie.Need-is-set-requires
-is-set-requires c κs = search needs
-
-is-set-requires-2 : tie.Need-is-set-requires-2
-is-set-requires-2 c κs = search needs
-
 returns : tie.Need-returns
 unfolding dateBy
 returns c =
@@ -20,4 +11,4 @@ returns c =
     simp (← b2 .value-of .ensures, ← b1 .is-set .ensures, ← c .is-set2 .ensures)
 
 pub date-of-spec : {M : Type 1} → statement M
-date-of-spec = tie.close (tie.spec value-of-requires is-set-requires is-set-requires-2 returns)
+date-of-spec = tie.close (tie.spec (λ c κs. search needs) (λ c κs. search needs) (λ c κs. search needs) returns)

@@ -5,18 +5,6 @@ use borrow.Author.Needs.{needs}
 use Rattle.knobstream.proofs.datetime_of.Statement.{statement}
 use Rattle.knobstream.proofs.datetime_of.Tie as tie
 
-month-of-requires : tie.Need-month-of-requires
-month-of-requires c κs = search needs
-
-day-of-requires : tie.Need-day-of-requires
-day-of-requires c κs = search needs
-
-time-of-requires : tie.Need-time-of-requires
-time-of-requires c κs = search needs
-
-season-of-requires : tie.Need-season-of-requires
-season-of-requires c κs = search needs
-
 returns : tie.Need-returns
 unfolding datetimeOf
 returns c =
@@ -29,4 +17,4 @@ returns c =
 
 pub datetime-of-spec : {M : Type 1} → statement M
 datetime-of-spec =
-    tie.close (tie.spec month-of-requires day-of-requires time-of-requires season-of-requires returns)
+    tie.close (tie.spec (λ c κs. search needs) (λ c κs. search needs) (λ c κs. search needs) (λ c κs. search needs) returns)

@@ -5,15 +5,6 @@ use borrow.Author.Needs.{needs}
 use Rattle.knobstream.proofs.day_only.Statement.{statement}
 use Rattle.knobstream.proofs.day_only.Tie as tie
 
-month-of-requires : tie.Need-month-of-requires
-month-of-requires c κs = search needs
-
-day-of-requires : tie.Need-day-of-requires
-day-of-requires c κs = search needs
-
-season-of-requires : tie.Need-season-of-requires
-season-of-requires c κs = search needs
-
 returns : tie.Need-returns
 unfolding dayOnly
 returns c =
@@ -24,4 +15,4 @@ returns c =
     rw (y, b3 .month-of .ensures, b2 .day-of .ensures, b1 .season-of .ensures)
 
 pub day-only-spec : {M : Type 1} → statement M
-day-only-spec = tie.close (tie.spec month-of-requires day-of-requires season-of-requires returns)
+day-only-spec = tie.close (tie.spec (λ c κs. search needs) (λ c κs. search needs) (λ c κs. search needs) returns)

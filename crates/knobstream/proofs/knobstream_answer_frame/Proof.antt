@@ -4,15 +4,6 @@ use borrow.Author.Needs.{needs}
 use Rattle.knobstream.proofs.knobstream_answer_frame.Statement.{statement}
 use Rattle.knobstream.proofs.knobstream_answer_frame.Tie as tie
 
-answer-requires : tie.Need-answer-requires
-answer-requires c κs = search needs
-
-plain-written-requires : tie.Need-plain-written-requires
-plain-written-requires c κs = search needs
-
-same-length : tie.Need-same-length
-same-length c = search needs
-
 returns : tie.Need-returns
 returns c =
     let b = c .before .before .before in
@@ -20,4 +11,4 @@ returns c =
 
 pub knobstream-answer-frame-spec : {M : Type 1} → statement M
 knobstream-answer-frame-spec =
-    tie.close (tie.spec answer-requires plain-written-requires same-length returns)
+    tie.close (tie.spec (λ c κs. search needs) (λ c κs. search needs) (λ c. search needs) returns)

@@ -3,18 +3,6 @@ use borrow.Author.Needs.{needs}
 use Rattle.knobstream.proofs.knobstream_compare.Statement.{statement}
 use Rattle.knobstream.proofs.knobstream_compare.Tie as tie
 
-datetime-of-requires : tie.Need-datetime-of-requires
-datetime-of-requires c κs = search needs
-
-datetime-of-requires-2 : tie.Need-datetime-of-requires-2
-datetime-of-requires-2 c κs = search needs
-
-partial-cmp-requires : tie.Need-partial-cmp-requires
-partial-cmp-requires c κs = search needs
-
-plain-compared-requires : tie.Need-plain-compared-requires
-plain-compared-requires c κs = search needs
-
 returns : tie.Need-returns
 returns c =
     let b1 = c .before in
@@ -26,8 +14,8 @@ pub knobstream-compare-spec : {M : Type 1} → statement M
 knobstream-compare-spec =
     tie.close
     (tie.spec
-    datetime-of-requires
-    datetime-of-requires-2
-    partial-cmp-requires
-    plain-compared-requires
+    (λ c κs. search needs)
+    (λ c κs. search needs)
+    (λ c κs. search needs)
+    (λ c κs. search needs)
     returns)

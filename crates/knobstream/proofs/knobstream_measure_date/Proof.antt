@@ -9,15 +9,6 @@ use borrow.Author.Needs.{needs}
 use Rattle.knobstream.proofs.knobstream_measure_date.Statement.{statement}
 use Rattle.knobstream.proofs.knobstream_measure_date.Tie as tie
 
-date-of-requires : tie.Need-date-of-requires
-date-of-requires c κs = search needs
-
-date-length-requires : tie.Need-date-length-requires
-date-length-requires c κs = search needs
-
-plain-measured-requires : tie.Need-plain-measured-requires
-plain-measured-requires c κs = search needs
-
 returns : tie.Need-returns
 returns c =
     let b1 = c .before in
@@ -29,4 +20,4 @@ returns c =
 
 pub knobstream-measure-date-spec : {M : Type 1} → statement M
 knobstream-measure-date-spec =
-    tie.close (tie.spec date-of-requires date-length-requires plain-measured-requires returns)
+    tie.close (tie.spec (λ c κs. search needs) (λ c κs. search needs) (λ c κs. search needs) returns)

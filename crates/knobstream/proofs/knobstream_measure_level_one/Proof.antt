@@ -7,15 +7,6 @@ use borrow.Author.Needs.{needs}
 use Rattle.knobstream.proofs.knobstream_measure_level_one.Statement.{statement}
 use Rattle.knobstream.proofs.knobstream_measure_level_one.Tie as tie
 
-date-of-requires : tie.Need-date-of-requires
-date-of-requires c κs = search needs
-
-level-length-requires : tie.Need-level-length-requires
-level-length-requires c κs = search needs
-
-plain-measured-requires : tie.Need-plain-measured-requires
-plain-measured-requires c κs = search needs
-
 returns : tie.Need-returns
 returns c =
     let b1 = c .before in
@@ -27,4 +18,4 @@ returns c =
 
 pub knobstream-measure-level-one-spec : {M : Type 1} → statement M
 knobstream-measure-level-one-spec =
-    tie.close (tie.spec date-of-requires level-length-requires plain-measured-requires returns)
+    tie.close (tie.spec (λ c κs. search needs) (λ c κs. search needs) (λ c κs. search needs) returns)

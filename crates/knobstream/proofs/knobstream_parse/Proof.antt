@@ -1,43 +1,10 @@
 use mathlib.Core.Path.{sym, ap, subst, _∙_}
-use Rattle.usual.proofs.Quick.{one-usual, two-usual, both-ported}
+use Rattle.reader.proofs.Quick.{one-ported, two-ported}
 use Rattle.knobstream.specs.Plain.{read}
 use Rattle.knobstream.specs.Layout.{Answered}
 use borrow.Author.Needs.{needs}
 use Rattle.knobstream.proofs.knobstream_parse.Statement.{statement}
 use Rattle.knobstream.proofs.knobstream_parse.Tie as tie
-
-is-one-normal-requires : tie.Need-is-one-normal-requires
-is-one-normal-requires c κs = search needs
-
-text-requires : tie.Need-text-requires
-text-requires c κs = search needs
-
-enum-known-d : tie.Need-enum-known-d
-enum-known-d c = search needs
-
-read-one-requires : tie.Need-read-one-requires
-read-one-requires c κs = search needs
-
-put-requires : tie.Need-put-requires
-put-requires c κs = search needs
-
-enum-known-a : tie.Need-enum-known-a
-enum-known-a c = search needs
-
-read-two-requires : tie.Need-read-two-requires
-read-two-requires c κs = search needs
-
-put-requires-2 : tie.Need-put-requires-2
-put-requires-2 c κs = search needs
-
-enum-told : tie.Need-enum-told
-enum-told c = search needs
-
-parse-requires : tie.Need-parse-requires
-parse-requires c κs = search needs
-
-put-read-requires : tie.Need-put-read-requires
-put-read-requires c κs = search needs
 
 returns : tie.Need-returns
 returns c =
@@ -45,8 +12,7 @@ returns c =
     let b6 = b2 .before .before .before .before in
     let b8 = b6 .before .before in
     let a = b8 .before .before .before .args in
-    let u = one-usual (a .bytes .now) (sym (b6 .text .ensures) ∙ b2 .before .before .d .given .1) in
-    let e = both-ported (a .bytes .now) (a .table .now) (sym (b8 .is-one-normal .ensures) ∙ b6 .before .if1 .taken) u in
+    let e = one-ported (a .bytes .now) (a .table .now) (sym (b8 .is-one-normal .ensures) ∙ b6 .before .if1 .taken) (sym (b6 .text .ensures) ∙ b2 .before .before .d .given .1) in
     subst (Answered _) (b2 .read-one .ensures ∙ sym (ap read e)) (c .put .ensures)
 
 returns-2 : tie.Need-returns-2
@@ -55,40 +21,33 @@ returns-2 c =
     let b6 = b2 .before .before .before .before in
     let b8 = b6 .before .before in
     let a = b8 .before .before .before .args in
-    let u = two-usual (a .bytes .now) (sym (b6 .text .ensures) ∙ b2 .before .before .a .given .1) in
-    let e = both-ported (a .bytes .now) (a .table .now) (sym (b8 .is-one-normal .ensures) ∙ b6 .before .if1 .taken) u in
+    let e = two-ported (a .bytes .now) (a .table .now) (sym (b8 .is-one-normal .ensures) ∙ b6 .before .if1 .taken) (sym (b6 .text .ensures) ∙ b2 .before .before .a .given .1) in
     subst (Answered _) (b2 .read-two .ensures ∙ sym (ap read e)) (c .put2 .ensures)
 
 returns-3 : tie.Need-returns-3
-returns-3 c = subst (Answered _) (ap read (c .before .before .parse .ensures)) (c .put-read .ensures)
-
-parse-requires-2 : tie.Need-parse-requires-2
-parse-requires-2 c κs = search needs
-
-put-read-requires-2 : tie.Need-put-read-requires-2
-put-read-requires-2 c κs = search needs
+returns-3 c = subst (Answered _) (ap read (c .before .before .parse-unusual .ensures)) (c .put-read .ensures)
 
 returns-4 : tie.Need-returns-4
-returns-4 c = subst (Answered _) (ap read (c .before .before .parse2 .ensures)) (c .put-read2 .ensures)
+returns-4 c = subst (Answered _) (ap read (c .before .before .parse-unusual2 .ensures)) (c .put-read2 .ensures)
 
 pub knobstream-parse-spec : {M : Type 1} → statement M
 knobstream-parse-spec =
     tie.close
     (tie.spec
-    is-one-normal-requires
-    text-requires
-    enum-known-d
-    read-one-requires
-    put-requires
-    enum-known-a
-    read-two-requires
-    put-requires-2
-    enum-told
-    parse-requires
-    put-read-requires
+    (λ c κs. search needs)
+    (λ c κs. search needs)
+    (λ c. search needs)
+    (λ c κs. search needs)
+    (λ c κs. search needs)
+    (λ c. search needs)
+    (λ c κs. search needs)
+    (λ c κs. search needs)
+    (λ c. search needs)
+    (λ c κs. search needs)
+    (λ c κs. search needs)
     returns
     returns-2
     returns-3
-    parse-requires-2
-    put-read-requires-2
+    (λ c κs. search needs)
+    (λ c κs. search needs)
     returns-4)

@@ -5,15 +5,9 @@ use borrow.Author.Needs.{needs}
 use Rattle.knobstream.proofs.knobstream_parse_level_one.Statement.{statement}
 use Rattle.knobstream.proofs.knobstream_parse_level_one.Tie as tie
 
-parse-level-one-requires : tie.Need-parse-level-one-requires
-parse-level-one-requires c κs = search needs
-
-put-read-requires : tie.Need-put-read-requires
-put-read-requires c κs = search needs
-
 returns : tie.Need-returns
 returns c = subst (Answered _) (ap read (c .before .before .parse-level-one .ensures)) (c .put-read .ensures)
 
 pub knobstream-parse-level-one-spec : {M : Type 1} → statement M
 knobstream-parse-level-one-spec =
-    tie.close (tie.spec parse-level-one-requires put-read-requires returns)
+    tie.close (tie.spec (λ c κs. search needs) (λ c κs. search needs) returns)

@@ -8,18 +8,6 @@ use borrow.Author.Needs.{needs}
 use Rattle.knobstream.proofs.knobstream_write_date.Statement.{statement}
 use Rattle.knobstream.proofs.knobstream_write_date.Tie as tie
 
-date-of-requires : tie.Need-date-of-requires
-date-of-requires c κs = search needs
-
-write-date-requires : tie.Need-write-date-requires
-write-date-requires c κs = search needs
-
-plain-written-requires : tie.Need-plain-written-requires
-plain-written-requires c κs = search needs
-
-same-length : tie.Need-same-length
-same-length c = search needs
-
 returns : tie.Need-returns
 returns c =
     let b3 = c .before .before .before in
@@ -34,4 +22,4 @@ returns c =
 pub knobstream-write-date-spec : {M : Type 1} → statement M
 knobstream-write-date-spec =
     tie.close
-    (tie.spec date-of-requires write-date-requires plain-written-requires same-length returns)
+    (tie.spec (λ c κs. search needs) (λ c κs. search needs) (λ c κs. search needs) (λ c. search needs) returns)

@@ -9,18 +9,6 @@ use borrow.Author.Needs.{needs}
 use Rattle.knobstream.proofs.knobstream_write_fields.Statement.{statement}
 use Rattle.knobstream.proofs.knobstream_write_fields.Tie as tie
 
-date-of-requires : tie.Need-date-of-requires
-date-of-requires c κs = search needs
-
-write-fields-requires : tie.Need-write-fields-requires
-write-fields-requires c κs = search needs
-
-plain-written-requires : tie.Need-plain-written-requires
-plain-written-requires c κs = search needs
-
-same-length : tie.Need-same-length
-same-length c = search needs
-
 returns : tie.Need-returns
 returns c =
     let b3 = c .before .before .before in
@@ -35,4 +23,4 @@ returns c =
 pub knobstream-write-fields-spec : {M : Type 1} → statement M
 knobstream-write-fields-spec =
     tie.close
-    (tie.spec date-of-requires write-fields-requires plain-written-requires same-length returns)
+    (tie.spec (λ c κs. search needs) (λ c κs. search needs) (λ c κs. search needs) (λ c. search needs) returns)

@@ -7,18 +7,6 @@ use borrow.Author.Needs.{needs}
 use Rattle.knobstream.proofs.knobstream_write_level_one.Statement.{statement}
 use Rattle.knobstream.proofs.knobstream_write_level_one.Tie as tie
 
-date-of-requires : tie.Need-date-of-requires
-date-of-requires c κs = search needs
-
-write-level-requires : tie.Need-write-level-requires
-write-level-requires c κs = search needs
-
-plain-written-requires : tie.Need-plain-written-requires
-plain-written-requires c κs = search needs
-
-same-length : tie.Need-same-length
-same-length c = search needs
-
 returns : tie.Need-returns
 returns c =
     let b3 = c .before .before .before in
@@ -33,4 +21,4 @@ returns c =
 pub knobstream-write-level-one-spec : {M : Type 1} → statement M
 knobstream-write-level-one-spec =
     tie.close
-    (tie.spec date-of-requires write-level-requires plain-written-requires same-length returns)
+    (tie.spec (λ c κs. search needs) (λ c κs. search needs) (λ c κs. search needs) (λ c. search needs) returns)

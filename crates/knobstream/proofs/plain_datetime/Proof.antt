@@ -5,24 +5,6 @@ use borrow.Author.Needs.{needs}
 use Rattle.knobstream.proofs.plain_datetime.Statement.{statement}
 use Rattle.knobstream.proofs.plain_datetime.Tie as tie
 
-season-number-requires : tie.Need-season-number-requires
-season-number-requires c κs = search needs
-
-enum-told : tie.Need-enum-told
-enum-told c = search needs
-
-has-month-requires : tie.Need-has-month-requires
-has-month-requires c κs = search needs
-
-month-number-requires : tie.Need-month-number-requires
-month-number-requires c κs = search needs
-
-has-day-requires : tie.Need-has-day-requires
-has-day-requires c κs = search needs
-
-day-number-requires : tie.Need-day-number-requires
-day-number-requires c κs = search needs
-
 returns : tie.Need-returns
 returns c =
     let b1 = c .before in
@@ -33,33 +15,6 @@ returns c =
     let b7 = b5 .before .before in
     let d = b7 .before .args .d in
     made-untimed d (toZ-ofZ w32 (d .year) (record { sfits = c .struct-told .given .0 .1 })) (b4 .has-month .ensures) (b3 .month-number .ensures) (b2 .has-day .ensures) (b1 .day-number .ensures) (b7 .season-number .ensures) (b5 .enum-told .given .1)
-
-enum-known-time : tie.Need-enum-known-time
-enum-known-time c = search needs
-
-shift-of-requires : tie.Need-shift-of-requires
-shift-of-requires c κs = search needs
-
-has-month-requires-2 : tie.Need-has-month-requires-2
-has-month-requires-2 c κs = search needs
-
-month-number-requires-2 : tie.Need-month-number-requires-2
-month-number-requires-2 c κs = search needs
-
-has-day-requires-2 : tie.Need-has-day-requires-2
-has-day-requires-2 c κs = search needs
-
-day-number-requires-2 : tie.Need-day-number-requires-2
-day-number-requires-2 c κs = search needs
-
-offset-sort-requires : tie.Need-offset-sort-requires
-offset-sort-requires c κs = search needs
-
-hours-of-requires : tie.Need-hours-of-requires
-hours-of-requires c κs = search needs
-
-minutes-of-requires : tie.Need-minutes-of-requires
-minutes-of-requires c κs = search needs
 
 returns-2 : tie.Need-returns-2
 returns-2 c =
@@ -80,20 +35,20 @@ pub plain-datetime-spec : {M : Type 1} → statement M
 plain-datetime-spec =
     tie.close
     (tie.spec
-    season-number-requires
-    enum-told
-    has-month-requires
-    month-number-requires
-    has-day-requires
-    day-number-requires
+    (λ c κs. search needs)
+    (λ c. search needs)
+    (λ c κs. search needs)
+    (λ c κs. search needs)
+    (λ c κs. search needs)
+    (λ c κs. search needs)
     returns
-    enum-known-time
-    shift-of-requires
-    has-month-requires-2
-    month-number-requires-2
-    has-day-requires-2
-    day-number-requires-2
-    offset-sort-requires
-    hours-of-requires
-    minutes-of-requires
+    (λ c. search needs)
+    (λ c κs. search needs)
+    (λ c κs. search needs)
+    (λ c κs. search needs)
+    (λ c κs. search needs)
+    (λ c κs. search needs)
+    (λ c κs. search needs)
+    (λ c κs. search needs)
+    (λ c κs. search needs)
     returns-2)

@@ -2,15 +2,6 @@ use borrow.Author.Needs.{needs}
 use Rattle.knobstream.proofs.plain_written.Statement.{statement}
 use Rattle.knobstream.proofs.plain_written.Tie as tie
 
-enum-known-w : tie.Need-enum-known-w
-enum-known-w c = search needs
-
-enum-known-w-2 : tie.Need-enum-known-w-2
-enum-known-w-2 c = search needs
-
-number-requires : tie.Need-number-requires
-number-requires c κs = search needs
-
 returns : tie.Need-returns
 returns c =
     let b1 = c .before in
@@ -23,4 +14,4 @@ returns-2 c =
 
 pub plain-written-spec : {M : Type 1} → statement M
 plain-written-spec =
-    tie.close (tie.spec enum-known-w enum-known-w-2 number-requires returns returns-2)
+    tie.close (tie.spec (λ c. search needs) (λ c. search needs) (λ c κs. search needs) returns returns-2)

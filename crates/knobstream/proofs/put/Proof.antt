@@ -4,21 +4,6 @@ use Rattle.knobstream.proofs.Words.{answered}
 use Rattle.knobstream.proofs.put.Statement.{statement}
 use Rattle.knobstream.proofs.put.Tie as tie
 
-day-word-requires : tie.Need-day-word-requires
-day-word-requires c κs = search needs
-
-time-word-requires : tie.Need-time-word-requires
-time-word-requires c κs = search needs
-
-day-word-requires-2 : tie.Need-day-word-requires-2
-day-word-requires-2 c κs = search needs
-
-time-word-requires-2 : tie.Need-time-word-requires-2
-time-word-requires-2 c κs = search needs
-
-last-word-requires : tie.Need-last-word-requires
-last-word-requires c κs = search needs
-
 returns : tie.Need-returns
 returns c =
     let b1 = c .before in
@@ -41,9 +26,9 @@ pub put-spec : {M : Type 1} → statement M
 put-spec =
     tie.close
     (tie.spec
-    day-word-requires
-    time-word-requires
-    day-word-requires-2
-    time-word-requires-2
-    last-word-requires
+    (λ c κs. search needs)
+    (λ c κs. search needs)
+    (λ c κs. search needs)
+    (λ c κs. search needs)
+    (λ c κs. search needs)
     returns)

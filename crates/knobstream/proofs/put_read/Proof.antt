@@ -9,54 +9,6 @@ use borrow.Author.Needs.{needs}
 use Rattle.knobstream.proofs.put_read.Statement.{statement}
 use Rattle.knobstream.proofs.put_read.Tie as tie
 
-enum-known-r : tie.Need-enum-known-r
-enum-known-r c = search needs
-
-enum-known-v : tie.Need-enum-known-v
-enum-known-v c = search needs
-
-read-one-requires : tie.Need-read-one-requires
-read-one-requires c κs = search needs
-
-put-requires : tie.Need-put-requires
-put-requires c κs = search needs
-
-enum-known-v-2 : tie.Need-enum-known-v-2
-enum-known-v-2 c = search needs
-
-read-one-requires-2 : tie.Need-read-one-requires-2
-read-one-requires-2 c κs = search needs
-
-put-requires-2 : tie.Need-put-requires-2
-put-requires-2 c κs = search needs
-
-enum-known-v-3 : tie.Need-enum-known-v-3
-enum-known-v-3 c = search needs
-
-read-one-requires-3 : tie.Need-read-one-requires-3
-read-one-requires-3 c κs = search needs
-
-put-requires-3 : tie.Need-put-requires-3
-put-requires-3 c κs = search needs
-
-enum-known-v-4 : tie.Need-enum-known-v-4
-enum-known-v-4 c = search needs
-
-read-two-requires : tie.Need-read-two-requires
-read-two-requires c κs = search needs
-
-put-requires-4 : tie.Need-put-requires-4
-put-requires-4 c κs = search needs
-
-enum-known-r-2 : tie.Need-enum-known-r-2
-enum-known-r-2 c = search needs
-
-number-requires : tie.Need-number-requires
-number-requires c κs = search needs
-
-last-word-requires : tie.Need-last-word-requires
-last-word-requires c κs = search needs
-
 returns : tie.Need-returns
 returns c =
     let b2 = c .before .before in
@@ -100,22 +52,22 @@ pub put-read-spec : {M : Type 1} → statement M
 put-read-spec =
     tie.close
     (tie.spec
-    enum-known-r
-    enum-known-v
-    read-one-requires
-    put-requires
-    enum-known-v-2
-    read-one-requires-2
-    put-requires-2
-    enum-known-v-3
-    read-one-requires-3
-    put-requires-3
-    enum-known-v-4
-    read-two-requires
-    put-requires-4
-    enum-known-r-2
-    number-requires
-    last-word-requires
+    (λ c. search needs)
+    (λ c. search needs)
+    (λ c κs. search needs)
+    (λ c κs. search needs)
+    (λ c. search needs)
+    (λ c κs. search needs)
+    (λ c κs. search needs)
+    (λ c. search needs)
+    (λ c κs. search needs)
+    (λ c κs. search needs)
+    (λ c. search needs)
+    (λ c κs. search needs)
+    (λ c κs. search needs)
+    (λ c. search needs)
+    (λ c κs. search needs)
+    (λ c κs. search needs)
     returns
     returns-2
     returns-3

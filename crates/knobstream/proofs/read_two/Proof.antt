@@ -2,18 +2,6 @@ use borrow.Author.Needs.{needs}
 use Rattle.knobstream.proofs.read_two.Statement.{statement}
 use Rattle.knobstream.proofs.read_two.Tie as tie
 
-flag-requires : tie.Need-flag-requires
-flag-requires c κs = search needs
-
-flag-requires-2 : tie.Need-flag-requires-2
-flag-requires-2 c κs = search needs
-
-plain-datetime-requires : tie.Need-plain-datetime-requires
-plain-datetime-requires c κs = search needs
-
-plain-datetime-requires-2 : tie.Need-plain-datetime-requires-2
-plain-datetime-requires-2 c κs = search needs
-
 returns : tie.Need-returns
 returns c =
     let b1 = c .before in
@@ -25,8 +13,8 @@ pub read-two-spec : {M : Type 1} → statement M
 read-two-spec =
     tie.close
     (tie.spec
-    flag-requires
-    flag-requires-2
-    plain-datetime-requires
-    plain-datetime-requires-2
+    (λ c κs. search needs)
+    (λ c κs. search needs)
+    (λ c κs. search needs)
+    (λ c κs. search needs)
     returns)

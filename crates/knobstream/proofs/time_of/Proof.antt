@@ -4,12 +4,6 @@ use borrow.Author.Needs.{needs}
 use Rattle.knobstream.proofs.time_of.Statement.{statement}
 use Rattle.knobstream.proofs.time_of.Tie as tie
 
-is-set-requires : tie.Need-is-set-requires
-is-set-requires c κs = search needs
-
-offset-of-requires : tie.Need-offset-of-requires
-offset-of-requires c κs = search needs
-
 returns : tie.Need-returns
 unfolding timeOf pick
 returns c =
@@ -24,4 +18,4 @@ returns-2 c =
     simp (← b1 .is-set .ensures, c .if1 .left)
 
 pub time-of-spec : {M : Type 1} → statement M
-time-of-spec = tie.close (tie.spec is-set-requires offset-of-requires returns returns-2)
+time-of-spec = tie.close (tie.spec (λ c κs. search needs) (λ c κs. search needs) returns returns-2)

@@ -1,48 +1,33 @@
 use Rattle.chars.specs.Pick.{pick}
-use Rattle.knobstream.specs.Back.{valueOf}
+use Rattle.knobstream.specs.Back.{dateValue}
 use borrow.Author.Tests.{eq-eqb, ne-eqb}
 use borrow.Author.Needs.{needs}
 use Rattle.knobstream.proofs.value_of.Statement.{statement}
 use Rattle.knobstream.proofs.value_of.Tie as tie
 
-day-only-requires : tie.Need-day-only-requires
-day-only-requires c κs = search needs
-
 returns : tie.Need-returns
-unfolding valueOf pick
+unfolding dateValue pick
 returns c =
     let b1 = c .before in
     simp (eq-eqb _ _ (b1 .if1 .taken), ← c .day-only .ensures)
 
-day-only-requires-2 : tie.Need-day-only-requires-2
-day-only-requires-2 c κs = search needs
-
 returns-2 : tie.Need-returns-2
-unfolding valueOf pick
+unfolding dateValue pick
 returns-2 c =
     let b1 = c .before in
     let b2 = b1 .before in
     simp (ne-eqb _ _ (b2 .if1 .left), eq-eqb _ _ (b1 .if2 .taken), ← c .day-only2 .ensures)
 
-day-only-requires-3 : tie.Need-day-only-requires-3
-day-only-requires-3 c κs = search needs
-
 returns-3 : tie.Need-returns-3
-unfolding valueOf pick
+unfolding dateValue pick
 returns-3 c =
     let b1 = c .before in
     let b2 = b1 .before in
     let b3 = b2 .before in
     simp (ne-eqb _ _ (b3 .if1 .left), ne-eqb _ _ (b2 .if2 .left), eq-eqb _ _ (b1 .if3 .taken), ← c .day-only3 .ensures)
 
-day-only-requires-4 : tie.Need-day-only-requires-4
-day-only-requires-4 c κs = search needs
-
-day-only-requires-5 : tie.Need-day-only-requires-5
-day-only-requires-5 c κs = search needs
-
 returns-4 : tie.Need-returns-4
-unfolding valueOf pick
+unfolding dateValue pick
 returns-4 c =
     let b1 = c .before in
     let b2 = b1 .before in
@@ -54,12 +39,12 @@ pub value-of-spec : {M : Type 1} → statement M
 value-of-spec =
     tie.close
     (tie.spec
-    day-only-requires
+    (λ c κs. search needs)
     returns
-    day-only-requires-2
+    (λ c κs. search needs)
     returns-2
-    day-only-requires-3
+    (λ c κs. search needs)
     returns-3
-    day-only-requires-4
-    day-only-requires-5
+    (λ c κs. search needs)
+    (λ c κs. search needs)
     returns-4)

@@ -8,12 +8,6 @@ use Rattle.lines.proofs.finish.Tie as tie
 returns : tie.Need-returns
 returns c = let a = c .before .before .before .args in nothing-left lineAnswer 16384 (a .long) (a .rest .now) (a .out .now) (c .if1 .taken)
 
-put-line-requires : tie.Need-put-line-requires
-put-line-requires c κs = search needs
-
-same-length : tie.Need-same-length
-same-length c = search needs
-
 returns-2 : tie.Need-returns-2
 returns-2 c =
     let p = c .before .before in
@@ -21,4 +15,4 @@ returns-2 c =
     finished frames-long (a .long) (a .rest .now) (a .out .now) (p .before .before .if1 .left) (p .put-line .ensures)
 
 pub finish-spec : {M : Type 1} → statement M
-finish-spec = tie.close (tie.spec returns put-line-requires same-length returns-2)
+finish-spec = tie.close (tie.spec returns (λ c κs. search needs) (λ c. search needs) returns-2)

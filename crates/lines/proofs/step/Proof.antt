@@ -20,15 +20,6 @@ abbrev μ-loop : tie.MeasureT-loop
 loop-holds : tie.Need-loop-holds Inv-loop μ-loop
 loop-holds c = let a = c .before .before .args in begun lineAnswer 16384 (a .long) (a .block .now) (a .out .now)
 
-line-end-requires : tie.Need-line-end-requires Inv-loop μ-loop
-line-end-requires c κs = omega arith
-
-taken-at-requires : tie.Need-taken-at-requires Inv-loop μ-loop
-taken-at-requires c κs = omega arith
-
-same-length : tie.Need-same-length Inv-loop μ-loop
-same-length c = omega arith
-
 returns : tie.Need-returns Inv-loop μ-loop
 returns c =
     let m = c .before .before .before in
@@ -39,20 +30,8 @@ returns c =
     (sym (c .taken-at .ensures ∙ ap (λ (n : ℕ). takenAt 16384 n (m .loop .at) (m .loop .l) (m .loop .p)) h))
     (ended (m .loop .inv) (no-feed (m .loop .inv) g h))
 
-sub-put-line : tie.Need-sub-put-line Inv-loop μ-loop
-sub-put-line c = omega arith
-
-part-put-line-start : tie.Need-part-put-line-start Inv-loop μ-loop
-part-put-line-start c = search needs
-
 part-put-line-end : tie.Need-part-put-line-end Inv-loop μ-loop
 part-put-line-end c = let h = end-in (c .before .before .loop .inv) (c .before .line-end .ensures) in search needs
-
-put-line-requires : tie.Need-put-line-requires Inv-loop μ-loop
-put-line-requires c κs = omega arith
-
-same-length-2 : tie.Need-same-length-2 Inv-loop μ-loop
-same-length-2 c = omega arith
 
 returns-2 : tie.Need-returns-2 Inv-loop μ-loop
 returns-2 c =
@@ -89,15 +68,15 @@ step-spec =
     Inv-loop
     μ-loop
     loop-holds
-    line-end-requires
-    taken-at-requires
-    same-length
+    (λ c κs. omega arith)
+    (λ c κs. omega arith)
+    (λ c. omega arith)
     returns
-    sub-put-line
-    part-put-line-start
+    (λ c. omega arith)
+    (λ c. search needs)
     part-put-line-end
-    put-line-requires
-    same-length-2
+    (λ c κs. omega arith)
+    (λ c. omega arith)
     returns-2
     add-at
     loop-less

@@ -9,9 +9,6 @@ returns : tie.Need-returns
 unfolding takenAt pick
 returns c = simp (c .if1 .taken)
 
-sub-if2 : tie.Need-sub-if2
-sub-if2 c = search needs
-
 returns-2 : tie.Need-returns-2
 unfolding takenAt pick
 returns-2 c = simp (c .before .if1 .left, lt-ltb _ _ (c .if2 .taken))
@@ -21,4 +18,4 @@ unfolding takenAt pick
 returns-3 c = simp (c .before .if1 .left, le-ltb _ _ (c .if2 .left))
 
 pub taken-at-spec : {M : Type 1} → statement M
-taken-at-spec = tie.close (tie.spec returns sub-if2 returns-2 returns-3)
+taken-at-spec = tie.close (tie.spec returns (λ c. search needs) returns-2 returns-3)

@@ -4,15 +4,6 @@ use borrow.Author.Needs.{needs}
 use Rattle.numbers.proofs.contains.Statement.{statement}
 use Rattle.numbers.proofs.contains.Tie as tie
 
-enum-told : tie.Need-enum-told
-enum-told c = search needs
-
-enum-told-2 : tie.Need-enum-told-2
-enum-told-2 c = search needs
-
-enum-told-3 : tie.Need-enum-told-3
-enum-told-3 c = search needs
-
 returns : tie.Need-returns
 unfolding admits
 returns c =
@@ -35,4 +26,4 @@ returns-4 c = simp (c .enum-told3 .given .1)
 
 pub contains-spec : {M : Type 1} → statement M
 contains-spec =
-    tie.close (tie.spec enum-told enum-told-2 enum-told-3 returns returns-2 returns-3 returns-4)
+    tie.close (tie.spec (λ c. search needs) (λ c. search needs) (λ c. search needs) returns returns-2 returns-3 returns-4)

@@ -3,15 +3,6 @@ use borrow.Author.Needs.{needs}
 use Rattle.numbers.proofs.eat_sign.Statement.{statement}
 use Rattle.numbers.proofs.eat_sign.Tie as tie
 
-eat-if-requires : tie.Need-eat-if-requires
-eat-if-requires c κs = search needs
-
-enum-known-next : tie.Need-enum-known-next
-enum-known-next c = search needs
-
-enum-told : tie.Need-enum-told
-enum-told c = search needs
-
 returns : tie.Need-returns
 unfolding behindSign orKept
 returns c =
@@ -26,4 +17,4 @@ returns-2 c =
     simp (← b2 .eat-if .ensures, c .enum-told .given .1)
 
 pub eat-sign-spec : {M : Type 1} → statement M
-eat-sign-spec = tie.close (tie.spec eat-if-requires enum-known-next enum-told returns returns-2)
+eat-sign-spec = tie.close (tie.spec (λ c κs. search needs) (λ c. search needs) (λ c. search needs) returns returns-2)

@@ -8,32 +8,11 @@ use borrow.Author.Needs.{needs}
 use Rattle.numbers.proofs.parse_int.Statement.{statement}
 use Rattle.numbers.proofs.parse_int.Tie as tie
 
-eat-whitespace-requires : tie.Need-eat-whitespace-requires
-eat-whitespace-requires c κs = search needs
-
-at-requires : tie.Need-at-requires
-at-requires c κs = search needs
-
-eat-sign-requires : tie.Need-eat-sign-requires
-eat-sign-requires c κs = search needs
-
-parse-unsigned-int-requires : tie.Need-parse-unsigned-int-requires
-parse-unsigned-int-requires c κs = search needs
-
-enum-known-value : tie.Need-enum-known-value
-enum-known-value c = search needs
-
 signed-requires : tie.Need-signed-requires
 signed-requires c κs =
     let b = c .before .before .before in
     let g = b .before .before .before .before .before .args .digits in
     omega (arith, unsigned-value _ _ g (sym (b .parse-unsigned-int .ensures) ∙ c .before .value .given .1), most-four g)
-
-enum-known-next : tie.Need-enum-known-next
-enum-known-next c = search needs
-
-enum-told : tie.Need-enum-told
-enum-told c = search needs
 
 returns : tie.Need-returns
 unfolding parseInt intAt withSign
@@ -68,14 +47,14 @@ pub parse-int-spec : {M : Type 1} → statement M
 parse-int-spec =
     tie.close
     (tie.spec
-    eat-whitespace-requires
-    at-requires
-    eat-sign-requires
-    parse-unsigned-int-requires
-    enum-known-value
+    (λ c κs. search needs)
+    (λ c κs. search needs)
+    (λ c κs. search needs)
+    (λ c κs. search needs)
+    (λ c. search needs)
     signed-requires
-    enum-known-next
-    enum-told
+    (λ c. search needs)
+    (λ c. search needs)
     returns
     returns-2
     returns-3)

@@ -8,15 +8,6 @@ use borrow.Author.Needs.{needs}
 use Rattle.numbers.proofs.parse_unsigned_int.Statement.{statement}
 use Rattle.numbers.proofs.parse_unsigned_int.Tie as tie
 
-next-run-requires : tie.Need-next-run-requires
-next-run-requires c κs = search needs
-
-from-requires : tie.Need-from-requires
-from-requires c κs = search needs
-
-contains-requires : tie.Need-contains-requires
-contains-requires c κs = search needs
-
 parse-digits-requires : tie.Need-parse-digits-requires
 parse-digits-requires c κs =
     let g = c .before .before .before .before .before .before .args .digits in
@@ -44,9 +35,9 @@ pub parse-unsigned-int-spec : {M : Type 1} → statement M
 parse-unsigned-int-spec =
     tie.close
     (tie.spec
-    next-run-requires
-    from-requires
-    contains-requires
+    (λ c κs. search needs)
+    (λ c κs. search needs)
+    (λ c κs. search needs)
     parse-digits-requires
     returns
     returns-2)

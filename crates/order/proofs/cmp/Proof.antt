@@ -5,7 +5,7 @@ use mathlib.Core.Bool.{Bool}
 use lib.Signed.{ltZ}
 use mir.Syntax.{w64}
 use Rattle.chars.specs.Pick.{pick}
-use Rattle.order.specs.Order.{number}
+use Rattle.order.specs.Order.{numberOrder}
 use Rattle.order.proofs.cmp.Statement.{statement}
 use Rattle.order.proofs.cmp.Tie as tie
 
@@ -17,15 +17,15 @@ down : (s : tie.Start) {t : Bool} → ltZ (toZ w64 (ofZ w64 (s .args .b))) (toZ 
 down s e = less-test w64 (s .args .b) (s .args .a) (s .fits .b) (s .fits .a) e
 
 returns : tie.Need-returns
-unfolding number pick
+unfolding numberOrder pick
 returns c = simp (up (c .before) (c .if1 .taken))
 
 returns-2 : tie.Need-returns-2
-unfolding number pick
+unfolding numberOrder pick
 returns-2 c = simp (up (c .before .before) (c .before .if1 .left), down (c .before .before) (c .if2 .taken))
 
 returns-3 : tie.Need-returns-3
-unfolding number pick
+unfolding numberOrder pick
 returns-3 c = simp (up (c .before .before) (c .before .if1 .left), down (c .before .before) (c .if2 .left))
 
 pub cmp-spec : {M : Type 1} → statement M

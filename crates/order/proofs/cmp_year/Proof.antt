@@ -9,11 +9,8 @@ cast-cmp c = wide-fits (c .args .a) (c .fits .a)
 cast-cmp-2 : tie.Need-cast-cmp-2
 cast-cmp-2 c = wide-fits (c .args .b) (c .fits .b)
 
-cmp-requires : tie.Need-cmp-requires
-cmp-requires c κs = search needs
-
 returns : tie.Need-returns
 returns c = let s = c .before in rw (wide (s .args .a) (s .fits .a), wide (s .args .b) (s .fits .b)) at (c .cmp .ensures)
 
 pub cmp-year-spec : {M : Type 1} → statement M
-cmp-year-spec = tie.close (tie.spec cast-cmp cast-cmp-2 cmp-requires returns)
+cmp-year-spec = tie.close (tie.spec cast-cmp cast-cmp-2 (λ c κs. search needs) returns)

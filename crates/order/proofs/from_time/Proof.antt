@@ -3,27 +3,6 @@ use borrow.Author.Needs.{needs}
 use Rattle.order.proofs.from_time.Statement.{statement}
 use Rattle.order.proofs.from_time.Tie as tie
 
-enum-told : tie.Need-enum-told
-enum-told c = search needs
-
-enum-told-2 : tie.Need-enum-told-2
-enum-told-2 c = search needs
-
-enum-told-3 : tie.Need-enum-told-3
-enum-told-3 c = search needs
-
-enum-known-s : tie.Need-enum-known-s
-enum-known-s c = search needs
-
-enum-told-4 : tie.Need-enum-told-4
-enum-told-4 c = search needs
-
-enum-known-t : tie.Need-enum-known-t
-enum-known-t c = search needs
-
-partial-cmp-time-requires : tie.Need-partial-cmp-time-requires
-partial-cmp-time-requires c κs = search needs
-
 returns : tie.Need-returns
 unfolding fromTime both timeOf
 returns c =
@@ -53,13 +32,13 @@ pub from-time-spec : {M : Type 1} → statement M
 from-time-spec =
     tie.close
     (tie.spec
-    enum-told
-    enum-told-2
-    enum-told-3
-    enum-known-s
-    enum-told-4
-    enum-known-t
-    partial-cmp-time-requires
+    (λ c. search needs)
+    (λ c. search needs)
+    (λ c. search needs)
+    (λ c. search needs)
+    (λ c. search needs)
+    (λ c. search needs)
+    (λ c κs. search needs)
     returns
     returns-2
     returns-3

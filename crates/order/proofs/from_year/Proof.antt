@@ -1,34 +1,16 @@
 use mathlib.Core.Path.{_≡_}
 use mir.Syntax.{w32}
 use mir.ValLaws.{toZ-ofZ}
-use Rattle.order.specs.Order.{order, inTurn, number}
+use Rattle.order.specs.Order.{order, inTurn, numberOrder}
 use borrow.Author.Needs.{needs}
 use Rattle.order.proofs.from_year.Statement.{statement}
 use Rattle.order.proofs.from_year.Tie as tie
 
 -- the comparison of the years is of the years themselves
-years : (c : tie.After-cmp-year) → c .cmp-year .result ≡ number (c .before .before .before .args .a .year) (c .before .before .before .args .b .year)
+years : (c : tie.After-cmp-year) → c .cmp-year .result ≡ numberOrder (c .before .before .before .args .a .year) (c .before .before .before .args .b .year)
 years c =
     let s = c .before .before .before in
     rw (toZ-ofZ w32 (s .args .a .year) (record { sfits = c .before .before .struct-told .given .0 .1 }), toZ-ofZ w32 (s .args .b .year) (record { sfits = c .before .struct-told2 .given .0 .1 })) at (c .cmp-year .ensures)
-
-cmp-year-requires : tie.Need-cmp-year-requires
-cmp-year-requires c κs = search needs
-
-enum-told : tie.Need-enum-told
-enum-told c = search needs
-
-enum-told-2 : tie.Need-enum-told-2
-enum-told-2 c = search needs
-
-from-month-requires : tie.Need-from-month-requires
-from-month-requires c κs = search needs
-
-enum-told-3 : tie.Need-enum-told-3
-enum-told-3 c = search needs
-
-enum-told-4 : tie.Need-enum-told-4
-enum-told-4 c = search needs
 
 returns : tie.Need-returns
 unfolding order inTurn
@@ -59,12 +41,12 @@ pub from-year-spec : {M : Type 1} → statement M
 from-year-spec =
     tie.close
     (tie.spec
-    cmp-year-requires
-    enum-told
-    enum-told-2
-    from-month-requires
-    enum-told-3
-    enum-told-4
+    (λ c κs. search needs)
+    (λ c. search needs)
+    (λ c. search needs)
+    (λ c κs. search needs)
+    (λ c. search needs)
+    (λ c. search needs)
     returns
     returns-2
     returns-3

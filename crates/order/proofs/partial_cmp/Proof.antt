@@ -4,24 +4,12 @@ use borrow.Author.Needs.{needs}
 use Rattle.order.proofs.partial_cmp.Statement.{statement}
 use Rattle.order.proofs.partial_cmp.Tie as tie
 
-has-season-requires : tie.Need-has-season-requires
-has-season-requires c κs = search needs
-
-has-season-requires-2 : tie.Need-has-season-requires-2
-has-season-requires-2 c κs = search needs
-
 returns : tie.Need-returns
 unfolding partialCmp pick
 returns c =
     let b1 = c .before in
     let b2 = b1 .before in
     simp (← b2 .has-season .ensures, b1 .if1 .taken, ← c .has-season2 .ensures)
-
-has-season-requires-3 : tie.Need-has-season-requires-3
-has-season-requires-3 c κs = search needs
-
-has-season-requires-4 : tie.Need-has-season-requires-4
-has-season-requires-4 c κs = search needs
 
 returns-2 : tie.Need-returns-2
 unfolding partialCmp pick
@@ -31,9 +19,6 @@ returns-2 c =
     let b3 = b2 .before in
     let b4 = b3 .before in
     simp (← b4 .has-season .ensures, b3 .if1 .left, ← b2 .has-season3 .ensures, b1 .if2 .taken, ← c .has-season4 .ensures)
-
-from-year-requires : tie.Need-from-year-requires
-from-year-requires c κs = search needs
 
 returns-3 : tie.Need-returns-3
 unfolding partialCmp pick
@@ -48,11 +33,11 @@ pub partial-cmp-spec : {M : Type 1} → statement M
 partial-cmp-spec =
     tie.close
     (tie.spec
-    has-season-requires
-    has-season-requires-2
+    (λ c κs. search needs)
+    (λ c κs. search needs)
     returns
-    has-season-requires-3
-    has-season-requires-4
+    (λ c κs. search needs)
+    (λ c κs. search needs)
     returns-2
-    from-year-requires
+    (λ c κs. search needs)
     returns-3)

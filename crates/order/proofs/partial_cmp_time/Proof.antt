@@ -3,29 +3,17 @@ use mathlib.Core.Path.{_≡_}
 use mir.Syntax.{w64}
 use mir.ValLaws.{toZ-ofZ}
 use Rattle.chars.specs.Pick.{pick}
-use Rattle.order.specs.Order.{timeOrder, number}
+use Rattle.order.specs.Order.{timeOrder, numberOrder}
 use borrow.Author.Needs.{needs}
 use Rattle.order.proofs.partial_cmp_time.Statement.{statement}
 use Rattle.order.proofs.partial_cmp_time.Tie as tie
 
 -- the seconds are compared themselves
-by-seconds : (c : tie.After-cmp) → c .cmp .result ≡ number (utcSeconds (c .before .before .before .before .before .args .a)) (utcSeconds (c .before .before .before .before .before .args .b))
+by-seconds : (c : tie.After-cmp) → c .cmp .result ≡ numberOrder (utcSeconds (c .before .before .before .before .before .args .a)) (utcSeconds (c .before .before .before .before .before .args .b))
 by-seconds c =
     let a = c .before .before .to-utc-seconds in
     let b = c .before .to-utc-seconds2 in
     rw (toZ-ofZ w64 (a .result) (record { sfits = a .ok }), toZ-ofZ w64 (b .result) (record { sfits = b .ok }), a .ensures .0, b .ensures .0) at (c .cmp .ensures)
-
-alike-requires : tie.Need-alike-requires
-alike-requires c κs = search needs
-
-to-utc-seconds-requires : tie.Need-to-utc-seconds-requires
-to-utc-seconds-requires c κs = search needs
-
-to-utc-seconds-requires-2 : tie.Need-to-utc-seconds-requires-2
-to-utc-seconds-requires-2 c κs = search needs
-
-cmp-requires : tie.Need-cmp-requires
-cmp-requires c κs = search needs
 
 returns : tie.Need-returns
 unfolding timeOrder pick
@@ -41,9 +29,9 @@ pub partial-cmp-time-spec : {M : Type 1} → statement M
 partial-cmp-time-spec =
     tie.close
     (tie.spec
-    alike-requires
-    to-utc-seconds-requires
-    to-utc-seconds-requires-2
-    cmp-requires
+    (λ c κs. search needs)
+    (λ c κs. search needs)
+    (λ c κs. search needs)
+    (λ c κs. search needs)
     returns
     returns-2)

@@ -1,13 +1,9 @@
 use Rattle.pages.specs.Pieces.{total, addsUp}
 use Rattle.pages.proofs.Walk.{fours}
 use lib.ListN.{length}
-use borrow.Author.Tests.{lt-ltb, le-ltb, le-leb, lt-leb, eq-eqb, ne-eqb}
 use borrow.Author.Needs.{needs}
 use Rattle.pages.proofs.adds_up.Statement.{statement}
 use Rattle.pages.proofs.adds_up.Tie as tie
-
-counts-fit-requires : tie.Need-counts-fit-requires
-counts-fit-requires c κs = search needs
 
 lengths-fit-requires : tie.Need-lengths-fit-requires
 lengths-fit-requires c κs = let s = c .before .before .before .before .before in fours (total (s .args .counts .now)) (length (s .args .table .now)) (c .before .counts-fit .ensures) (c .if1 .taken)
@@ -26,4 +22,4 @@ returns-2 c =
     simp (← b1 .counts-fit .ensures, c .if1 .left)
 
 pub adds-up-spec : {M : Type 1} → statement M
-adds-up-spec = tie.close (tie.spec counts-fit-requires lengths-fit-requires returns returns-2)
+adds-up-spec = tie.close (tie.spec (λ c κs. search needs) lengths-fit-requires returns returns-2)

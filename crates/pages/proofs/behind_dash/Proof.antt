@@ -1,24 +1,8 @@
 use Rattle.chars.specs.Pick.{pick}
 use Rattle.pages.specs.Piece.{behindDash, secondAt, onNumber}
-use borrow.Author.Tests.{lt-ltb, le-ltb, le-leb, lt-leb, eq-eqb, ne-eqb}
 use borrow.Author.Needs.{needs}
 use Rattle.pages.proofs.behind_dash.Statement.{statement}
 use Rattle.pages.proofs.behind_dash.Tie as tie
-
-eat-while-requires : tie.Need-eat-while-requires
-eat-while-requires c κs = search needs
-
-eat-whitespace-requires : tie.Need-eat-whitespace-requires
-eat-whitespace-requires c κs = search needs
-
-number-at-requires : tie.Need-number-at-requires
-number-at-requires c κs = search needs
-
-enum-known-value : tie.Need-enum-known-value
-enum-known-value c = search needs
-
-done-requires : tie.Need-done-requires
-done-requires c κs = search needs
 
 returns : tie.Need-returns
 unfolding behindDash secondAt onNumber pick
@@ -29,12 +13,6 @@ returns c =
     let b6 = b5 .before in
     let b7 = b6 .before in
     simp (← b7 .eat-while .ensures, ← b6 .eat-whitespace .ensures, ← b5 .number-at .ensures, b3 .value .given .1, ← b1 .done .ensures, c .if1 .taken)
-
-refuse-requires : tie.Need-refuse-requires
-refuse-requires c κs = search needs
-
-enum-known-e : tie.Need-enum-known-e
-enum-known-e c = search needs
 
 returns-2 : tie.Need-returns-2
 unfolding behindDash secondAt onNumber pick
@@ -60,13 +38,13 @@ pub behind-dash-spec : {M : Type 1} → statement M
 behind-dash-spec =
     tie.close
     (tie.spec
-    eat-while-requires
-    eat-whitespace-requires
-    number-at-requires
-    enum-known-value
-    done-requires
+    (λ c κs. search needs)
+    (λ c κs. search needs)
+    (λ c κs. search needs)
+    (λ c. search needs)
+    (λ c κs. search needs)
     returns
-    refuse-requires
-    enum-known-e
+    (λ c κs. search needs)
+    (λ c. search needs)
     returns-2
     returns-3)

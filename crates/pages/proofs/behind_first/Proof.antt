@@ -1,24 +1,8 @@
 use Rattle.chars.specs.Pick.{pick}
 use Rattle.pages.specs.Piece.{behindFirst, onDash}
-use borrow.Author.Tests.{lt-ltb, le-ltb, le-leb, lt-leb, eq-eqb, ne-eqb}
 use borrow.Author.Needs.{needs}
 use Rattle.pages.proofs.behind_first.Statement.{statement}
 use Rattle.pages.proofs.behind_first.Tie as tie
-
-dash-at-requires : tie.Need-dash-at-requires
-dash-at-requires c κs = search needs
-
-enum-known-c : tie.Need-enum-known-c
-enum-known-c c = search needs
-
-behind-dash-requires : tie.Need-behind-dash-requires
-behind-dash-requires c κs = search needs
-
-enum-told : tie.Need-enum-told
-enum-told c = search needs
-
-done-requires : tie.Need-done-requires
-done-requires c κs = search needs
 
 returns : tie.Need-returns
 unfolding behindFirst onDash pick
@@ -27,9 +11,6 @@ returns c =
     let b2 = b1 .before in
     let b4 = b2 .before .before in
     simp (← b4 .dash-at .ensures, b2 .enum-told .given .1, ← b1 .done .ensures, c .if1 .taken)
-
-refuse-requires : tie.Need-refuse-requires
-refuse-requires c κs = search needs
 
 returns-2 : tie.Need-returns-2
 unfolding behindFirst onDash pick
@@ -51,12 +32,12 @@ pub behind-first-spec : {M : Type 1} → statement M
 behind-first-spec =
     tie.close
     (tie.spec
-    dash-at-requires
-    enum-known-c
-    behind-dash-requires
-    enum-told
-    done-requires
+    (λ c κs. search needs)
+    (λ c. search needs)
+    (λ c κs. search needs)
+    (λ c. search needs)
+    (λ c κs. search needs)
     returns
-    refuse-requires
+    (λ c κs. search needs)
     returns-2
     returns-3)

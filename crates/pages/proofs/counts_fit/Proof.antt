@@ -17,26 +17,11 @@ abbrev μ-loop : tie.MeasureT-loop
 loop-holds : tie.Need-loop-holds Inv-loop μ-loop
 loop-holds c = (refl, omega arith, omega arith)
 
-mul-n : tie.Need-mul-n Inv-loop μ-loop
-mul-n c = omega arith
-
-shared-slice-read-n : tie.Need-shared-slice-read-n Inv-loop μ-loop
-shared-slice-read-n c = omega arith
-
 returns : tie.Need-returns Inv-loop μ-loop
 returns c = let p = c .before .before in sym (total-over (p .before .before .args .counts .now) (p .before .loop .i) (p .before .loop .left) (p .loop-test .taken) (c .if1 .taken)) ∙ p .before .loop .inv .0
 
 mul-left : tie.Need-mul-left Inv-loop μ-loop
 mul-left c = omega (arith, c .if1 .left, c .before .before .before .loop .inv .2)
-
-sub-left : tie.Need-sub-left Inv-loop μ-loop
-sub-left c = omega arith
-
-add-i : tie.Need-add-i Inv-loop μ-loop
-add-i c = omega arith
-
-loop-less : tie.Need-loop-less Inv-loop μ-loop
-loop-less c = omega arith
 
 loop-again : tie.Need-loop-again Inv-loop μ-loop
 loop-again c = let p = c .before .before in (sym (total-on (p .before .before .args .counts .now) (p .before .loop .i) (p .before .loop .left) (p .loop-test .taken) (c .if1 .left)) ∙ p .before .loop .inv .0, omega arith, omega (arith, p .before .loop .inv .2))
@@ -51,12 +36,12 @@ counts-fit-spec =
     Inv-loop
     μ-loop
     loop-holds
-    mul-n
-    shared-slice-read-n
+    (λ c. omega arith)
+    (λ c. omega arith)
     returns
     mul-left
-    sub-left
-    add-i
-    loop-less
+    (λ c. omega arith)
+    (λ c. omega arith)
+    (λ c. omega arith)
     loop-again
     returns-2)

@@ -1,29 +1,7 @@
 use Rattle.pages.specs.Piece.{dashAt, orElse}
-use borrow.Author.Tests.{lt-ltb, le-ltb, le-leb, lt-leb, eq-eqb, ne-eqb}
 use borrow.Author.Needs.{needs}
 use Rattle.pages.proofs.dash_at.Statement.{statement}
 use Rattle.pages.proofs.dash_at.Tie as tie
-
-eat-if-requires : tie.Need-eat-if-requires
-eat-if-requires c κs = search needs
-
-enum-known-c : tie.Need-enum-known-c
-enum-known-c c = search needs
-
-enum-told : tie.Need-enum-told
-enum-told c = search needs
-
-eat-if-requires-2 : tie.Need-eat-if-requires-2
-eat-if-requires-2 c κs = search needs
-
-enum-known-c-2 : tie.Need-enum-known-c-2
-enum-known-c-2 c = search needs
-
-enum-told-2 : tie.Need-enum-told-2
-enum-told-2 c = search needs
-
-eat-if-requires-3 : tie.Need-eat-if-requires-3
-eat-if-requires-3 c κs = search needs
 
 returns : tie.Need-returns
 unfolding dashAt orElse
@@ -54,13 +32,13 @@ pub dash-at-spec : {M : Type 1} → statement M
 dash-at-spec =
     tie.close
     (tie.spec
-    eat-if-requires
-    enum-known-c
-    enum-told
-    eat-if-requires-2
-    enum-known-c-2
-    enum-told-2
-    eat-if-requires-3
+    (λ c κs. search needs)
+    (λ c. search needs)
+    (λ c. search needs)
+    (λ c κs. search needs)
+    (λ c. search needs)
+    (λ c. search needs)
+    (λ c κs. search needs)
     returns
     returns-2
     returns-3)

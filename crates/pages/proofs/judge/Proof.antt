@@ -1,10 +1,9 @@
 use Rattle.pages.specs.Pieces.{judged}
 use Rattle.pages.proofs.Walk.{At, starts, row-fits, size-fits, len-fits, at-next, refuses, judged-next, judged-end}
-use mathlib.Core.List.{List}
 use lib.ListN.{length, drop}
-use Prim.Native.Nat.{ℕ, _-_, _*_}
+use Prim.Native.Nat.{_-_}
 use native.Mathlib.Omega.{arith}
-use mathlib.Core.Path.{_≡_, refl, ap, _∙_}
+use mathlib.Core.Path.{_≡_, refl, _∙_}
 use Rattle.pages.proofs.judge.Statement.{statement}
 use Rattle.pages.proofs.judge.Tie as tie
 
@@ -16,12 +15,6 @@ abbrev μ-loop : tie.MeasureT-loop
 
 loop-holds : tie.Need-loop-holds Inv-loop μ-loop
 loop-holds c = let s = c .before .before .before in (starts (s .args .bytes .now) (s .args .table .now) (s .args .counts .now) (s .pre), refl)
-
-mul-n : tie.Need-mul-n Inv-loop μ-loop
-mul-n c = omega arith
-
-shared-slice-read-n : tie.Need-shared-slice-read-n Inv-loop μ-loop
-shared-slice-read-n c = omega arith
 
 step-requires : tie.Need-step-requires Inv-loop μ-loop
 step-requires c κs = (row-fits (c .before .before .before .before .before .before .args .bytes .now) (c .before .before .before .before .before .before .args .table .now) (c .before .before .before .before .before .before .args .counts .now) (c .before .before .loop .at) (c .before .before .loop .row) (c .before .before .loop .i) (c .before .before .loop .inv .0) (c .before .loop-test .taken), size-fits (c .before .before .before .before .before .before .args .bytes .now) (c .before .before .before .before .before .before .args .table .now) (c .before .before .before .before .before .before .args .counts .now) (c .before .before .loop .at) (c .before .before .loop .row) (c .before .before .loop .i) (c .before .before .loop .inv .0) (c .before .loop-test .taken))
@@ -63,8 +56,8 @@ judge-spec =
     Inv-loop
     μ-loop
     loop-holds
-    mul-n
-    shared-slice-read-n
+    (λ c. omega arith)
+    (λ c. omega arith)
     step-requires
     enum-told
     enum-known-read

@@ -5,20 +5,8 @@ use borrow.Author.Needs.{needs}
 use Rattle.pages.proofs.parse_pages.Statement.{statement}
 use Rattle.pages.proofs.parse_pages.Tie as tie
 
-decide-requires : tie.Need-decide-requires
-decide-requires c κs = search needs
-
-enum-known-n : tie.Need-enum-known-n
-enum-known-n c = search needs
-
 store-requires : tie.Need-store-requires
 store-requires c κs = says (c .before .before .before .before .before .before .before .before .before .args .bytes .now) (c .before .before .before .before .before .before .before .before .before .args .table .now) (c .before .before .before .before .before .before .before .before .before .args .counts .now) (length (c .before .before .before .before .before .before .before .before .before .args .out .now)) (sym (c .before .before .before .before .decide .ensures) ∙ c .before .before .n .given .1)
-
-enum-known-e : tie.Need-enum-known-e
-enum-known-e c = search needs
-
-same-length : tie.Need-same-length
-same-length c = search needs
 
 returns : tie.Need-returns
 returns c = let q = sym (c .before .before .before .before .before .before .before .decide .ensures) ∙ c .before .before .before .before .before .n .given .1 in (sym q, leaves (c .before .before .before .before .before .before .before .before .before .before .before .before .args .bytes .now) (c .before .before .before .before .before .before .before .before .before .before .before .before .args .table .now) (c .before .before .before .before .before .before .before .before .before .before .before .before .args .counts .now) (c .before .before .before .before .before .before .before .before .before .before .before .before .args .out .now) q (c .before .before .store .ensures))
@@ -30,10 +18,10 @@ pub parse-pages-spec : {M : Type 1} → statement M
 parse-pages-spec =
     tie.close
     (tie.spec
-    decide-requires
-    enum-known-n
+    (λ c κs. search needs)
+    (λ c. search needs)
     store-requires
-    enum-known-e
-    same-length
+    (λ c. search needs)
+    (λ c. search needs)
     returns
     returns-2)

@@ -1,8 +1,7 @@
 use Rattle.pages.specs.Pieces.{numbersOf, put}
 use Rattle.pages.proofs.Walk.{At, starts, row-fits, size-fits, len-fits, at-next, put-next, put-end}
-use mathlib.Core.List.{List}
 use lib.ListN.{length, drop}
-use Prim.Native.Nat.{ℕ, _-_, _*_}
+use Prim.Native.Nat.{_-_, _*_}
 use native.Mathlib.Omega.{arith}
 use mathlib.Core.Path.{_≡_, refl, ap, _∙_}
 use lib.Seq.{length-sets}
@@ -17,12 +16,6 @@ abbrev μ-loop : tie.MeasureT-loop
 
 loop-holds : tie.Need-loop-holds Inv-loop μ-loop
 loop-holds c = let s = c .before .before .before .before in (starts (s .args .bytes .now) (s .args .table .now) (s .args .counts .now) (s .pre .0), refl, refl)
-
-mul-n : tie.Need-mul-n Inv-loop μ-loop
-mul-n c = omega arith
-
-shared-slice-read-n : tie.Need-shared-slice-read-n Inv-loop μ-loop
-shared-slice-read-n c = omega arith
 
 step-requires : tie.Need-step-requires Inv-loop μ-loop
 step-requires c κs = (row-fits (c .before .before .before .before .before .before .before .args .bytes .now) (c .before .before .before .before .before .before .before .args .table .now) (c .before .before .before .before .before .before .before .args .counts .now) (c .before .before .loop .at) (c .before .before .loop .row) (c .before .before .loop .i) (c .before .before .loop .inv .0) (c .before .loop-test .taken), size-fits (c .before .before .before .before .before .before .before .args .bytes .now) (c .before .before .before .before .before .before .before .args .table .now) (c .before .before .before .before .before .before .before .args .counts .now) (c .before .before .loop .at) (c .before .before .loop .row) (c .before .before .loop .i) (c .before .before .loop .inv .0) (c .before .loop-test .taken))
@@ -64,8 +57,8 @@ store-spec =
     Inv-loop
     μ-loop
     loop-holds
-    mul-n
-    shared-slice-read-n
+    (λ c. omega arith)
+    (λ c. omega arith)
     step-requires
     mul-put-range
     put-range-requires

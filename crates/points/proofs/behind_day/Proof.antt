@@ -7,15 +7,6 @@ use borrow.Author.Needs.{needs}
 use Rattle.points.proofs.behind_day.Statement.{statement}
 use Rattle.points.proofs.behind_day.Tie as tie
 
-eat-whitespace-requires : tie.Need-eat-whitespace-requires
-eat-whitespace-requires c κs = search needs
-
-done-requires : tie.Need-done-requires
-done-requires c κs = search needs
-
-new-requires : tie.Need-new-requires
-new-requires c κs = search needs
-
 returns : tie.Need-returns
 unfolding behindDay orEnd timeOr withTime pick
 returns c =
@@ -26,29 +17,17 @@ returns c =
     let y = toZ-ofZ w32 (p .args .year) (p .fits .year) in
     simp (← b3 .eat-whitespace .ensures, ← b2 .done .ensures, b1 .if1 .taken, c .new .ensures, y)
 
-eat-if-requires : tie.Need-eat-if-requires
-eat-if-requires c κs = search needs
-
 enum-known-next : tie.Need-enum-known-next
 enum-known-next c = c .match .keys1
 
-parse-time-requires : tie.Need-parse-time-requires
-parse-time-requires c κs = search needs
-
 enum-known-t : tie.Need-enum-known-t
 enum-known-t c = c .match2 .keys1
-
-new-requires-2 : tie.Need-new-requires-2
-new-requires-2 c κs = search needs
 
 enum-known-e : tie.Need-enum-known-e
 enum-known-e c = c .match2 .keys2
 
 enum-told : tie.Need-enum-told
 enum-told c = c .match .keys2
-
-refuse-text-requires : tie.Need-refuse-text-requires
-refuse-text-requires c κs = search needs
 
 returns-2 : tie.Need-returns-2
 unfolding behindDay orEnd timeOr withTime pick
@@ -87,4 +66,4 @@ returns-4 c =
     simp (← b6 .eat-whitespace .ensures, ← b5 .done .ensures, b4 .if1 .left, ← b3 .eat-if .ensures, b1 .enum-told .given .1, c .refuse-text .ensures)
 
 pub behind-day-spec : {M : Type 1} → statement M
-behind-day-spec = tie.close (tie.spec eat-whitespace-requires done-requires new-requires returns eat-if-requires enum-known-next parse-time-requires enum-known-t new-requires-2 enum-known-e enum-told refuse-text-requires returns-2 returns-3 returns-4)
+behind-day-spec = tie.close (tie.spec (λ c κs. search needs) (λ c κs. search needs) (λ c κs. search needs) returns (λ c κs. search needs) enum-known-next (λ c κs. search needs) enum-known-t (λ c κs. search needs) enum-known-e enum-told (λ c κs. search needs) returns-2 returns-3 returns-4)

@@ -5,15 +5,6 @@ use borrow.Author.Needs.{needs}
 use Rattle.points.proofs.behind_hour.Statement.{statement}
 use Rattle.points.proofs.behind_hour.Tie as tie
 
-eat-whitespace-requires : tie.Need-eat-whitespace-requires
-eat-whitespace-requires c κs = search needs
-
-done-requires : tie.Need-done-requires
-done-requires c κs = search needs
-
-local-requires : tie.Need-local-requires
-local-requires c κs = search needs
-
 returns : tie.Need-returns
 unfolding behindHour orEnd onSeparator onPart pick
 returns c =
@@ -22,20 +13,11 @@ returns c =
     let b3 = b2 .before in
     simp (← b3 .eat-whitespace .ensures, ← b2 .done .ensures, b1 .if1 .taken, c .local .ensures)
 
-parse-colon-requires : tie.Need-parse-colon-requires
-parse-colon-requires c κs = search needs
-
 enum-known-b : tie.Need-enum-known-b
 enum-known-b c = c .match .keys1
 
-parse-minutes-or-seconds-requires : tie.Need-parse-minutes-or-seconds-requires
-parse-minutes-or-seconds-requires c κs = search needs
-
 enum-known-minute : tie.Need-enum-known-minute
 enum-known-minute c = c .match2 .keys1
-
-behind-minute-requires : tie.Need-behind-minute-requires
-behind-minute-requires c κs = search needs
 
 enum-known-e : tie.Need-enum-known-e
 enum-known-e c = c .match2 .keys2
@@ -78,4 +60,4 @@ returns-4 c =
     simp (← b6 .eat-whitespace .ensures, ← b5 .done .ensures, b4 .if1 .left, ← b3 .parse-colon .ensures, b1 .e2 .given .1)
 
 pub behind-hour-spec : {M : Type 1} → statement M
-behind-hour-spec = tie.close (tie.spec eat-whitespace-requires done-requires local-requires returns parse-colon-requires enum-known-b parse-minutes-or-seconds-requires enum-known-minute behind-minute-requires enum-known-e enum-known-e-2 returns-2 returns-3 returns-4)
+behind-hour-spec = tie.close (tie.spec (λ c κs. search needs) (λ c κs. search needs) (λ c κs. search needs) returns (λ c κs. search needs) enum-known-b (λ c κs. search needs) enum-known-minute (λ c κs. search needs) enum-known-e enum-known-e-2 returns-2 returns-3 returns-4)

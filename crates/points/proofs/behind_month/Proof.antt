@@ -8,15 +8,6 @@ use borrow.Author.Needs.{needs}
 use Rattle.points.proofs.behind_month.Statement.{statement}
 use Rattle.points.proofs.behind_month.Tie as tie
 
-eat-whitespace-requires : tie.Need-eat-whitespace-requires
-eat-whitespace-requires c κs = search needs
-
-done-requires : tie.Need-done-requires
-done-requires c κs = search needs
-
-new-requires : tie.Need-new-requires
-new-requires c κs = search needs
-
 returns : tie.Need-returns
 unfolding behindMonth orEnd onSeparator onPart pick
 returns c =
@@ -27,23 +18,11 @@ returns c =
     let y = toZ-ofZ w32 (p .args .year) (p .fits .year) in
     simp (← b3 .eat-whitespace .ensures, ← b2 .done .ensures, b1 .if1 .taken, c .new .ensures, y)
 
-parse-hyphen-requires : tie.Need-parse-hyphen-requires
-parse-hyphen-requires c κs = search needs
-
 enum-known-b : tie.Need-enum-known-b
 enum-known-b c = c .match .keys1
 
-parse-day-requires : tie.Need-parse-day-requires
-parse-day-requires c κs = search needs
-
 enum-known-day : tie.Need-enum-known-day
 enum-known-day c = c .match2 .keys1
-
-days-in-month-requires : tie.Need-days-in-month-requires
-days-in-month-requires c κs = search needs
-
-behind-day-requires : tie.Need-behind-day-requires
-behind-day-requires c κs = search needs
 
 returns-2 : tie.Need-returns-2
 unfolding behindMonth orEnd onSeparator onPart pick
@@ -62,9 +41,6 @@ returns-2 c =
     let l = rw y at (b2 .days-in-month .ensures) in
     let e = rw y at (c .behind-day .ensures) in
     simp (← b13 .eat-whitespace .ensures, ← b12 .done .ensures, b11 .if1 .left, ← b10 .parse-hyphen .ensures, b8 .b .given .1, ← b6 .parse-day .ensures, b4 .day .given .1, ← l, lt-ltb _ _ (b1 .if2 .taken), ← e)
-
-refuse-text-requires : tie.Need-refuse-text-requires
-refuse-text-requires c κs = search needs
 
 enum-known-e : tie.Need-enum-known-e
 enum-known-e c = c .match2 .keys2
@@ -112,4 +88,4 @@ returns-5 c =
     simp (← b6 .eat-whitespace .ensures, ← b5 .done .ensures, b4 .if1 .left, ← b3 .parse-hyphen .ensures, b1 .e2 .given .1)
 
 pub behind-month-spec : {M : Type 1} → statement M
-behind-month-spec = tie.close (tie.spec eat-whitespace-requires done-requires new-requires returns parse-hyphen-requires enum-known-b parse-day-requires enum-known-day days-in-month-requires behind-day-requires returns-2 refuse-text-requires enum-known-e enum-known-e-2 returns-3 returns-4 returns-5)
+behind-month-spec = tie.close (tie.spec (λ c κs. search needs) (λ c κs. search needs) (λ c κs. search needs) returns (λ c κs. search needs) enum-known-b (λ c κs. search needs) enum-known-day (λ c κs. search needs) (λ c κs. search needs) returns-2 (λ c κs. search needs) enum-known-e enum-known-e-2 returns-3 returns-4 returns-5)

@@ -5,15 +5,6 @@ use borrow.Author.Needs.{needs}
 use Rattle.points.proofs.behind_second.Statement.{statement}
 use Rattle.points.proofs.behind_second.Tie as tie
 
-eat-whitespace-requires : tie.Need-eat-whitespace-requires
-eat-whitespace-requires c κs = search needs
-
-done-requires : tie.Need-done-requires
-done-requires c κs = search needs
-
-local-requires : tie.Need-local-requires
-local-requires c κs = search needs
-
 returns : tie.Need-returns
 unfolding behindSecond orEnd withOffset pick
 returns c =
@@ -21,9 +12,6 @@ returns c =
     let b2 = b1 .before in
     let b3 = b2 .before in
     simp (← b3 .eat-whitespace .ensures, ← b2 .done .ensures, b1 .if1 .taken, c .local .ensures)
-
-parse-offset-requires : tie.Need-parse-offset-requires
-parse-offset-requires c κs = search needs
 
 enum-known-offset : tie.Need-enum-known-offset
 enum-known-offset c = c .match .keys1
@@ -52,4 +40,4 @@ returns-3 c =
     simp (← b6 .eat-whitespace .ensures, ← b5 .done .ensures, b4 .if1 .left, ← b3 .parse-offset .ensures, b1 .e .given .1)
 
 pub behind-second-spec : {M : Type 1} → statement M
-behind-second-spec = tie.close (tie.spec eat-whitespace-requires done-requires local-requires returns parse-offset-requires enum-known-offset enum-known-e returns-2 returns-3)
+behind-second-spec = tie.close (tie.spec (λ c κs. search needs) (λ c κs. search needs) (λ c κs. search needs) returns (λ c κs. search needs) enum-known-offset enum-known-e returns-2 returns-3)

@@ -7,15 +7,6 @@ use borrow.Author.Needs.{needs}
 use Rattle.points.proofs.behind_year.Statement.{statement}
 use Rattle.points.proofs.behind_year.Tie as tie
 
-eat-whitespace-requires : tie.Need-eat-whitespace-requires
-eat-whitespace-requires c κs = search needs
-
-done-requires : tie.Need-done-requires
-done-requires c κs = search needs
-
-new-requires : tie.Need-new-requires
-new-requires c κs = search needs
-
 returns : tie.Need-returns
 unfolding behindYear orEnd onSeparator onPart pick
 returns c =
@@ -26,20 +17,11 @@ returns c =
     let y = toZ-ofZ w32 (p .args .year) (p .fits .year) in
     simp (← b3 .eat-whitespace .ensures, ← b2 .done .ensures, b1 .if1 .taken, c .new .ensures, y)
 
-parse-hyphen-requires : tie.Need-parse-hyphen-requires
-parse-hyphen-requires c κs = search needs
-
 enum-known-b : tie.Need-enum-known-b
 enum-known-b c = c .match .keys1
 
-parse-month-requires : tie.Need-parse-month-requires
-parse-month-requires c κs = search needs
-
 enum-known-month : tie.Need-enum-known-month
 enum-known-month c = c .match2 .keys1
-
-behind-month-requires : tie.Need-behind-month-requires
-behind-month-requires c κs = search needs
 
 enum-known-e : tie.Need-enum-known-e
 enum-known-e c = c .match2 .keys2
@@ -85,4 +67,4 @@ returns-4 c =
     simp (← b6 .eat-whitespace .ensures, ← b5 .done .ensures, b4 .if1 .left, ← b3 .parse-hyphen .ensures, b1 .e2 .given .1)
 
 pub behind-year-spec : {M : Type 1} → statement M
-behind-year-spec = tie.close (tie.spec eat-whitespace-requires done-requires new-requires returns parse-hyphen-requires enum-known-b parse-month-requires enum-known-month behind-month-requires enum-known-e enum-known-e-2 returns-2 returns-3 returns-4)
+behind-year-spec = tie.close (tie.spec (λ c κs. search needs) (λ c κs. search needs) (λ c κs. search needs) returns (λ c κs. search needs) enum-known-b (λ c κs. search needs) enum-known-month (λ c κs. search needs) enum-known-e enum-known-e-2 returns-2 returns-3 returns-4)

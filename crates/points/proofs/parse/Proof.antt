@@ -5,14 +5,8 @@ use borrow.Author.Needs.{needs}
 use Rattle.points.proofs.parse.Statement.{statement}
 use Rattle.points.proofs.parse.Tie as tie
 
-parse-any-year-requires : tie.Need-parse-any-year-requires
-parse-any-year-requires c κs = search needs
-
 enum-known-year : tie.Need-enum-known-year
 enum-known-year c = c .match .keys1
-
-behind-year-requires : tie.Need-behind-year-requires
-behind-year-requires c κs = search needs
 
 enum-known-e : tie.Need-enum-known-e
 enum-known-e c = c .match .keys2
@@ -34,4 +28,4 @@ returns-2 c =
     simp (← b3 .parse-any-year .ensures, b1 .e .given .1)
 
 pub parse-spec : {M : Type 1} → statement M
-parse-spec = tie.close (tie.spec parse-any-year-requires enum-known-year behind-year-requires enum-known-e returns returns-2)
+parse-spec = tie.close (tie.spec (λ c κs. search needs) enum-known-year (λ c κs. search needs) enum-known-e returns returns-2)

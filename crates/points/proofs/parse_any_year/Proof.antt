@@ -5,23 +5,14 @@ use borrow.Author.Needs.{needs}
 use Rattle.points.proofs.parse_any_year.Statement.{statement}
 use Rattle.points.proofs.parse_any_year.Tie as tie
 
-parse-short-year-requires : tie.Need-parse-short-year-requires
-parse-short-year-requires c κs = search needs
-
 enum-known-value : tie.Need-enum-known-value
 enum-known-value c = c .match .keys1
 
 enum-told : tie.Need-enum-told
 enum-told c = c .match .keys2
 
-parse-year-requires : tie.Need-parse-year-requires
-parse-year-requires c κs = search needs
-
 enum-told-2 : tie.Need-enum-told-2
 enum-told-2 c = c .match .keys3
-
-panics-requires : tie.Need-panics-requires
-panics-requires c κs = search needs
 
 returns : tie.Need-returns
 unfolding yearAt shortOr
@@ -45,4 +36,4 @@ returns-3 c =
     simp (← b3 .parse-short-year .ensures, b1 .enum-told2 .given .1, c .panics .ensures)
 
 pub parse-any-year-spec : {M : Type 1} → statement M
-parse-any-year-spec = tie.close (tie.spec parse-short-year-requires enum-known-value enum-told parse-year-requires enum-told-2 panics-requires returns returns-2 returns-3)
+parse-any-year-spec = tie.close (tie.spec (λ c κs. search needs) enum-known-value enum-told (λ c κs. search needs) enum-told-2 (λ c κs. search needs) returns returns-2 returns-3)

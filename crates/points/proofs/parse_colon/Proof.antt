@@ -3,20 +3,11 @@ use borrow.Author.Needs.{needs}
 use Rattle.points.proofs.parse_colon.Statement.{statement}
 use Rattle.points.proofs.parse_colon.Tie as tie
 
-eat-whitespace-requires : tie.Need-eat-whitespace-requires
-eat-whitespace-requires c κs = search needs
-
-eat-if-requires : tie.Need-eat-if-requires
-eat-if-requires c κs = search needs
-
 enum-known-next : tie.Need-enum-known-next
 enum-known-next c = c .match .keys1
 
 enum-told : tie.Need-enum-told
 enum-told c = c .match .keys2
-
-refuse-text-requires : tie.Need-refuse-text-requires
-refuse-text-requires c κs = search needs
 
 returns : tie.Need-returns
 unfolding colonAt colonFrom colonOr
@@ -35,4 +26,4 @@ returns-2 c =
     simp (← b4 .eat-whitespace .ensures, ← b3 .eat-if .ensures, b1 .enum-told .given .1, c .refuse-text .ensures)
 
 pub parse-colon-spec : {M : Type 1} → statement M
-parse-colon-spec = tie.close (tie.spec eat-whitespace-requires eat-if-requires enum-known-next enum-told refuse-text-requires returns returns-2)
+parse-colon-spec = tie.close (tie.spec (λ c κs. search needs) (λ c κs. search needs) enum-known-next enum-told (λ c κs. search needs) returns returns-2)

@@ -3,12 +3,9 @@ use borrow.Author.Needs.{needs}
 use Rattle.points.proofs.parse_hour.Statement.{statement}
 use Rattle.points.proofs.parse_hour.Tie as tie
 
-parse-part-requires : tie.Need-parse-part-requires
-parse-part-requires c κs = search needs
-
 returns : tie.Need-returns
 unfolding hourAt
 returns c = simp (← c .parse-part .ensures)
 
 pub parse-hour-spec : {M : Type 1} → statement M
-parse-hour-spec = tie.close (tie.spec parse-part-requires returns)
+parse-hour-spec = tie.close (tie.spec (λ c κs. search needs) returns)

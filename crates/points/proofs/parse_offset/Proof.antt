@@ -5,12 +5,6 @@ use borrow.Author.Needs.{needs}
 use Rattle.points.proofs.parse_offset.Statement.{statement}
 use Rattle.points.proofs.parse_offset.Tie as tie
 
-eat-whitespace-requires : tie.Need-eat-whitespace-requires
-eat-whitespace-requires c κs = search needs
-
-eat-requires : tie.Need-eat-requires
-eat-requires c κs = search needs
-
 enum-known-code : tie.Need-enum-known-code
 enum-known-code c = c .match .keys1
 
@@ -22,9 +16,6 @@ returns c =
     let b5 = b4 .before in
     simp (← b5 .eat-whitespace .ensures, ← b4 .eat .ensures, b2 .code .given .1, eq-eqb _ _ (c .if1 .taken))
 
-parse-shift-requires : tie.Need-parse-shift-requires
-parse-shift-requires c κs = search needs
-
 returns-2 : tie.Need-returns-2
 unfolding offsetAt offsetFrom offsetBy pick
 returns-2 c =
@@ -34,9 +25,6 @@ returns-2 c =
     let b6 = b4 .before .before in
     let b7 = b6 .before in
     simp (← b7 .eat-whitespace .ensures, ← b6 .eat .ensures, b4 .code .given .1, ne-eqb _ _ (b2 .if1 .left), eq-eqb _ _ (b1 .if2 .taken), ← c .parse-shift .ensures)
-
-parse-shift-requires-2 : tie.Need-parse-shift-requires-2
-parse-shift-requires-2 c κs = search needs
 
 returns-3 : tie.Need-returns-3
 unfolding offsetAt offsetFrom offsetBy pick
@@ -49,14 +37,8 @@ returns-3 c =
     let b8 = b7 .before in
     simp (← b8 .eat-whitespace .ensures, ← b7 .eat .ensures, b5 .code .given .1, ne-eqb _ _ (b3 .if1 .left), ne-eqb _ _ (b2 .if2 .left), eq-eqb _ _ (b1 .if3 .taken), ← c .parse-shift2 .ensures)
 
-refuse-text-requires : tie.Need-refuse-text-requires
-refuse-text-requires c κs = search needs
-
 enum-told : tie.Need-enum-told
 enum-told c = c .match .keys2
-
-refuse-text-requires-2 : tie.Need-refuse-text-requires-2
-refuse-text-requires-2 c κs = search needs
 
 returns-4 : tie.Need-returns-4
 unfolding offsetAt offsetFrom offsetBy pick
@@ -78,4 +60,4 @@ returns-5 c =
     simp (← b4 .eat-whitespace .ensures, ← b3 .eat .ensures, b1 .enum-told .given .1, c .refuse-text2 .ensures)
 
 pub parse-offset-spec : {M : Type 1} → statement M
-parse-offset-spec = tie.close (tie.spec eat-whitespace-requires eat-requires enum-known-code returns parse-shift-requires returns-2 parse-shift-requires-2 returns-3 refuse-text-requires enum-told refuse-text-requires-2 returns-4 returns-5)
+parse-offset-spec = tie.close (tie.spec (λ c κs. search needs) (λ c κs. search needs) enum-known-code returns (λ c κs. search needs) returns-2 (λ c κs. search needs) returns-3 (λ c κs. search needs) enum-told (λ c κs. search needs) returns-4 returns-5)

@@ -5,17 +5,8 @@ use borrow.Author.Needs.{needs}
 use Rattle.points.proofs.parse_shift.Statement.{statement}
 use Rattle.points.proofs.parse_shift.Tie as tie
 
-parse-hour-requires : tie.Need-parse-hour-requires
-parse-hour-requires c κs = search needs
-
 enum-known-hours : tie.Need-enum-known-hours
 enum-known-hours c = c .match .keys1
-
-eat-whitespace-requires : tie.Need-eat-whitespace-requires
-eat-whitespace-requires c κs = search needs
-
-done-requires : tie.Need-done-requires
-done-requires c κs = search needs
 
 returns : tie.Need-returns
 unfolding shiftAt onPart orEnd onSeparator pick
@@ -26,14 +17,8 @@ returns c =
     let b6 = b4 .before .before in
     simp (← b6 .parse-hour .ensures, b4 .hours .given .1, ← b2 .eat-whitespace .ensures, ← b1 .done .ensures, c .if1 .taken)
 
-parse-colon-requires : tie.Need-parse-colon-requires
-parse-colon-requires c κs = search needs
-
 enum-known-b : tie.Need-enum-known-b
 enum-known-b c = c .match2 .keys1
-
-parse-minutes-or-seconds-requires : tie.Need-parse-minutes-or-seconds-requires
-parse-minutes-or-seconds-requires c κs = search needs
 
 enum-known-minutes : tie.Need-enum-known-minutes
 enum-known-minutes c = c .match3 .keys1
@@ -95,4 +80,4 @@ returns-5 c =
     simp (← b3 .parse-hour .ensures, b1 .e3 .given .1)
 
 pub parse-shift-spec : {M : Type 1} → statement M
-parse-shift-spec = tie.close (tie.spec parse-hour-requires enum-known-hours eat-whitespace-requires done-requires returns parse-colon-requires enum-known-b parse-minutes-or-seconds-requires enum-known-minutes enum-known-e enum-known-e-2 enum-known-e-3 returns-2 returns-3 returns-4 returns-5)
+parse-shift-spec = tie.close (tie.spec (λ c κs. search needs) enum-known-hours (λ c κs. search needs) (λ c κs. search needs) returns (λ c κs. search needs) enum-known-b (λ c κs. search needs) enum-known-minutes enum-known-e enum-known-e-2 enum-known-e-3 returns-2 returns-3 returns-4 returns-5)

@@ -9,9 +9,6 @@ use borrow.Author.Needs.{needs}
 use Rattle.points.proofs.parse_short_year.Statement.{statement}
 use Rattle.points.proofs.parse_short_year.Tie as tie
 
-parse-int-requires : tie.Need-parse-int-requires
-parse-int-requires c κs = search needs
-
 enum-known-value : tie.Need-enum-known-value
 enum-known-value c = c .match .keys1
 
@@ -49,4 +46,4 @@ returns-3 c =
     simp (← b2 .parse-int .ensures, c .enum-told .given .1)
 
 pub parse-short-year-spec : {M : Type 1} → statement M
-parse-short-year-spec = tie.close (tie.spec parse-int-requires enum-known-value window-requires enum-known-next enum-told returns returns-2 returns-3)
+parse-short-year-spec = tie.close (tie.spec (λ c κs. search needs) enum-known-value window-requires enum-known-next enum-told returns returns-2 returns-3)

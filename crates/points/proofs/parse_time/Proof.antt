@@ -4,14 +4,8 @@ use borrow.Author.Needs.{needs}
 use Rattle.points.proofs.parse_time.Statement.{statement}
 use Rattle.points.proofs.parse_time.Tie as tie
 
-parse-hour-requires : tie.Need-parse-hour-requires
-parse-hour-requires c κs = search needs
-
 enum-known-hour : tie.Need-enum-known-hour
 enum-known-hour c = c .match .keys1
-
-behind-hour-requires : tie.Need-behind-hour-requires
-behind-hour-requires c κs = search needs
 
 enum-known-e : tie.Need-enum-known-e
 enum-known-e c = c .match .keys2
@@ -31,4 +25,4 @@ returns-2 c =
     simp (← b3 .parse-hour .ensures, b1 .e .given .1)
 
 pub parse-time-spec : {M : Type 1} → statement M
-parse-time-spec = tie.close (tie.spec parse-hour-requires enum-known-hour behind-hour-requires enum-known-e returns returns-2)
+parse-time-spec = tie.close (tie.spec (λ c κs. search needs) enum-known-hour (λ c κs. search needs) enum-known-e returns returns-2)

@@ -5,23 +5,14 @@ use borrow.Author.Needs.{needs}
 use Rattle.points.proofs.parse_year.Statement.{statement}
 use Rattle.points.proofs.parse_year.Tie as tie
 
-parse-int-requires : tie.Need-parse-int-requires
-parse-int-requires c κs = search needs
-
 enum-known-value : tie.Need-enum-known-value
 enum-known-value c = c .match .keys1
 
 enum-known-next : tie.Need-enum-known-next
 enum-known-next c = c .match .keys2
 
-refuse-text-requires : tie.Need-refuse-text-requires
-refuse-text-requires c κs = search needs
-
 enum-told : tie.Need-enum-told
 enum-told c = c .match .keys3
-
-panics-requires : tie.Need-panics-requires
-panics-requires c κs = search needs
 
 returns : tie.Need-returns
 unfolding longYear longOf
@@ -45,4 +36,4 @@ returns-3 c =
     simp (← b3 .parse-int .ensures, b1 .enum-told .given .1, c .panics .ensures)
 
 pub parse-year-spec : {M : Type 1} → statement M
-parse-year-spec = tie.close (tie.spec parse-int-requires enum-known-value enum-known-next refuse-text-requires enum-told panics-requires returns returns-2 returns-3)
+parse-year-spec = tie.close (tie.spec (λ c κs. search needs) enum-known-value enum-known-next (λ c κs. search needs) enum-told (λ c κs. search needs) returns returns-2 returns-3)

@@ -7,24 +7,6 @@ use borrow.Author.Needs.{needs}
 use Rattle.quick.proofs.day_point.Statement.{statement}
 use Rattle.quick.proofs.day_point.Tie as tie
 
-year-requires : tie.Need-year-requires
-year-requires c κs = search needs
-
-part-at-requires : tie.Need-part-at-requires
-part-at-requires c κs = search needs
-
-part-at-requires-2 : tie.Need-part-at-requires-2
-part-at-requires-2 c κs = search needs
-
-signed-requires : tie.Need-signed-requires
-signed-requires c κs = search needs
-
-days-in-month-requires : tie.Need-days-in-month-requires
-days-in-month-requires c κs = search needs
-
-found-requires : tie.Need-found-requires
-found-requires c κs = search needs
-
 returns : tie.Need-returns
 unfolding dayPoint pick
 returns c =
@@ -75,12 +57,12 @@ pub day-point-spec : {M : Type 1} → statement M
 day-point-spec =
     tie.close
     (tie.spec
-    year-requires
-    part-at-requires
-    part-at-requires-2
-    signed-requires
-    days-in-month-requires
-    found-requires
+    (λ c κs. search needs)
+    (λ c κs. search needs)
+    (λ c κs. search needs)
+    (λ c κs. search needs)
+    (λ c κs. search needs)
+    (λ c κs. search needs)
     returns
     returns-2
     returns-3

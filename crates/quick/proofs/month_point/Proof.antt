@@ -5,15 +5,6 @@ use borrow.Author.Needs.{needs}
 use Rattle.quick.proofs.month_point.Statement.{statement}
 use Rattle.quick.proofs.month_point.Tie as tie
 
-year-requires : tie.Need-year-requires
-year-requires c κs = search needs
-
-part-at-requires : tie.Need-part-at-requires
-part-at-requires c κs = search needs
-
-found-requires : tie.Need-found-requires
-found-requires c κs = search needs
-
 returns : tie.Need-returns
 unfolding monthPoint pick
 returns c =
@@ -40,4 +31,4 @@ returns-3 c =
 
 pub month-point-spec : {M : Type 1} → statement M
 month-point-spec =
-    tie.close (tie.spec year-requires part-at-requires found-requires returns returns-2 returns-3)
+    tie.close (tie.spec (λ c κs. search needs) (λ c κs. search needs) (λ c κs. search needs) returns returns-2 returns-3)

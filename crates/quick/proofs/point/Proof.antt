@@ -5,17 +5,11 @@ use borrow.Author.Needs.{needs}
 use Rattle.quick.proofs.point.Statement.{statement}
 use Rattle.quick.proofs.point.Tie as tie
 
-year-point-requires : tie.Need-year-point-requires
-year-point-requires c κs = search needs
-
 returns : tie.Need-returns
 unfolding pointOf pick
 returns c =
     let b1 = c .before in
     simp (eq-eqb _ _ (b1 .if1 .taken), ← c .year-point .ensures)
-
-month-point-requires : tie.Need-month-point-requires
-month-point-requires c κs = search needs
 
 returns-2 : tie.Need-returns-2
 unfolding pointOf pick
@@ -23,9 +17,6 @@ returns-2 c =
     let b1 = c .before in
     let b2 = b1 .before in
     simp (ne-eqb _ _ (b2 .if1 .left), eq-eqb _ _ (b1 .if2 .taken), ← c .month-point .ensures)
-
-day-point-requires : tie.Need-day-point-requires
-day-point-requires c κs = search needs
 
 returns-3 : tie.Need-returns-3
 unfolding pointOf pick
@@ -46,10 +37,10 @@ pub point-spec : {M : Type 1} → statement M
 point-spec =
     tie.close
     (tie.spec
-    year-point-requires
+    (λ c κs. search needs)
     returns
-    month-point-requires
+    (λ c κs. search needs)
     returns-2
-    day-point-requires
+    (λ c κs. search needs)
     returns-3
     returns-4)

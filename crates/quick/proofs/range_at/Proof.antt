@@ -11,36 +11,6 @@ use Rattle.quick.proofs.range_at.Tie as tie
 slice-aggregate-point : tie.Need-slice-aggregate-point
 slice-aggregate-point c = sym (length-take-le _ _ (omega arith))
 
-point-requires : tie.Need-point-requires
-point-requires c κs = search needs
-
-enum-known-a : tie.Need-enum-known-a
-enum-known-a c = search needs
-
-add-point : tie.Need-add-point
-add-point c = search needs
-
-sub-point : tie.Need-sub-point
-sub-point c = search needs
-
-part-point-start : tie.Need-part-point-start
-part-point-start c = search needs
-
-part-point-end : tie.Need-part-point-end
-part-point-end c = search needs
-
-point-requires-2 : tie.Need-point-requires-2
-point-requires-2 c κs = search needs
-
-enum-known-b : tie.Need-enum-known-b
-enum-known-b c = search needs
-
-enum-told : tie.Need-enum-told
-enum-told c = search needs
-
-enum-told-2 : tie.Need-enum-told-2
-enum-told-2 c = search needs
-
 returns : tie.Need-returns
 unfolding rangeAt twoPoints
 returns c =
@@ -71,16 +41,16 @@ range-at-spec =
     tie.close
     (tie.spec
     slice-aggregate-point
-    point-requires
-    enum-known-a
-    add-point
-    sub-point
-    part-point-start
-    part-point-end
-    point-requires-2
-    enum-known-b
-    enum-told
-    enum-told-2
+    (λ c κs. search needs)
+    (λ c. search needs)
+    (λ c. search needs)
+    (λ c. search needs)
+    (λ c. search needs)
+    (λ c. search needs)
+    (λ c κs. search needs)
+    (λ c. search needs)
+    (λ c. search needs)
+    (λ c. search needs)
     returns
     returns-2
     returns-3)

@@ -1,13 +1,9 @@
 use mathlib.Core.Path.{refl}
 use lib.ListN.{List·getD-eq-default}
 use Rattle.quick.specs.Quick.{isSlash}
-use borrow.Author.Tests.{lt-ltb, le-ltb}
 use borrow.Author.Needs.{needs}
 use Rattle.quick.proofs.slash_at.Statement.{statement}
 use Rattle.quick.proofs.slash_at.Tie as tie
-
-shared-slice-read-result : tie.Need-shared-slice-read-result
-shared-slice-read-result c = search needs
 
 returns : tie.Need-returns
 unfolding isSlash
@@ -18,4 +14,4 @@ unfolding isSlash
 returns-2 c = simp (List·getD-eq-default (c .before .args .s .now) 0 (c .if1 .left))
 
 pub slash-at-spec : {M : Type 1} → statement M
-slash-at-spec = tie.close (tie.spec shared-slice-read-result returns returns-2)
+slash-at-spec = tie.close (tie.spec (λ c. search needs) returns returns-2)

@@ -4,17 +4,11 @@ use borrow.Author.Needs.{needs}
 use Rattle.quick.proofs.slash_of.Statement.{statement}
 use Rattle.quick.proofs.slash_of.Tie as tie
 
-slash-at-requires : tie.Need-slash-at-requires
-slash-at-requires c κs = search needs
-
 returns : tie.Need-returns
 unfolding slashOf pick
 returns c =
     let b1 = c .before in
     simp (← b1 .slash-at .ensures, c .if1 .taken)
-
-slash-at-requires-2 : tie.Need-slash-at-requires-2
-slash-at-requires-2 c κs = search needs
 
 returns-2 : tie.Need-returns-2
 unfolding slashOf pick
@@ -34,4 +28,4 @@ returns-3 c =
 
 pub slash-of-spec : {M : Type 1} → statement M
 slash-of-spec =
-    tie.close (tie.spec slash-at-requires returns slash-at-requires-2 returns-2 returns-3)
+    tie.close (tie.spec (λ c κs. search needs) returns (λ c κs. search needs) returns-2 returns-3)

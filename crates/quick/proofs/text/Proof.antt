@@ -6,12 +6,6 @@ use borrow.Author.Needs.{needs}
 use Rattle.quick.proofs.text.Statement.{statement}
 use Rattle.quick.proofs.text.Tie as tie
 
-slash-of-requires : tie.Need-slash-of-requires
-slash-of-requires c κs = search needs
-
-slash-at-requires : tie.Need-slash-at-requires
-slash-at-requires c κs = search needs
-
 range-at-requires : tie.Need-range-at-requires
 range-at-requires c κs =
     let b = c .before in
@@ -24,15 +18,6 @@ returns c =
     let b2 = b1 .before in
     let b3 = b2 .before in
     simp (← b3 .slash-of .ensures, ← b2 .slash-at .ensures, b1 .if1 .taken, ← c .range-at .ensures)
-
-point-requires : tie.Need-point-requires
-point-requires c κs = search needs
-
-enum-known-d : tie.Need-enum-known-d
-enum-known-d c = search needs
-
-enum-told : tie.Need-enum-told
-enum-told c = search needs
 
 returns-2 : tie.Need-returns-2
 unfolding usualText oneOf pick
@@ -57,12 +42,12 @@ pub text-spec : {M : Type 1} → statement M
 text-spec =
     tie.close
     (tie.spec
-    slash-of-requires
-    slash-at-requires
+    (λ c κs. search needs)
+    (λ c κs. search needs)
     range-at-requires
     returns
-    point-requires
-    enum-known-d
-    enum-told
+    (λ c κs. search needs)
+    (λ c. search needs)
+    (λ c. search needs)
     returns-2
     returns-3)

@@ -7,12 +7,6 @@ use borrow.Author.Needs.{needs}
 use Rattle.quick.proofs.two.Statement.{statement}
 use Rattle.quick.proofs.two.Tie as tie
 
-is-digit-requires : tie.Need-is-digit-requires
-is-digit-requires c κs = search needs
-
-is-digit-requires-2 : tie.Need-is-digit-requires-2
-is-digit-requires-2 c κs = search needs
-
 sub-result : tie.Need-sub-result
 sub-result c =
     let b1 = c .before in
@@ -82,8 +76,8 @@ pub two-spec : {M : Type 1} → statement M
 two-spec =
     tie.close
     (tie.spec
-    is-digit-requires
-    is-digit-requires-2
+    (λ c κs. search needs)
+    (λ c κs. search needs)
     sub-result
     mul-result
     sub-result-2

@@ -5,12 +5,6 @@ use borrow.Author.Needs.{needs}
 use Rattle.quick.proofs.year_point.Statement.{statement}
 use Rattle.quick.proofs.year_point.Tie as tie
 
-year-requires : tie.Need-year-requires
-year-requires c κs = search needs
-
-found-requires : tie.Need-found-requires
-found-requires c κs = search needs
-
 returns : tie.Need-returns
 unfolding yearPoint pick
 returns c =
@@ -25,4 +19,4 @@ returns-2 c =
     simp (← b1 .year .ensures, le-ltb _ _ (c .if1 .left))
 
 pub year-point-spec : {M : Type 1} → statement M
-year-point-spec = tie.close (tie.spec year-requires found-requires returns returns-2)
+year-point-spec = tie.close (tie.spec (λ c κs. search needs) (λ c κs. search needs) returns returns-2)

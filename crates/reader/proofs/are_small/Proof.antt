@@ -3,15 +3,6 @@ use borrow.Author.Needs.{needs}
 use Rattle.reader.proofs.are_small.Statement.{statement}
 use Rattle.reader.proofs.are_small.Tie as tie
 
-is-small-requires : tie.Need-is-small-requires
-is-small-requires c κs = search needs
-
-is-small-requires-2 : tie.Need-is-small-requires-2
-is-small-requires-2 c κs = search needs
-
-is-small-requires-3 : tie.Need-is-small-requires-3
-is-small-requires-3 c κs = search needs
-
 returns : tie.Need-returns
 returns c =
     let m = c .before .before in
@@ -27,4 +18,4 @@ returns-3 c = λ h. absurd (false≢true h)
 pub are-small-spec : {M : Type 1} → statement M
 are-small-spec =
     tie.close
-    (tie.spec is-small-requires is-small-requires-2 is-small-requires-3 returns returns-2 returns-3)
+    (tie.spec (λ c κs. search needs) (λ c κs. search needs) (λ c κs. search needs) returns returns-2 returns-3)

@@ -1,18 +1,12 @@
 use Rattle.chars.specs.Pick.{pick}
 use Rattle.chunks.specs.Check.{orElse}
-use Rattle.reader.specs.Fields.{fieldsChecked}
+use Rattle.reading_laws.specs.Fields.{fieldsChecked}
 use borrow.Author.Needs.{needs}
 use Rattle.reader.proofs.check_fields.Statement.{statement}
 use Rattle.reader.proofs.check_fields.Tie as tie
 
-check-requires : tie.Need-check-requires
-check-requires c κs = search needs
-
 enum-told : tie.Need-enum-told
 enum-told c = c .match .keys1
-
-check-parts-requires : tie.Need-check-parts-requires
-check-parts-requires c κs = search needs
 
 returns : tie.Need-returns
 unfolding fieldsChecked orElse pick
@@ -43,9 +37,9 @@ pub check-fields-spec : {M : Type 1} → statement M
 check-fields-spec =
     tie.close
     (tie.spec
-    check-requires
+    (λ c κs. search needs)
     enum-told
-    check-parts-requires
+    (λ c κs. search needs)
     returns
     enum-known-e
     returns-2

@@ -1,18 +1,12 @@
 use Rattle.chars.specs.Pick.{pick}
 use Rattle.chunks.specs.Check.{orElse}
-use Rattle.reader.specs.Fields.{partsChecked}
+use Rattle.reading_laws.specs.Fields.{partsChecked}
 use borrow.Author.Needs.{needs}
 use Rattle.reader.proofs.check_parts.Statement.{statement}
 use Rattle.reader.proofs.check_parts.Tie as tie
 
-check-requires : tie.Need-check-requires
-check-requires c κs = search needs
-
 enum-told : tie.Need-enum-told
 enum-told c = c .match .keys1
-
-check-requires-2 : tie.Need-check-requires-2
-check-requires-2 c κs = search needs
 
 returns : tie.Need-returns
 unfolding partsChecked orElse pick
@@ -42,4 +36,4 @@ returns-3 c =
 pub check-parts-spec : {M : Type 1} → statement M
 check-parts-spec =
     tie.close
-    (tie.spec check-requires enum-told check-requires-2 returns enum-known-e returns-2 returns-3)
+    (tie.spec (λ c κs. search needs) enum-told (λ c κs. search needs) returns enum-known-e returns-2 returns-3)

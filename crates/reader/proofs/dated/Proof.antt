@@ -1,18 +1,12 @@
 use mir.ValLaws.{toZ-ofZ}
 use mir.Syntax.{w32}
-use Rattle.reader.specs.Fields.{dated}
+use Rattle.reading_laws.specs.Fields.{dated}
 use borrow.Author.Needs.{needs}
 use Rattle.reader.proofs.dated.Statement.{statement}
 use Rattle.reader.proofs.dated.Tie as tie
 
 enum-known-parts : tie.Need-enum-known-parts
 enum-known-parts c = c .match .keys1
-
-new-requires : tie.Need-new-requires
-new-requires c κs = search needs
-
-from-datetime-requires : tie.Need-from-datetime-requires
-from-datetime-requires c κs = search needs
 
 enum-known-parts-2 : tie.Need-enum-known-parts-2
 enum-known-parts-2 c = c .match .keys2
@@ -35,8 +29,8 @@ dated-spec =
     tie.close
     (tie.spec
     enum-known-parts
-    new-requires
-    from-datetime-requires
+    (λ c κs. search needs)
+    (λ c κs. search needs)
     enum-known-parts-2
     returns
     returns-2)

@@ -1,4 +1,4 @@
-use Rattle.reader.specs.Field.{leveled}
+use Rattle.reading_laws.specs.Field.{leveled}
 use borrow.Author.Needs.{needs}
 use Rattle.reader.proofs.leveled.Statement.{statement}
 use Rattle.reader.proofs.leveled.Tie as tie
@@ -8,9 +8,6 @@ enum-known-m c = c .match .keys1
 
 enum-told : tie.Need-enum-told
 enum-told c = c .match .keys2
-
-refuse-requires : tie.Need-refuse-requires
-refuse-requires c κs = search needs
 
 returns : tie.Need-returns
 unfolding leveled
@@ -22,7 +19,7 @@ returns-2 : tie.Need-returns-2
 unfolding leveled
 returns-2 c =
     let b1 = c .before in
-    simp (b1 .enum-told .given .1, ← c .refuse .ensures)
+    simp (b1 .enum-told .given .1, ← c .nowhere .ensures)
 
 pub leveled-spec : {M : Type 1} → statement M
-leveled-spec = tie.close (tie.spec enum-known-m enum-told refuse-requires returns returns-2)
+leveled-spec = tie.close (tie.spec enum-known-m enum-told (λ c κs. search needs) returns returns-2)

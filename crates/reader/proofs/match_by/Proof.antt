@@ -1,14 +1,7 @@
-use borrow.Author.Tests.{lt-ltb, le-ltb, le-leb, lt-leb, eq-eqb, ne-eqb}
-use Rattle.reader.specs.Readable.{matchBy}
+use Rattle.reading_laws.specs.Field.{matchBy}
 use borrow.Author.Needs.{needs}
 use Rattle.reader.proofs.match_by.Statement.{statement}
 use Rattle.reader.proofs.match_by.Tie as tie
-
-match-level-requires : tie.Need-match-level-requires
-match-level-requires c κs = search needs
-
-leveled-requires : tie.Need-leveled-requires
-leveled-requires c κs = search needs
 
 returns : tie.Need-returns
 unfolding matchBy
@@ -16,12 +9,6 @@ returns c =
     let b1 = c .before in
     let b2 = b1 .before in
     simp (b2 .if1 .taken, ← b1 .match-level .ensures, ← c .leveled .ensures)
-
-match-text-requires : tie.Need-match-text-requires
-match-text-requires c κs = search needs
-
-strictly-requires : tie.Need-strictly-requires
-strictly-requires c κs = search needs
 
 returns-2 : tie.Need-returns-2
 unfolding matchBy
@@ -34,9 +21,9 @@ pub match-by-spec : {M : Type 1} → statement M
 match-by-spec =
     tie.close
     (tie.spec
-    match-level-requires
-    leveled-requires
+    (λ c κs. search needs)
+    (λ c κs. search needs)
     returns
-    match-text-requires
-    strictly-requires
+    (λ c κs. search needs)
+    (λ c κs. search needs)
     returns-2)

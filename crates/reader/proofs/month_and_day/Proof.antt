@@ -1,10 +1,7 @@
-use Rattle.reader.specs.Fields.{monthAndDay, onMonth, fieldDay}
+use Rattle.reading_laws.specs.Fields.{monthAndDay, onMonth, fieldDay}
 use borrow.Author.Needs.{needs}
 use Rattle.reader.proofs.month_and_day.Statement.{statement}
 use Rattle.reader.proofs.month_and_day.Tie as tie
-
-month-of-requires : tie.Need-month-of-requires
-month-of-requires c κs = search needs
 
 enum-known-m : tie.Need-enum-known-m
 enum-known-m c = c .match .keys1
@@ -21,12 +18,6 @@ enum-known-e c = c .match2 .keys2
 enum-known-e-2 : tie.Need-enum-known-e-2
 enum-known-e-2 c = c .match .keys2
 
-unshifted-requires : tie.Need-unshifted-requires
-unshifted-requires c κs = search needs
-
-same-length : tie.Need-same-length
-same-length c = search needs
-
 returns : tie.Need-returns
 unfolding monthAndDay onMonth fieldDay
 returns c =
@@ -36,9 +27,6 @@ returns c =
     let b12 = b8 .before .before .before .before in
     simp (← b12 .month-of .ensures, b8 .m .given .1, ← b5 .day-of .ensures, b1 .d .given .1)
 
-same-length-2 : tie.Need-same-length-2
-same-length-2 c = search needs
-
 returns-2 : tie.Need-returns-2
 unfolding monthAndDay onMonth fieldDay
 returns-2 c =
@@ -47,9 +35,6 @@ returns-2 c =
     let b8 = b5 .before .before .before in
     let b12 = b8 .before .before .before .before in
     simp (← b12 .month-of .ensures, b8 .m .given .1, ← b5 .day-of .ensures, b1 .e .given .1)
-
-same-length-3 : tie.Need-same-length-3
-same-length-3 c = search needs
 
 returns-3 : tie.Need-returns-3
 unfolding monthAndDay onMonth fieldDay
@@ -62,16 +47,16 @@ pub month-and-day-spec : {M : Type 1} → statement M
 month-and-day-spec =
     tie.close
     (tie.spec
-    month-of-requires
+    (λ c κs. search needs)
     enum-known-m
     day-of-requires
     enum-known-d
     enum-known-e
     enum-known-e-2
-    unshifted-requires
-    same-length
+    (λ c κs. search needs)
+    (λ c. search needs)
     returns
-    same-length-2
+    (λ c. search needs)
     returns-2
-    same-length-3
+    (λ c. search needs)
     returns-3)

@@ -1,4 +1,4 @@
-use Rattle.reader.proofs.Entries.{is-fault, is-text}
+use Rattle.chunks.proofs.Buffers.{is-fault, is-text}
 use Rattle.chunks.proofs.Proper.{faulty-not}
 use Rattle.reader.proofs.Lists.{as-is}
 use mathlib.Core.Bool.{false}
@@ -8,9 +8,6 @@ use Rattle.fields.specs.Month.{monthField}
 use borrow.Author.Needs.{needs}
 use Rattle.reader.proofs.month_of.Statement.{statement}
 use Rattle.reader.proofs.month_of.Tie as tie
-
-format-verbatim-requires : tie.Need-format-verbatim-requires
-format-verbatim-requires c κs = search needs
 
 enum-known-n : tie.Need-enum-known-n
 enum-known-n c = c .match .keys1
@@ -29,14 +26,8 @@ slice-aggregate-month-field c =
     let t = is-text false (a .bytes .now) (a .table .now) (a .buf .now) (e .0) (e .1) (c .before .before .n .given .1) in
     sym (length-take-le _ _ (t .within))
 
-month-field-requires : tie.Need-month-field-requires
-month-field-requires c κs = search needs
-
 enum-told : tie.Need-enum-told
 enum-told c = c .match .keys2
-
-same-length : tie.Need-same-length
-same-length c = search needs
 
 returns : tie.Need-returns
 returns c =
@@ -44,9 +35,6 @@ returns c =
     let e = c .before .before .before .before .before .before .before .format-verbatim .ensures in
     let t = is-text false (a .bytes .now) (a .table .now) (a .buf .now) (e .0) (e .1) (c .before .before .before .n .given .1) in
     c .month-field .ensures ∙ ap monthField (as-is (a .bytes .now) (a .table .now) (t .front))
-
-same-length-2 : tie.Need-same-length-2
-same-length-2 c = search needs
 
 returns-2 : tie.Need-returns-2
 returns-2 c =
@@ -59,13 +47,13 @@ pub month-of-spec : {M : Type 1} → statement M
 month-of-spec =
     tie.close
     (tie.spec
-    format-verbatim-requires
+    (λ c κs. search needs)
     enum-known-n
     slice-reshare-prefix-month-field
     slice-aggregate-month-field
-    month-field-requires
+    (λ c κs. search needs)
     enum-told
-    same-length
+    (λ c. search needs)
     returns
-    same-length-2
+    (λ c. search needs)
     returns-2)

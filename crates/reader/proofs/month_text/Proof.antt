@@ -1,16 +1,10 @@
-use Rattle.reader.specs.Fields.{monthText, onMonth, insideDay}
+use Rattle.reading_laws.specs.Fields.{monthText, onMonth, insideDay}
 use borrow.Author.Needs.{needs}
 use Rattle.reader.proofs.month_text.Statement.{statement}
 use Rattle.reader.proofs.month_text.Tie as tie
 
-month-field-requires : tie.Need-month-field-requires
-month-field-requires c κs = search needs
-
 enum-known-month : tie.Need-enum-known-month
 enum-known-month c = c .match .keys1
-
-day-in-month-field-requires : tie.Need-day-in-month-field-requires
-day-in-month-field-requires c κs = search needs
 
 enum-known-d : tie.Need-enum-known-d
 enum-known-d c = c .match2 .keys1
@@ -18,14 +12,8 @@ enum-known-d c = c .match2 .keys1
 enum-known-e : tie.Need-enum-known-e
 enum-known-e c = c .match2 .keys2
 
-unshifted-requires : tie.Need-unshifted-requires
-unshifted-requires c κs = search needs
-
 enum-known-e-2 : tie.Need-enum-known-e-2
 enum-known-e-2 c = c .match .keys2
-
-unshifted-requires-2 : tie.Need-unshifted-requires-2
-unshifted-requires-2 c κs = search needs
 
 returns : tie.Need-returns
 unfolding monthText onMonth insideDay
@@ -56,14 +44,14 @@ pub month-text-spec : {M : Type 1} → statement M
 month-text-spec =
     tie.close
     (tie.spec
-    month-field-requires
+    (λ c κs. search needs)
     enum-known-month
-    day-in-month-field-requires
+    (λ c κs. search needs)
     enum-known-d
     enum-known-e
-    unshifted-requires
+    (λ c κs. search needs)
     enum-known-e-2
-    unshifted-requires-2
+    (λ c κs. search needs)
     returns
     returns-2
     returns-3)

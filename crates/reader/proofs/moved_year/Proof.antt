@@ -1,6 +1,6 @@
 use mir.ValLaws.{toZ-ofZ}
 use mir.Syntax.{w32}
-use Rattle.reader.specs.Fields.{movedYear}
+use Rattle.reading_laws.specs.Fields.{movedYear}
 use borrow.Author.Needs.{needs}
 use Rattle.reader.proofs.moved_year.Statement.{statement}
 use Rattle.reader.proofs.moved_year.Tie as tie
@@ -10,9 +10,6 @@ enum-known-r c = c .match .keys1
 
 enum-known-r-2 : tie.Need-enum-known-r-2
 enum-known-r-2 c = c .match .keys2
-
-offset-requires : tie.Need-offset-requires
-offset-requires c κs = search needs
 
 returns : tie.Need-returns
 unfolding movedYear
@@ -28,4 +25,4 @@ returns-2 c =
 
 pub moved-year-spec : {M : Type 1} → statement M
 moved-year-spec =
-    tie.close (tie.spec enum-known-r enum-known-r-2 offset-requires returns returns-2)
+    tie.close (tie.spec enum-known-r enum-known-r-2 (λ c κs. search needs) returns returns-2)

@@ -1,33 +1,40 @@
-use Rattle.reader.proofs.Entries.{large-room, small-room}
+use mathlib.Core.Path.{sym, ap, _∙_}
+use Rattle.refusals.specs.declared.ReadDate.the-variants.{Accepted}
+use Rattle.reader.proofs.Quick.{one-ported, two-ported}
 use borrow.Author.Needs.{needs}
 use Rattle.reader.proofs.parse.Statement.{statement}
 use Rattle.reader.proofs.parse.Tie as tie
 
-slice-aggregate-parse-in : tie.Need-slice-aggregate-parse-in
-slice-aggregate-parse-in c = search needs
-
-parse-in-requires : tie.Need-parse-in-requires
-parse-in-requires c κs = let a = c .before .before .before .before .before .args in small-room (a .bytes .now) (a .table .now) (c .before .before .if1 .taken) (c .before .if2 .taken)
-
 returns : tie.Need-returns
-returns c = search needs
-
-slice-aggregate-parse-in-2 : tie.Need-slice-aggregate-parse-in-2
-slice-aggregate-parse-in-2 c = search needs
-
-parse-in-requires-2 : tie.Need-parse-in-requires-2
-parse-in-requires-2 c κs = large-room (c .before .before .before .before .args .bytes .now) (c .before .before .before .before .args .table .now)
+returns c =
+    let b4 = c .before .before .before .before in
+    let b6 = b4 .before .before in
+    let a = b6 .before .before .before .args in
+    let e = one-ported (a .bytes .now) (a .table .now) (sym (b6 .is-one-normal .ensures) ∙ b4 .before .if1 .taken) (sym (b4 .text .ensures) ∙ c .before .before .d .given .1) in
+    ap Accepted (c .from-datetime .ensures) ∙ sym e
 
 returns-2 : tie.Need-returns-2
-returns-2 c = search needs
+returns-2 c =
+    let b4 = c .before .before .before .before in
+    let b6 = b4 .before .before in
+    let a = b6 .before .before .before .args in
+    let e = two-ported (a .bytes .now) (a .table .now) (sym (b6 .is-one-normal .ensures) ∙ b4 .before .if1 .taken) (sym (b4 .text .ensures) ∙ c .before .before .a .given .1) in
+    ap Accepted (c .range .ensures) ∙ sym e
 
 pub parse-spec : {M : Type 1} → statement M
 parse-spec =
     tie.close
     (tie.spec
-    slice-aggregate-parse-in
-    parse-in-requires
+    (λ c κs. search needs)
+    (λ c κs. search needs)
+    (λ c. search needs)
+    (λ c κs. search needs)
+    (λ c. search needs)
+    (λ c κs. search needs)
+    (λ c. search needs)
+    (λ c κs. search needs)
     returns
-    slice-aggregate-parse-in-2
-    parse-in-requires-2
-    returns-2)
+    returns-2
+    (λ c. search needs)
+    (λ c κs. search needs)
+    (λ c. search needs))

@@ -1,13 +1,11 @@
-use Rattle.reader.proofs.Entries.{parsed-faulty, parsed-clean, is-text, is-fault}
+use Rattle.chunks.proofs.Buffers.{is-text, is-fault}
+use Rattle.reading_laws.proofs.Entries.{parsed-faulty, parsed-clean}
 use mathlib.Core.Bool.{true}
 use lib.Seq.{length-take-le}
 use mathlib.Core.Path.{sym, _∙_}
 use borrow.Author.Needs.{needs}
 use Rattle.reader.proofs.parse_in.Statement.{statement}
 use Rattle.reader.proofs.parse_in.Tie as tie
-
-format-uppercase-requires : tie.Need-format-uppercase-requires
-format-uppercase-requires c κs = search needs
 
 enum-known-n : tie.Need-enum-known-n
 enum-known-n c = c .match .keys1
@@ -26,17 +24,8 @@ slice-aggregate-parse-text c =
     let t = is-text true (a .bytes .now) (a .table .now) (a .buf .now) (e .0) (e .1) (c .before .before .n .given .1) in
     sym (length-take-le _ _ (t .within))
 
-span-requires : tie.Need-span-requires
-span-requires c κs = search needs
-
-parse-text-requires : tie.Need-parse-text-requires
-parse-text-requires c κs = search needs
-
 enum-known-e : tie.Need-enum-known-e
 enum-known-e c = c .match .keys2
-
-same-length : tie.Need-same-length
-same-length c = search needs
 
 returns : tie.Need-returns
 returns c =
@@ -44,9 +33,6 @@ returns c =
     let e = c .before .before .before .before .before .before .before .before .format-uppercase .ensures in
     let t = is-text true (a .bytes .now) (a .table .now) (a .buf .now) (e .0) (e .1) (c .before .before .before .before .n .given .1) in
     c .parse-text .ensures ∙ rw (c .before .span .ensures) (parsed-clean (a .bytes .now) (a .table .now) (t .clean) (t .front))
-
-same-length-2 : tie.Need-same-length-2
-same-length-2 c = search needs
 
 returns-2 : tie.Need-returns-2
 returns-2 c =
@@ -58,14 +44,14 @@ pub parse-in-spec : {M : Type 1} → statement M
 parse-in-spec =
     tie.close
     (tie.spec
-    format-uppercase-requires
+    (λ c κs. search needs)
     enum-known-n
     slice-reshare-prefix-parse-text
     slice-aggregate-parse-text
-    span-requires
-    parse-text-requires
+    (λ c κs. search needs)
+    (λ c κs. search needs)
     enum-known-e
-    same-length
+    (λ c. search needs)
     returns
-    same-length-2
+    (λ c. search needs)
     returns-2)

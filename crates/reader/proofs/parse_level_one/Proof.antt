@@ -1,15 +1,11 @@
-use Rattle.reader.specs.Field.{parsedLevelOne}
-use Rattle.reader.specs.Readable.{matchBy, parsedBy}
+use Rattle.reading_laws.specs.Field.{parsedLevelOne, matchBy, parsedBy}
 use borrow.Author.Needs.{needs}
 use Rattle.reader.proofs.parse_level_one.Statement.{statement}
 use Rattle.reader.proofs.parse_level_one.Tie as tie
-
-parse-by-requires : tie.Need-parse-by-requires
-parse-by-requires c κs = search needs
 
 returns : tie.Need-returns
 unfolding parsedBy matchBy parsedLevelOne
 returns c = c .parse-by .ensures
 
 pub parse-level-one-spec : {M : Type 1} → statement M
-parse-level-one-spec = tie.close (tie.spec parse-by-requires returns)
+parse-level-one-spec = tie.close (tie.spec (λ c κs. search needs) returns)

@@ -1,14 +1,11 @@
 use mathlib.Core.Path.{sym, _∙_}
 use Rattle.chunks.specs.Check.{checked}
-use Rattle.reader.specs.Field.{onClean}
-use Rattle.reader.specs.Fields.{threeFields}
+use Rattle.reading_laws.specs.Field.{onClean}
+use Rattle.reading_laws.specs.Fields.{threeFields}
 use Rattle.reader.proofs.Lists.{day-checked, year-checked, month-checked}
 use borrow.Author.Needs.{needs}
 use Rattle.reader.proofs.parse_three_fields.Statement.{statement}
 use Rattle.reader.proofs.parse_three_fields.Tie as tie
-
-check-fields-requires : tie.Need-check-fields-requires
-check-fields-requires c κs = search needs
 
 enum-told : tie.Need-enum-told
 enum-told c = c .match .keys1
@@ -39,4 +36,4 @@ returns-2 c = simp (← c .before .before .before .check-fields .ensures, c .bef
 pub parse-three-fields-spec : {M : Type 1} → statement M
 parse-three-fields-spec =
     tie.close
-    (tie.spec check-fields-requires enum-told read-clean-requires enum-known-e returns returns-2)
+    (tie.spec (λ c κs. search needs) enum-told read-clean-requires enum-known-e returns returns-2)

@@ -1,14 +1,11 @@
 use Rattle.chars.specs.Pick.{pick}
-use Rattle.reader.specs.Fields.{partsOf}
+use Rattle.reading_laws.specs.Fields.{partsOf}
 use borrow.Author.Needs.{needs}
 use Rattle.reader.proofs.parts_of.Statement.{statement}
 use Rattle.reader.proofs.parts_of.Tie as tie
 
 month-and-day-requires : tie.Need-month-and-day-requires
 month-and-day-requires c κs = (c .before .before .before .before .before .before .before .before .pre .0 (c .before .before .if1 .taken), c .before .before .before .before .before .before .before .before .pre .1 (c .before .before .if1 .taken) (c .before .if2 .taken))
-
-same-length : tie.Need-same-length
-same-length c = search needs
 
 returns : tie.Need-returns
 unfolding partsOf pick
@@ -20,9 +17,6 @@ returns c =
 
 month-alone-requires : tie.Need-month-alone-requires
 month-alone-requires c κs = c .before .before .before .before .before .before .before .before .pre .0 (c .before .before .if1 .taken)
-
-same-length-2 : tie.Need-same-length-2
-same-length-2 c = search needs
 
 returns-2 : tie.Need-returns-2
 unfolding partsOf pick
@@ -41,9 +35,9 @@ parts-of-spec =
     tie.close
     (tie.spec
     month-and-day-requires
-    same-length
+    (λ c. search needs)
     returns
     month-alone-requires
-    same-length-2
+    (λ c. search needs)
     returns-2
     returns-3)

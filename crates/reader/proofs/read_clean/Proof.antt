@@ -3,12 +3,6 @@ use borrow.Author.Needs.{needs}
 use Rattle.reader.proofs.read_clean.Statement.{statement}
 use Rattle.reader.proofs.read_clean.Tie as tie
 
-are-small-requires : tie.Need-are-small-requires
-are-small-requires c κs = search needs
-
-slice-aggregate-read-fields : tie.Need-slice-aggregate-read-fields
-slice-aggregate-read-fields c = search needs
-
 read-fields-requires : tie.Need-read-fields-requires
 read-fields-requires c κs =
     let q = c .before .before in
@@ -22,12 +16,6 @@ read-fields-requires c κs =
       ),
     )
 
-returns : tie.Need-returns
-returns c = search needs
-
-slice-aggregate-read-fields-2 : tie.Need-slice-aggregate-read-fields-2
-slice-aggregate-read-fields-2 c = search needs
-
 read-fields-requires-2 : tie.Need-read-fields-requires-2
 read-fields-requires-2 c κs =
     let s = c .before .before .before .before .before .before .before .before .before in
@@ -39,17 +27,14 @@ read-fields-requires-2 c κs =
       ),
     )
 
-returns-2 : tie.Need-returns-2
-returns-2 c = search needs
-
 pub read-clean-spec : {M : Type 1} → statement M
 read-clean-spec =
     tie.close
     (tie.spec
-    are-small-requires
-    slice-aggregate-read-fields
+    (λ c κs. search needs)
+    (λ c. search needs)
     read-fields-requires
-    returns
-    slice-aggregate-read-fields-2
+    (λ c. search needs)
+    (λ c. search needs)
     read-fields-requires-2
-    returns-2)
+    (λ c. search needs))

@@ -1,12 +1,9 @@
 use mir.ValLaws.{toZ-ofZ}
 use mir.Syntax.{w32}
-use Rattle.reader.specs.Fields.{readFields, onYear}
+use Rattle.reading_laws.specs.Fields.{readFields, onYear}
 use borrow.Author.Needs.{needs}
 use Rattle.reader.proofs.read_fields.Statement.{statement}
 use Rattle.reader.proofs.read_fields.Tie as tie
-
-year-of-requires : tie.Need-year-of-requires
-year-of-requires c κs = search needs
 
 enum-known-y : tie.Need-enum-known-y
 enum-known-y c = c .match .keys1
@@ -14,14 +11,8 @@ enum-known-y c = c .match .keys1
 parts-of-requires : tie.Need-parts-of-requires
 parts-of-requires c κs = let k = c .before .before .before .before .before .before .year-of .kept .1 .1 .0 in rw k (c .before .before .before .before .before .before .before .before .before .before .before .before .before .before .before .pre .1)
 
-dated-requires : tie.Need-dated-requires
-dated-requires c κs = search needs
-
 enum-known-e : tie.Need-enum-known-e
 enum-known-e c = c .match .keys2
-
-same-length : tie.Need-same-length
-same-length c = search needs
 
 returns : tie.Need-returns
 unfolding readFields onYear
@@ -34,9 +25,6 @@ returns c =
     let e = rw z at (c .dated .ensures) in
     simp (← b10 .year-of .ensures, b6 .y .given .1, ← b3 .parts-of .ensures, ← e)
 
-same-length-2 : tie.Need-same-length-2
-same-length-2 c = search needs
-
 returns-2 : tie.Need-returns-2
 unfolding readFields onYear
 returns-2 c =
@@ -48,12 +36,12 @@ pub read-fields-spec : {M : Type 1} → statement M
 read-fields-spec =
     tie.close
     (tie.spec
-    year-of-requires
+    (λ c κs. search needs)
     enum-known-y
     parts-of-requires
-    dated-requires
+    (λ c κs. search needs)
     enum-known-e
-    same-length
+    (λ c. search needs)
     returns
-    same-length-2
+    (λ c. search needs)
     returns-2)

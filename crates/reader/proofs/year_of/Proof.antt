@@ -1,4 +1,4 @@
-use Rattle.reader.proofs.Entries.{is-fault, is-text}
+use Rattle.chunks.proofs.Buffers.{is-fault, is-text}
 use Rattle.chunks.proofs.Proper.{faulty-not}
 use Rattle.reader.proofs.Lists.{year-clean}
 use mathlib.Core.Bool.{false}
@@ -7,9 +7,6 @@ use mathlib.Core.Path.{sym, _∙_}
 use borrow.Author.Needs.{needs}
 use Rattle.reader.proofs.year_of.Statement.{statement}
 use Rattle.reader.proofs.year_of.Tie as tie
-
-format-verbatim-requires : tie.Need-format-verbatim-requires
-format-verbatim-requires c κs = search needs
 
 enum-known-n : tie.Need-enum-known-n
 enum-known-n c = c .match .keys1
@@ -28,20 +25,8 @@ slice-aggregate-get-year c =
     let t = is-text false (a .bytes .now) (a .table .now) (a .buf .now) (e .0) (e .1) (c .before .before .n .given .1) in
     sym (length-take-le _ _ (t .within))
 
-get-year-requires : tie.Need-get-year-requires
-get-year-requires c κs = search needs
-
-span-requires : tie.Need-span-requires
-span-requires c κs = search needs
-
-moved-year-requires : tie.Need-moved-year-requires
-moved-year-requires c κs = search needs
-
 enum-known-e : tie.Need-enum-known-e
 enum-known-e c = c .match .keys2
-
-same-length : tie.Need-same-length
-same-length c = search needs
 
 returns : tie.Need-returns
 returns c =
@@ -49,9 +34,6 @@ returns c =
     let e = c .before .before .before .before .before .before .before .before .before .format-verbatim .ensures in
     let t = is-text false (a .bytes .now) (a .table .now) (a .buf .now) (e .0) (e .1) (c .before .before .before .before .before .n .given .1) in
     c .moved-year .ensures ∙ rw (c .before .span .ensures, c .before .before .get-year .ensures) (year-clean (a .bytes .now) (a .table .now) (t .front))
-
-same-length-2 : tie.Need-same-length-2
-same-length-2 c = search needs
 
 returns-2 : tie.Need-returns-2
 returns-2 c =
@@ -64,15 +46,15 @@ pub year-of-spec : {M : Type 1} → statement M
 year-of-spec =
     tie.close
     (tie.spec
-    format-verbatim-requires
+    (λ c κs. search needs)
     enum-known-n
     slice-reshare-prefix-get-year
     slice-aggregate-get-year
-    get-year-requires
-    span-requires
-    moved-year-requires
+    (λ c κs. search needs)
+    (λ c κs. search needs)
+    (λ c κs. search needs)
     enum-known-e
-    same-length
+    (λ c. search needs)
     returns
-    same-length-2
+    (λ c. search needs)
     returns-2)

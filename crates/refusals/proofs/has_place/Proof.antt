@@ -5,9 +5,6 @@ use borrow.Author.Tests.{eq-eqb, ne-eqb}
 use Rattle.refusals.proofs.has_place.Statement.{statement}
 use Rattle.refusals.proofs.has_place.Tie as tie
 
-number-requires : tie.Need-number-requires
-number-requires c κs = search needs
-
 returns : tie.Need-returns
 unfolding pick
 returns c =
@@ -21,4 +18,4 @@ returns-2 c =
     simp (by-number (b1 .before .args .kind), ← b1 .number .ensures, ne-eqb _ _ (c .if1 .left))
 
 pub has-place-spec : {M : Type 1} → statement M
-has-place-spec = tie.close (tie.spec number-requires returns returns-2)
+has-place-spec = tie.close (tie.spec (λ c κs. search needs) returns returns-2)

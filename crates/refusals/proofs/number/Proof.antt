@@ -1,4 +1,3 @@
-use borrow.Author.Needs.{needs}
 use Rattle.refusals.proofs.number.Statement.{statement}
 use Rattle.refusals.proofs.number.Tie as tie
 

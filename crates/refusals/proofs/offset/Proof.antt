@@ -3,15 +3,6 @@ use borrow.Author.Needs.{needs}
 use Rattle.refusals.proofs.offset.Statement.{statement}
 use Rattle.refusals.proofs.offset.Tie as tie
 
-saturating-add-requires : tie.Need-saturating-add-requires
-saturating-add-requires c κs = search needs
-
-saturating-add-requires-2 : tie.Need-saturating-add-requires-2
-saturating-add-requires-2 c κs = search needs
-
-refuse-requires : tie.Need-refuse-requires
-refuse-requires c κs = search needs
-
 returns : tie.Need-returns
 unfolding offset
 returns c =
@@ -21,4 +12,4 @@ returns c =
 
 pub offset-spec : {M : Type 1} → statement M
 offset-spec =
-    tie.close (tie.spec saturating-add-requires saturating-add-requires-2 refuse-requires returns)
+    tie.close (tie.spec (λ c κs. search needs) (λ c κs. search needs) (λ c κs. search needs) returns)

@@ -4,9 +4,6 @@ use borrow.Author.Needs.{needs}
 use Rattle.refusals.proofs.refuse.Statement.{statement}
 use Rattle.refusals.proofs.refuse.Tie as tie
 
-has-place-requires : tie.Need-has-place-requires
-has-place-requires c κs = search needs
-
 returns : tie.Need-returns
 unfolding refusal pick
 returns c =
@@ -20,4 +17,4 @@ returns-2 c =
     simp (← b1 .has-place .ensures, c .if1 .left)
 
 pub refuse-spec : {M : Type 1} → statement M
-refuse-spec = tie.close (tie.spec has-place-requires returns returns-2)
+refuse-spec = tie.close (tie.spec (λ c κs. search needs) returns returns-2)

@@ -5,12 +5,6 @@ use borrow.Author.Needs.{needs}
 use Rattle.refusals.proofs.saturating_add.Statement.{statement}
 use Rattle.refusals.proofs.saturating_add.Tie as tie
 
-sub-if1 : tie.Need-sub-if1
-sub-if1 c = search needs
-
-add-result : tie.Need-add-result
-add-result c = search needs
-
 returns : tie.Need-returns
 returns c = sym (sum-fits (c .before .args .a) (c .before .args .b) (omega arith))
 
@@ -18,4 +12,4 @@ returns-2 : tie.Need-returns-2
 returns-2 c = sym (sum-over (c .before .args .a) (c .before .args .b) (omega arith))
 
 pub saturating-add-spec : {M : Type 1} → statement M
-saturating-add-spec = tie.close (tie.spec sub-if1 add-result returns returns-2)
+saturating-add-spec = tie.close (tie.spec (λ c. search needs) (λ c. search needs) returns returns-2)

@@ -3,12 +3,9 @@ use borrow.Author.Needs.{needs}
 use Rattle.scanner.proofs.at.Statement.{statement}
 use Rattle.scanner.proofs.at.Tie as tie
 
-match-len-requires : tie.Need-match-len-requires
-match-len-requires c κs = search needs
-
 returns : tie.Need-returns
 unfolding standsAt
 returns c = simp (← c .match-len .ensures)
 
 pub at-spec : {M : Type 1} → statement M
-at-spec = tie.close (tie.spec match-len-requires returns)
+at-spec = tie.close (tie.spec (λ c κs. search needs) returns)

@@ -19,20 +19,8 @@ loop-holds c = (refl, omega arith)
 returns : tie.Need-returns Inv-loop μ-loop
 returns c = let a = c .before .before .before .args in sym (begins-over (a .t .now) (a .s .now) _ (c .before .loop-test .taken) (c .if1 .taken)) ∙ c .before .before .loop .inv .0
 
-shared-slice-read-if2 : tie.Need-shared-slice-read-if2 Inv-loop μ-loop
-shared-slice-read-if2 c = omega arith
-
-shared-slice-read-if2-2 : tie.Need-shared-slice-read-if2-2 Inv-loop μ-loop
-shared-slice-read-if2-2 c = omega arith
-
 returns-2 : tie.Need-returns-2 Inv-loop μ-loop
 returns-2 c = let a = c .before .before .before .before .before .before .args in sym (begins-not (a .t .now) (a .s .now) _ (c .before .before .before .before .loop-test .taken) (c .before .before .before .if1 .left) (c .if2 .taken)) ∙ c .before .before .before .before .before .loop .inv .0
-
-add-i : tie.Need-add-i Inv-loop μ-loop
-add-i c = omega arith
-
-loop-less : tie.Need-loop-less Inv-loop μ-loop
-loop-less c = omega arith
 
 loop-again : tie.Need-loop-again Inv-loop μ-loop
 loop-again c = let a = c .before .before .before .before .before .before .args in (sym (begins-on (a .t .now) (a .s .now) _ (c .before .before .before .before .loop-test .taken) (c .before .before .before .if1 .left) (c .if2 .left)) ∙ c .before .before .before .before .before .loop .inv .0, omega arith)
@@ -48,10 +36,10 @@ begins-spec =
     μ-loop
     loop-holds
     returns
-    shared-slice-read-if2
-    shared-slice-read-if2-2
+    (λ c. omega arith)
+    (λ c. omega arith)
     returns-2
-    add-i
-    loop-less
+    (λ c. omega arith)
+    (λ c. omega arith)
     loop-again
     returns-3)

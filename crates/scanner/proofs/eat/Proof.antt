@@ -7,9 +7,6 @@ use borrow.Author.Needs.{needs}
 use Rattle.scanner.proofs.eat.Statement.{statement}
 use Rattle.scanner.proofs.eat.Tie as tie
 
-decode-at-requires : tie.Need-decode-at-requires
-decode-at-requires c κs = search needs
-
 enum-known-code : tie.Need-enum-known-code
 enum-known-code c = c .match .keys1
 
@@ -48,7 +45,7 @@ pub eat-spec : {M : Type 1} → statement M
 eat-spec =
     tie.close
     (tie.spec
-    decode-at-requires
+    (λ c κs. search needs)
     enum-known-code
     add-t8
     enum-told

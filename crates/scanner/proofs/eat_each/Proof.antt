@@ -22,9 +22,6 @@ fits c = omega (arith, match-fits (c .before .before .before .before .args .clas
 loop-holds : tie.Need-loop-holds Inv-loop μ-loop
 loop-holds c = refl
 
-match-len-requires : tie.Need-match-len-requires Inv-loop μ-loop
-match-len-requires c κs = search needs
-
 returns : tie.Need-returns Inv-loop μ-loop
 returns c = sym (stop _ _ _ (sym (c .before .match-len .ensures) ∙ c .if1 .taken)) ∙ c .before .before .loop .inv
 
@@ -40,4 +37,4 @@ loop-again c = rw (c .before .match-len .ensures) (sym (go _ _ _ (omega (arith, 
 pub eat-each-spec : {M : Type 1} → statement M
 eat-each-spec =
     tie.close
-    (tie.spec Inv-loop μ-loop loop-holds match-len-requires returns add-i loop-less loop-again)
+    (tie.spec Inv-loop μ-loop loop-holds (λ c κs. search needs) returns add-i loop-less loop-again)

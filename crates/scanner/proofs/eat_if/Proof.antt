@@ -7,9 +7,6 @@ use borrow.Author.Needs.{needs}
 use Rattle.scanner.proofs.eat_if.Statement.{statement}
 use Rattle.scanner.proofs.eat_if.Tie as tie
 
-match-len-requires : tie.Need-match-len-requires
-match-len-requires c κs = search needs
-
 returns : tie.Need-returns
 unfolding eatIf pick
 returns c =
@@ -26,4 +23,4 @@ returns-2 c =
     simp (← b1 .match-len .ensures, ne-eqb _ _ (c .if1 .left))
 
 pub eat-if-spec : {M : Type 1} → statement M
-eat-if-spec = tie.close (tie.spec match-len-requires returns add-t7 returns-2)
+eat-if-spec = tie.close (tie.spec (λ c κs. search needs) returns add-t7 returns-2)

@@ -7,47 +7,14 @@ use mathlib.Core.Path.{refl}
 use Rattle.scanner.proofs.from.Statement.{statement}
 use Rattle.scanner.proofs.from.Tie as tie
 
-sub-result : tie.Need-sub-result
-sub-result c = omega arith
-
-part-result-start : tie.Need-part-result-start
-part-result-start c = omega arith
-
-part-result-end : tie.Need-part-result-end
-part-result-end c = omega arith
-
 returns : tie.Need-returns
 returns c = let a = c .before .before .args in let n : ℕ = length (a .s .now) in part-past (a .s .now) (a .start .0) (a .c .0) n (n - n) (omega arith) (omega arith)
-
-sub-result-2 : tie.Need-sub-result-2
-sub-result-2 c = omega arith
-
-part-result-start-2 : tie.Need-part-result-start-2
-part-result-start-2 c = omega arith
-
-part-result-end-2 : tie.Need-part-result-end-2
-part-result-end-2 c = omega arith
 
 returns-2 : tie.Need-returns-2
 returns-2 c = let a = c .before .before .before .args in let p : ℕ = a .start .0 in part-none (a .s .now) p (a .c .0) (p - p) (omega arith) (omega arith)
 
-sub-result-3 : tie.Need-sub-result-3
-sub-result-3 c = omega arith
-
-part-result-start-3 : tie.Need-part-result-start-3
-part-result-start-3 c = omega arith
-
-part-result-end-3 : tie.Need-part-result-end-3
-part-result-end-3 c = omega arith
-
 returns-3 : tie.Need-returns-3
 returns-3 c = part-rest _ _ _ (omega arith)
-
-part-result-start-4 : tie.Need-part-result-start-4
-part-result-start-4 c = omega arith
-
-part-result-end-4 : tie.Need-part-result-end-4
-part-result-end-4 c = omega arith
 
 returns-4 : tie.Need-returns-4
 unfolding part
@@ -57,18 +24,18 @@ pub from-spec : {M : Type 1} → statement M
 from-spec =
     tie.close
     (tie.spec
-    sub-result
-    part-result-start
-    part-result-end
+    (λ c. omega arith)
+    (λ c. omega arith)
+    (λ c. omega arith)
     returns
-    sub-result-2
-    part-result-start-2
-    part-result-end-2
+    (λ c. omega arith)
+    (λ c. omega arith)
+    (λ c. omega arith)
     returns-2
-    sub-result-3
-    part-result-start-3
-    part-result-end-3
+    (λ c. omega arith)
+    (λ c. omega arith)
+    (λ c. omega arith)
     returns-3
-    part-result-start-4
-    part-result-end-4
+    (λ c. omega arith)
+    (λ c. omega arith)
     returns-4)

@@ -7,38 +7,20 @@ use Rattle.scanner.proofs.in_class.Tie as tie
 enum-told : tie.Need-enum-told
 enum-told c = c .match .keys1
 
-is-whitespace-requires : tie.Need-is-whitespace-requires
-is-whitespace-requires c κs = search needs
-
 enum-told-2 : tie.Need-enum-told-2
 enum-told-2 c = c .match .keys2
-
-is-whitespace-requires-2 : tie.Need-is-whitespace-requires-2
-is-whitespace-requires-2 c κs = search needs
 
 enum-told-3 : tie.Need-enum-told-3
 enum-told-3 c = c .match .keys3
 
-is-numeric-requires : tie.Need-is-numeric-requires
-is-numeric-requires c κs = search needs
-
 enum-told-4 : tie.Need-enum-told-4
 enum-told-4 c = c .match .keys4
-
-is-ascii-digit-requires : tie.Need-is-ascii-digit-requires
-is-ascii-digit-requires c κs = search needs
 
 enum-told-5 : tie.Need-enum-told-5
 enum-told-5 c = c .match .keys5
 
-is-ascii-alphabetic-requires : tie.Need-is-ascii-alphabetic-requires
-is-ascii-alphabetic-requires c κs = search needs
-
 enum-told-6 : tie.Need-enum-told-6
 enum-told-6 c = c .match .keys6
-
-is-alphanumeric-requires : tie.Need-is-alphanumeric-requires
-is-alphanumeric-requires c κs = search needs
 
 enum-told-7 : tie.Need-enum-told-7
 enum-told-7 c = c .match .keys7
@@ -128,17 +110,17 @@ in-class-spec =
     tie.close
     (tie.spec
     enum-told
-    is-whitespace-requires
+    (λ c κs. search needs)
     enum-told-2
-    is-whitespace-requires-2
+    (λ c κs. search needs)
     enum-told-3
-    is-numeric-requires
+    (λ c κs. search needs)
     enum-told-4
-    is-ascii-digit-requires
+    (λ c κs. search needs)
     enum-told-5
-    is-ascii-alphabetic-requires
+    (λ c κs. search needs)
     enum-told-6
-    is-alphanumeric-requires
+    (λ c κs. search needs)
     enum-told-7
     enum-told-8
     enum-known-class

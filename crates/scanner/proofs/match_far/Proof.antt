@@ -4,14 +4,8 @@ use borrow.Author.Needs.{needs}
 use Rattle.scanner.proofs.match_far.Statement.{statement}
 use Rattle.scanner.proofs.match_far.Tie as tie
 
-decode-far-requires : tie.Need-decode-far-requires
-decode-far-requires c κs = search needs
-
 enum-known-code : tie.Need-enum-known-code
 enum-known-code c = c .match .keys1
-
-in-class-requires : tie.Need-in-class-requires
-in-class-requires c κs = search needs
 
 enum-told : tie.Need-enum-told
 enum-told c = c .match .keys2
@@ -51,9 +45,9 @@ pub match-far-spec : {M : Type 1} → statement M
 match-far-spec =
     tie.close
     (tie.spec
-    decode-far-requires
+    (λ c κs. search needs)
     enum-known-code
-    in-class-requires
+    (λ c κs. search needs)
     enum-told
     enum-told-2
     returns

@@ -6,15 +6,6 @@ use borrow.Author.Needs.{needs}
 use Rattle.scanner.proofs.match_len.Statement.{statement}
 use Rattle.scanner.proofs.match_len.Tie as tie
 
-shared-slice-read-b : tie.Need-shared-slice-read-b
-shared-slice-read-b c = omega arith
-
-wide-requires : tie.Need-wide-requires
-wide-requires c κs = search needs
-
-in-class-requires : tie.Need-in-class-requires
-in-class-requires c κs = search needs
-
 returns : tie.Need-returns
 unfolding pick
 returns c =
@@ -29,12 +20,6 @@ returns-2 c =
     let e = match-ascii (a .class) (a .s .now) (a .at) (c .before .before .before .before .before .if1 .taken) (c .before .before .before .if2 .taken) in
     simp (e, ← c .before .before .wide .ensures, ← c .before .in-class .ensures, c .if3 .left)
 
-match-far-requires : tie.Need-match-far-requires
-match-far-requires c κs = search needs
-
-returns-3 : tie.Need-returns-3
-returns-3 c = search needs
-
 returns-4 : tie.Need-returns-4
 returns-4 c = sym (match-end _ _ _ (c .if1 .left))
 
@@ -42,11 +27,11 @@ pub match-len-spec : {M : Type 1} → statement M
 match-len-spec =
     tie.close
     (tie.spec
-    shared-slice-read-b
-    wide-requires
-    in-class-requires
+    (λ c. omega arith)
+    (λ c κs. search needs)
+    (λ c κs. search needs)
     returns
     returns-2
-    match-far-requires
-    returns-3
+    (λ c κs. search needs)
+    (λ c. search needs)
     returns-4)

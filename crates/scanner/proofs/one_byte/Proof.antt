@@ -3,12 +3,6 @@ use Rattle.scanner.proofs.Quicks.{quick-none, quick-one}
 use Rattle.scanner.proofs.one_byte.Statement.{statement}
 use Rattle.scanner.proofs.one_byte.Tie as tie
 
-cast-t4 : tie.Need-cast-t4
-cast-t4 c = omega arith
-
-cast-t5 : tie.Need-cast-t5
-cast-t5 c = omega arith
-
 returns : tie.Need-returns
 returns c = quick-one _ (c .if1 .taken)
 
@@ -16,4 +10,4 @@ returns-2 : tie.Need-returns-2
 returns-2 c = quick-none _
 
 pub one-byte-spec : {M : Type 1} → statement M
-one-byte-spec = tie.close (tie.spec cast-t4 cast-t5 returns returns-2)
+one-byte-spec = tie.close (tie.spec (λ c. omega arith) (λ c. omega arith) returns returns-2)

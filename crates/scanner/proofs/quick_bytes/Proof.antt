@@ -30,9 +30,6 @@ enum-told-8 c = c .match .keys8
 enum-known-class : tie.Need-enum-known-class
 enum-known-class c = c .match .keys9
 
-one-byte-requires : tie.Need-one-byte-requires
-one-byte-requires c κs = search needs
-
 returns : tie.Need-returns
 returns c = rw (c .enum-told .given .1) (quick-none _)
 
@@ -73,7 +70,7 @@ quick-bytes-spec =
     enum-told-7
     enum-told-8
     enum-known-class
-    one-byte-requires
+    (λ c κs. search needs)
     returns
     returns-2
     returns-3

@@ -3,18 +3,6 @@ use borrow.Author.Needs.{needs}
 use Rattle.sixfields.proofs.between.Statement.{statement}
 use Rattle.sixfields.proofs.between.Tie as tie
 
-enum-known-end : tie.Need-enum-known-end
-enum-known-end c = search needs
-
-single-requires : tie.Need-single-requires
-single-requires c κs = search needs
-
-unmarked-requires : tie.Need-unmarked-requires
-unmarked-requires c κs = search needs
-
-enum-known-end-2 : tie.Need-enum-known-end-2
-enum-known-end-2 c = search needs
-
 returns : tie.Need-returns
 unfolding between onThree
 returns c =
@@ -31,4 +19,4 @@ returns-2 c =
 pub between-spec : {M : Type 1} → statement M
 between-spec =
     tie.close
-    (tie.spec enum-known-end single-requires unmarked-requires enum-known-end-2 returns returns-2)
+    (tie.spec (λ c. search needs) (λ c κs. search needs) (λ c κs. search needs) (λ c. search needs) returns returns-2)

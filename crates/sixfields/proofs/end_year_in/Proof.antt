@@ -4,17 +4,11 @@ use mathlib.Core.List.{List}
 use Prim.Native.Nat.{ℕ}
 use lib.Seq.{length-take-le}
 use Rattle.chunks.proofs.Answers.{Given}
-use Rattle.reader.proofs.Entries.{is-text, is-fault}
+use Rattle.chunks.proofs.Buffers.{is-text, is-fault}
 use Rattle.sixfields.proofs.Judged.{is-blank, is-filled, is-faulty}
 use borrow.Author.Needs.{needs}
 use Rattle.sixfields.proofs.end_year_in.Statement.{statement}
 use Rattle.sixfields.proofs.end_year_in.Tie as tie
-
-format-verbatim-requires : tie.Need-format-verbatim-requires
-format-verbatim-requires c κs = search needs
-
-enum-known-n : tie.Need-enum-known-n
-enum-known-n c = search needs
 
 -- the list is clean, and the buffer's front is its text
 module _ (c : tie.After-known-told) where
@@ -38,30 +32,15 @@ slice-reshare-prefix-is-blank c = told c .within
 slice-aggregate-is-blank : tie.Need-slice-aggregate-is-blank
 slice-aggregate-is-blank c = sym (length-take-le _ _ (told (c .before) .within))
 
-is-blank-requires : tie.Need-is-blank-requires
-is-blank-requires c κs = search needs
-
-same-length : tie.Need-same-length
-same-length c = search needs
-
 returns : tie.Need-returns
 returns c =
     let p = c .before .before .before in
     is-blank (list p) (numbers p) (told p .clean) (told p .front) (c .before .is-blank .ensures) (c .if1 .taken)
 
-enum-known-e : tie.Need-enum-known-e
-enum-known-e c = search needs
-
-same-length-2 : tie.Need-same-length-2
-same-length-2 c = search needs
-
 returns-2 : tie.Need-returns-2
 returns-2 c =
     let p = c .before .before .before in
     is-filled (list p) (numbers p) (told p .clean) (told p .front) (c .before .is-blank .ensures) (c .if1 .left)
-
-same-length-3 : tie.Need-same-length-3
-same-length-3 c = search needs
 
 returns-3 : tie.Need-returns-3
 returns-3 c =
@@ -73,15 +52,15 @@ pub end-year-in-spec : {M : Type 1} → statement M
 end-year-in-spec =
     tie.close
     (tie.spec
-    format-verbatim-requires
-    enum-known-n
+    (λ c κs. search needs)
+    (λ c. search needs)
     slice-reshare-prefix-is-blank
     slice-aggregate-is-blank
-    is-blank-requires
-    same-length
+    (λ c κs. search needs)
+    (λ c. search needs)
     returns
-    enum-known-e
-    same-length-2
+    (λ c. search needs)
+    (λ c. search needs)
     returns-2
-    same-length-3
+    (λ c. search needs)
     returns-3)

@@ -4,12 +4,6 @@ use borrow.Author.Needs.{needs}
 use Rattle.sixfields.proofs.is_blank.Statement.{statement}
 use Rattle.sixfields.proofs.is_blank.Tie as tie
 
-eat-whitespace-requires : tie.Need-eat-whitespace-requires
-eat-whitespace-requires c κs = search needs
-
-done-requires : tie.Need-done-requires
-done-requires c κs = search needs
-
 returns : tie.Need-returns
 unfolding isBlank doneAt
 returns c =
@@ -17,4 +11,4 @@ returns c =
     simp (← b1 .eat-whitespace .ensures, ← c .done .ensures)
 
 pub is-blank-spec : {M : Type 1} → statement M
-is-blank-spec = tie.close (tie.spec eat-whitespace-requires done-requires returns)
+is-blank-spec = tie.close (tie.spec (λ c κs. search needs) (λ c κs. search needs) returns)

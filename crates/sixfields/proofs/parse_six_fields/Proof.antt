@@ -3,21 +3,6 @@ use borrow.Author.Needs.{needs}
 use Rattle.sixfields.proofs.parse_six_fields.Statement.{statement}
 use Rattle.sixfields.proofs.parse_six_fields.Tie as tie
 
-parse-three-fields-requires : tie.Need-parse-three-fields-requires
-parse-three-fields-requires c κs = search needs
-
-enum-known-d : tie.Need-enum-known-d
-enum-known-d c = search needs
-
-single-requires : tie.Need-single-requires
-single-requires c κs = search needs
-
-with-end-requires : tie.Need-with-end-requires
-with-end-requires c κs = search needs
-
-enum-known-e : tie.Need-enum-known-e
-enum-known-e c = search needs
-
 returns : tie.Need-returns
 unfolding sixFields onThree
 returns c =
@@ -37,10 +22,10 @@ pub parse-six-fields-spec : {M : Type 1} → statement M
 parse-six-fields-spec =
     tie.close
     (tie.spec
-    parse-three-fields-requires
-    enum-known-d
-    single-requires
-    with-end-requires
-    enum-known-e
+    (λ c κs. search needs)
+    (λ c. search needs)
+    (λ c κs. search needs)
+    (λ c κs. search needs)
+    (λ c. search needs)
     returns
     returns-2)

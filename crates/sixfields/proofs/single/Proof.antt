@@ -3,18 +3,6 @@ use borrow.Author.Needs.{needs}
 use Rattle.sixfields.proofs.single.Statement.{statement}
 use Rattle.sixfields.proofs.single.Tie as tie
 
-enum-known-v : tie.Need-enum-known-v
-enum-known-v c = search needs
-
-enum-known-v-2 : tie.Need-enum-known-v-2
-enum-known-v-2 c = search needs
-
-enum-known-v-3 : tie.Need-enum-known-v-3
-enum-known-v-3 c = search needs
-
-enum-known-v-4 : tie.Need-enum-known-v-4
-enum-known-v-4 c = search needs
-
 returns : tie.Need-returns
 unfolding single
 returns c =
@@ -43,10 +31,10 @@ pub single-spec : {M : Type 1} → statement M
 single-spec =
     tie.close
     (tie.spec
-    enum-known-v
-    enum-known-v-2
-    enum-known-v-3
-    enum-known-v-4
+    (λ c. search needs)
+    (λ c. search needs)
+    (λ c. search needs)
+    (λ c. search needs)
     returns
     returns-2
     returns-3

@@ -10,29 +10,11 @@ use borrow.Author.Needs.{needs}
 use Rattle.strict.proofs.behind_month.Statement.{statement}
 use Rattle.strict.proofs.behind_month.Tie as tie
 
-days-in-month-requires : tie.Need-days-in-month-requires
-days-in-month-requires c κs = search needs
-
-field-at-requires : tie.Need-field-at-requires
-field-at-requires c κs = search needs
-
 enum-told : tie.Need-enum-told
 enum-told c = c .match .keys1
 
-new-requires : tie.Need-new-requires
-new-requires c κs = search needs
-
 enum-known-day : tie.Need-enum-known-day
 enum-known-day c = c .match .keys2
-
-add-time-at : tie.Need-add-time-at
-add-time-at c = omega arith
-
-time-at-requires : tie.Need-time-at-requires
-time-at-requires c κs = search needs
-
-on-day-requires : tie.Need-on-day-requires
-on-day-requires c κs = search needs
 
 returns : tie.Need-returns
 unfolding behindMonth on
@@ -59,13 +41,13 @@ pub behind-month-spec : {M : Type 1} → statement M
 behind-month-spec =
     tie.close
     (tie.spec
-    days-in-month-requires
-    field-at-requires
+    (λ c κs. search needs)
+    (λ c κs. search needs)
     enum-told
-    new-requires
+    (λ c κs. search needs)
     enum-known-day
-    add-time-at
-    time-at-requires
-    on-day-requires
+    (λ c. omega arith)
+    (λ c κs. search needs)
+    (λ c κs. search needs)
     returns
     returns-2)

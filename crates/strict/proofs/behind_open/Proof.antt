@@ -3,17 +3,11 @@ use borrow.Author.Needs.{needs}
 use Rattle.strict.proofs.behind_open.Statement.{statement}
 use Rattle.strict.proofs.behind_open.Tie as tie
 
-point-of-requires : tie.Need-point-of-requires
-point-of-requires c κs = search needs
-
 enum-told : tie.Need-enum-told
 enum-told c = c .match .keys1
 
 enum-known-value : tie.Need-enum-known-value
 enum-known-value c = c .match .keys2
-
-ending-requires : tie.Need-ending-requires
-ending-requires c κs = search needs
 
 returns : tie.Need-returns
 unfolding behindOpen onPoint
@@ -31,4 +25,4 @@ returns-2 c =
 pub behind-open-spec : {M : Type 1} → statement M
 behind-open-spec =
     tie.close
-    (tie.spec point-of-requires enum-told enum-known-value ending-requires returns returns-2)
+    (tie.spec (λ c κs. search needs) enum-told enum-known-value (λ c κs. search needs) returns returns-2)

@@ -4,12 +4,6 @@ use borrow.Author.Needs.{needs}
 use Rattle.strict.proofs.behind_slash.Statement.{statement}
 use Rattle.strict.proofs.behind_slash.Tie as tie
 
-is-open-requires : tie.Need-is-open-requires
-is-open-requires c κs = search needs
-
-ending-requires : tie.Need-ending-requires
-ending-requires c κs = search needs
-
 returns : tie.Need-returns
 unfolding behindSlash onPoint pick
 returns c =
@@ -17,17 +11,11 @@ returns c =
     let b2 = b1 .before in
     simp (← b2 .is-open .ensures, b1 .if1 .taken, ← c .ending .ensures)
 
-point-of-requires : tie.Need-point-of-requires
-point-of-requires c κs = search needs
-
 enum-told : tie.Need-enum-told
 enum-told c = c .match .keys1
 
 enum-known-value : tie.Need-enum-known-value
 enum-known-value c = c .match .keys2
-
-ending-requires-2 : tie.Need-ending-requires-2
-ending-requires-2 c κs = search needs
 
 returns-2 : tie.Need-returns-2
 unfolding behindSlash onPoint pick
@@ -50,12 +38,12 @@ pub behind-slash-spec : {M : Type 1} → statement M
 behind-slash-spec =
     tie.close
     (tie.spec
-    is-open-requires
-    ending-requires
+    (λ c κs. search needs)
+    (λ c κs. search needs)
     returns
-    point-of-requires
+    (λ c κs. search needs)
     enum-told
     enum-known-value
-    ending-requires-2
+    (λ c κs. search needs)
     returns-2
     returns-3)

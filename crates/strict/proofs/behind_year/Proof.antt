@@ -6,23 +6,11 @@ use borrow.Author.Needs.{needs}
 use Rattle.strict.proofs.behind_year.Statement.{statement}
 use Rattle.strict.proofs.behind_year.Tie as tie
 
-field-at-requires : tie.Need-field-at-requires
-field-at-requires c κs = search needs
-
 enum-told : tie.Need-enum-told
 enum-told c = c .match .keys1
 
-new-requires : tie.Need-new-requires
-new-requires c κs = search needs
-
 enum-known-m : tie.Need-enum-known-m
 enum-known-m c = c .match .keys2
-
-add-behind-month : tie.Need-add-behind-month
-add-behind-month c = omega arith
-
-behind-month-requires : tie.Need-behind-month-requires
-behind-month-requires c κs = search needs
 
 returns : tie.Need-returns
 unfolding behindYear on
@@ -44,11 +32,11 @@ pub behind-year-spec : {M : Type 1} → statement M
 behind-year-spec =
     tie.close
     (tie.spec
-    field-at-requires
+    (λ c κs. search needs)
     enum-told
-    new-requires
+    (λ c κs. search needs)
     enum-known-m
-    add-behind-month
-    behind-month-requires
+    (λ c. omega arith)
+    (λ c κs. search needs)
     returns
     returns-2)

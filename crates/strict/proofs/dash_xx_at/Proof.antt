@@ -7,21 +7,6 @@ use borrow.Author.Needs.{needs}
 use Rattle.strict.proofs.dash_xx_at.Statement.{statement}
 use Rattle.strict.proofs.dash_xx_at.Tie as tie
 
-byte-at-requires : tie.Need-byte-at-requires
-byte-at-requires c κs = search needs
-
-add-byte-at : tie.Need-add-byte-at
-add-byte-at c = omega arith
-
-byte-at-requires-2 : tie.Need-byte-at-requires-2
-byte-at-requires-2 c κs = search needs
-
-add-byte-at-2 : tie.Need-add-byte-at-2
-add-byte-at-2 c = omega arith
-
-byte-at-requires-3 : tie.Need-byte-at-requires-3
-byte-at-requires-3 c κs = search needs
-
 returns : tie.Need-returns
 unfolding dashXX
 returns c =
@@ -49,11 +34,11 @@ pub dash-xx-at-spec : {M : Type 1} → statement M
 dash-xx-at-spec =
     tie.close
     (tie.spec
-    byte-at-requires
-    add-byte-at
-    byte-at-requires-2
-    add-byte-at-2
-    byte-at-requires-3
+    (λ c κs. search needs)
+    (λ c. omega arith)
+    (λ c κs. search needs)
+    (λ c. omega arith)
+    (λ c κs. search needs)
     returns
     returns-2
     returns-3)

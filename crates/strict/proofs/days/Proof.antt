@@ -14,15 +14,6 @@ use Rattle.strict.proofs.days.Tie as tie
 within : {a b x y : Datetime} → a ≡ x → b ≡ y → _≡_ {A = ReadUnknown} (Within (Between a b) 10) (Within (Between x y) 10)
 within e f = cc
 
-plain-requires : tie.Need-plain-requires
-plain-requires c κs = search needs
-
-last-day-requires : tie.Need-last-day-requires
-last-day-requires c κs = search needs
-
-plain-requires-2 : tie.Need-plain-requires-2
-plain-requires-2 c κs = search needs
-
 returns : tie.Need-returns
 unfolding days
 returns c =
@@ -30,4 +21,4 @@ returns c =
     within (c .before .before .plain .ensures) (c .plain2 .ensures ∙ ap (λ (l : ℕ). plain (a .n) (month (a .month .0)) (day l)) (c .before .last-day .ensures))
 
 pub days-spec : {M : Type 1} → statement M
-days-spec = tie.close (tie.spec plain-requires last-day-requires plain-requires-2 returns)
+days-spec = tie.close (tie.spec (λ c κs. search needs) (λ c κs. search needs) (λ c κs. search needs) returns)

@@ -29,29 +29,14 @@ loop-holds c = none-yet _
 add-byte-at : tie.Need-add-byte-at Inv-loop μ-loop
 add-byte-at c = omega (arith, c .before .loop .inv .few)
 
-byte-at-requires : tie.Need-byte-at-requires Inv-loop μ-loop
-byte-at-requires c κs = search needs
-
-is-digit-requires : tie.Need-is-digit-requires Inv-loop μ-loop
-is-digit-requires c κs = search needs
-
 mul-v : tie.Need-mul-v Inv-loop μ-loop
 mul-v c = omega (arith, small c)
 
 sub-v : tie.Need-sub-v Inv-loop μ-loop
 sub-v c = omega (arith, here c)
 
-cast-v : tie.Need-cast-v Inv-loop μ-loop
-cast-v c = search needs
-
 add-v : tie.Need-add-v Inv-loop μ-loop
 add-v c = omega (arith, small c, here c)
-
-add-n : tie.Need-add-n Inv-loop μ-loop
-add-n c = omega arith
-
-loop-less : tie.Need-loop-less Inv-loop μ-loop
-loop-less c = omega arith
 
 loop-again : tie.Need-loop-again Inv-loop μ-loop
 loop-again c =
@@ -83,14 +68,14 @@ digits-at-spec =
     μ-loop
     loop-holds
     add-byte-at
-    byte-at-requires
-    is-digit-requires
+    (λ c κs. search needs)
+    (λ c κs. search needs)
     mul-v
     sub-v
-    cast-v
+    (λ c. search needs)
     add-v
-    add-n
-    loop-less
+    (λ c. omega arith)
+    (λ c. omega arith)
     loop-again
     returns
     returns-2)

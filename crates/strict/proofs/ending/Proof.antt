@@ -7,21 +7,9 @@ use borrow.Author.Needs.{needs}
 use Rattle.strict.proofs.ending.Statement.{statement}
 use Rattle.strict.proofs.ending.Tie as tie
 
-strictly-requires : tie.Need-strictly-requires
-strictly-requires c κs = search needs
-
 returns : tie.Need-returns
 unfolding ending
 returns c = let b3 = c .before .before .before in c .strictly .ensures ∙ ap (ending (b3 .args .value)) (sym (drop-of-length-le (b3 .args .s .now) (c .before .if1 .taken)))
-
-sub-if2 : tie.Need-sub-if2
-sub-if2 c = omega arith
-
-shared-slice-read-marked : tie.Need-shared-slice-read-marked
-shared-slice-read-marked c = omega arith
-
-marked-requires : tie.Need-marked-requires
-marked-requires c κs = search needs
 
 returns-2 : tie.Need-returns-2
 unfolding ending
@@ -35,10 +23,10 @@ pub ending-spec : {M : Type 1} → statement M
 ending-spec =
     tie.close
     (tie.spec
-    strictly-requires
+    (λ c κs. search needs)
     returns
-    sub-if2
-    shared-slice-read-marked
-    marked-requires
+    (λ c. omega arith)
+    (λ c. omega arith)
+    (λ c κs. search needs)
     returns-2
     returns-3)

@@ -8,18 +8,6 @@ use borrow.Author.Needs.{needs}
 use Rattle.strict.proofs.field_at.Statement.{statement}
 use Rattle.strict.proofs.field_at.Tie as tie
 
-byte-at-requires : tie.Need-byte-at-requires
-byte-at-requires c κs = search needs
-
-add-two-at : tie.Need-add-two-at
-add-two-at c = omega arith
-
-two-at-requires : tie.Need-two-at-requires
-two-at-requires c κs = search needs
-
-counted-requires : tie.Need-counted-requires
-counted-requires c κs = search needs
-
 returns : tie.Need-returns
 unfolding field pick
 returns c =
@@ -37,4 +25,4 @@ returns-2 c =
 pub field-at-spec : {M : Type 1} → statement M
 field-at-spec =
     tie.close
-    (tie.spec byte-at-requires add-two-at two-at-requires counted-requires returns returns-2)
+    (tie.spec (λ c κs. search needs) (λ c. omega arith) (λ c κs. search needs) (λ c κs. search needs) returns returns-2)

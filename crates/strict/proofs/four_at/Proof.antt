@@ -5,38 +5,17 @@ use borrow.Author.Needs.{needs}
 use Rattle.strict.proofs.four_at.Statement.{statement}
 use Rattle.strict.proofs.four_at.Tie as tie
 
-two-at-requires : tie.Need-two-at-requires
-two-at-requires c κs = search needs
-
 enum-told : tie.Need-enum-told
 enum-told c = c .match .keys1
 
 enum-known-a : tie.Need-enum-known-a
 enum-known-a c = c .match .keys2
 
-add-two-at : tie.Need-add-two-at
-add-two-at c = omega arith
-
-two-at-requires-2 : tie.Need-two-at-requires-2
-two-at-requires-2 c κs = search needs
-
 enum-told-2 : tie.Need-enum-told-2
 enum-told-2 c = c .match2 .keys1
 
 enum-known-b : tie.Need-enum-known-b
 enum-known-b c = c .match2 .keys2
-
-wide-requires : tie.Need-wide-requires
-wide-requires c κs = search needs
-
-mul-t11 : tie.Need-mul-t11
-mul-t11 c = omega arith
-
-wide-requires-2 : tie.Need-wide-requires-2
-wide-requires-2 c κs = search needs
-
-add-t13 : tie.Need-add-t13
-add-t13 c = omega arith
 
 returns : tie.Need-returns
 unfolding four on
@@ -66,17 +45,17 @@ pub four-at-spec : {M : Type 1} → statement M
 four-at-spec =
     tie.close
     (tie.spec
-    two-at-requires
+    (λ c κs. search needs)
     enum-told
     enum-known-a
-    add-two-at
-    two-at-requires-2
+    (λ c. omega arith)
+    (λ c κs. search needs)
     enum-told-2
     enum-known-b
-    wide-requires
-    mul-t11
-    wide-requires-2
-    add-t13
+    (λ c κs. search needs)
+    (λ c. omega arith)
+    (λ c κs. search needs)
+    (λ c. omega arith)
     returns
     returns-2
     returns-3)

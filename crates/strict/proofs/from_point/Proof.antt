@@ -15,17 +15,11 @@ use Rattle.strict.proofs.from_point.Tie as tie
 within-text : (c : tie.Then1) → c .before .before .before .value .given .0 .1 .0 < length (c .before .before .before .before .before .before .before .args .s .now)
 within-text c = inside (c .before .before .before .before .before .before .before .args .s .now) _ (sym (c .before .byte-at .ensures) ∙ c .if1 .taken) (lit< tt)
 
-point-of-requires : tie.Need-point-of-requires
-point-of-requires c κs = search needs
-
 enum-told : tie.Need-enum-told
 enum-told c = c .match .keys1
 
 enum-known-value : tie.Need-enum-known-value
 enum-known-value c = c .match .keys2
-
-byte-at-requires : tie.Need-byte-at-requires
-byte-at-requires c κs = search needs
 
 add-behind-slash : tie.Need-add-behind-slash
 add-behind-slash c = omega (arith, within-text c)
@@ -36,12 +30,6 @@ sub-behind-slash c = let h = within-text c in omega arith
 part-behind-slash-start : tie.Need-part-behind-slash-start
 part-behind-slash-start c = omega (arith, within-text c)
 
-part-behind-slash-end : tie.Need-part-behind-slash-end
-part-behind-slash-end c = omega arith
-
-behind-slash-requires : tie.Need-behind-slash-requires
-behind-slash-requires c κs = search needs
-
 returns : tie.Need-returns
 unfolding fromPoint onPoint pick
 returns c =
@@ -51,9 +39,6 @@ returns c =
     let b7 = b5 .before .before in
     let e = rw (rest (b7 .before .before .args .s .now) (b5 .value .given .0 .1 .0 + 1)) at (c .behind-slash .ensures) in
     simp (← b7 .point-of .ensures, b5 .value .given .1, ← b3 .byte-at .ensures, eq-eqb _ _ (b2 .if1 .taken), ← e)
-
-ending-requires : tie.Need-ending-requires
-ending-requires c κs = search needs
 
 returns-2 : tie.Need-returns-2
 unfolding fromPoint onPoint pick
@@ -74,16 +59,16 @@ pub from-point-spec : {M : Type 1} → statement M
 from-point-spec =
     tie.close
     (tie.spec
-    point-of-requires
+    (λ c κs. search needs)
     enum-told
     enum-known-value
-    byte-at-requires
+    (λ c κs. search needs)
     add-behind-slash
     sub-behind-slash
     part-behind-slash-start
-    part-behind-slash-end
-    behind-slash-requires
+    (λ c. omega arith)
+    (λ c κs. search needs)
     returns
-    ending-requires
+    (λ c κs. search needs)
     returns-2
     returns-3)

@@ -4,12 +4,6 @@ use borrow.Author.Needs.{needs}
 use Rattle.strict.proofs.is_open.Statement.{statement}
 use Rattle.strict.proofs.is_open.Tie as tie
 
-byte-at-requires : tie.Need-byte-at-requires
-byte-at-requires c κs = search needs
-
-byte-at-requires-2 : tie.Need-byte-at-requires-2
-byte-at-requires-2 c κs = search needs
-
 returns : tie.Need-returns
 unfolding isOpen
 returns c =
@@ -24,4 +18,4 @@ returns-2 c =
     simp (← b1 .byte-at .ensures, ne-eqb _ _ (c .if1 .left))
 
 pub is-open-spec : {M : Type 1} → statement M
-is-open-spec = tie.close (tie.spec byte-at-requires byte-at-requires-2 returns returns-2)
+is-open-spec = tie.close (tie.spec (λ c κs. search needs) (λ c κs. search needs) returns returns-2)

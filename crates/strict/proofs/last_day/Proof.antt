@@ -8,7 +8,7 @@ use mir.ValLaws.{toZ-ofZ}
 use Rattle.dates.specs.Calendar.{monthLength}
 use Rattle.dates.proofs.Months.{some-day}
 use Rattle.strict.specs.Grammar.{lastDay}
-use Rattle.strict.specs.Matcher.{signed}
+use Rattle.chars.specs.Signs.{signed}
 use borrow.Author.Needs.{needs}
 use Rattle.strict.proofs.last_day.Statement.{statement}
 use Rattle.strict.proofs.last_day.Tie as tie
@@ -16,12 +16,6 @@ use Rattle.strict.proofs.last_day.Tie as tie
 -- the length that the call gave, of a year that went through a cast
 length-is : (m : ℕ) {l n : ℕ} {y : ℤ} → SFits w32 y → y ≡ pos n → l ≡ monthLength m (toZ w32 (ofZ w32 y)) → l ≡ monthLength m (pos n)
 length-is m {y = y} f e h = rw (toZ-ofZ w32 y f, e) at h
-
-signed-requires : tie.Need-signed-requires
-signed-requires c κs = search needs
-
-days-in-month-requires : tie.Need-days-in-month-requires
-days-in-month-requires c κs = search needs
 
 sub-result : tie.Need-sub-result
 unfolding signed
@@ -38,4 +32,4 @@ returns c =
     ap (λ (l : ℕ). l - 1) (length-is m (record { sfits = s .ok }) (s .ensures) (c .days-in-month .ensures))
 
 pub last-day-spec : {M : Type 1} → statement M
-last-day-spec = tie.close (tie.spec signed-requires days-in-month-requires sub-result returns)
+last-day-spec = tie.close (tie.spec (λ c κs. search needs) (λ c κs. search needs) sub-result returns)

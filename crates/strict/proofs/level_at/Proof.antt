@@ -1,29 +1,16 @@
 use mir.Syntax.{w32}
 use mir.ValLaws.{toZ-ofZ}
-use borrow.Author.Tests.{lt-ltb, le-ltb, le-leb, lt-leb, eq-eqb, ne-eqb}
 use Rattle.strict.specs.Matcher.{onFour}
 use Rattle.strict.specs.LevelMatcher.{levelAt}
 use borrow.Author.Needs.{needs}
 use Rattle.strict.proofs.level_at.Statement.{statement}
 use Rattle.strict.proofs.level_at.Tie as tie
 
-four-at-requires : tie.Need-four-at-requires
-four-at-requires c κs = search needs
-
 enum-told : tie.Need-enum-told
 enum-told c = c .match .keys1
 
 enum-known-n : tie.Need-enum-known-n
 enum-known-n c = c .match .keys2
-
-add-level-year : tie.Need-add-level-year
-add-level-year c = search needs
-
-signed-requires : tie.Need-signed-requires
-signed-requires c κs = search needs
-
-level-year-requires : tie.Need-level-year-requires
-level-year-requires c κs = search needs
 
 returns : tie.Need-returns
 unfolding levelAt onFour
@@ -43,11 +30,11 @@ pub level-at-spec : {M : Type 1} → statement M
 level-at-spec =
     tie.close
     (tie.spec
-    four-at-requires
+    (λ c κs. search needs)
     enum-told
     enum-known-n
-    add-level-year
-    signed-requires
-    level-year-requires
+    (λ c. search needs)
+    (λ c κs. search needs)
+    (λ c κs. search needs)
     returns
     returns-2)

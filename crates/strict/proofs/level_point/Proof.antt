@@ -1,18 +1,9 @@
-use borrow.Author.Tests.{lt-ltb, le-ltb, le-leb, lt-leb, eq-eqb, ne-eqb}
+use borrow.Author.Tests.{eq-eqb, ne-eqb}
 use Rattle.chars.specs.Pick.{pick}
 use Rattle.strict.specs.LevelMatcher.{levelPoint}
 use borrow.Author.Needs.{needs}
 use Rattle.strict.proofs.level_point.Statement.{statement}
 use Rattle.strict.proofs.level_point.Tie as tie
-
-byte-at-requires : tie.Need-byte-at-requires
-byte-at-requires c κs = search needs
-
-byte-at-requires-2 : tie.Need-byte-at-requires-2
-byte-at-requires-2 c κs = search needs
-
-long-at-requires : tie.Need-long-at-requires
-long-at-requires c κs = search needs
 
 returns : tie.Need-returns
 unfolding levelPoint pick
@@ -23,9 +14,6 @@ returns c =
     let b4 = b3 .before in
     simp (← b4 .byte-at .ensures, eq-eqb _ _ (b3 .if1 .taken), ← b2 .byte-at2 .ensures, eq-eqb _ _ (b1 .if2 .taken), ← c .long-at .ensures)
 
-long-at-requires-2 : tie.Need-long-at-requires-2
-long-at-requires-2 c κs = search needs
-
 returns-2 : tie.Need-returns-2
 unfolding levelPoint pick
 returns-2 c =
@@ -35,9 +23,6 @@ returns-2 c =
     let b4 = b3 .before in
     simp (← b4 .byte-at .ensures, eq-eqb _ _ (b3 .if1 .taken), ← b2 .byte-at2 .ensures, ne-eqb _ _ (b1 .if2 .left), ← c .long-at2 .ensures)
 
-level-at-requires : tie.Need-level-at-requires
-level-at-requires c κs = search needs
-
 returns-3 : tie.Need-returns-3
 unfolding levelPoint pick
 returns-3 c =
@@ -45,9 +30,6 @@ returns-3 c =
     let b2 = b1 .before in
     let b3 = b2 .before in
     simp (← b3 .byte-at .ensures, ne-eqb _ _ (b2 .if1 .left), eq-eqb _ _ (b1 .if3 .taken), ← c .level-at .ensures)
-
-level-at-requires-2 : tie.Need-level-at-requires-2
-level-at-requires-2 c κs = search needs
 
 returns-4 : tie.Need-returns-4
 unfolding levelPoint pick
@@ -61,13 +43,13 @@ pub level-point-spec : {M : Type 1} → statement M
 level-point-spec =
     tie.close
     (tie.spec
-    byte-at-requires
-    byte-at-requires-2
-    long-at-requires
+    (λ c κs. search needs)
+    (λ c κs. search needs)
+    (λ c κs. search needs)
     returns
-    long-at-requires-2
+    (λ c κs. search needs)
     returns-2
-    level-at-requires
+    (λ c κs. search needs)
     returns-3
-    level-at-requires-2
+    (λ c κs. search needs)
     returns-4)

@@ -1,32 +1,16 @@
 use mir.Syntax.{w32}
 use mir.ValLaws.{toZ-ofZ}
-use borrow.Author.Tests.{lt-ltb, le-ltb, le-leb, lt-leb, eq-eqb, ne-eqb}
 use Rattle.strict.specs.Matcher.{on}
 use Rattle.strict.specs.LevelMatcher.{levelYear}
 use borrow.Author.Needs.{needs}
 use Rattle.strict.proofs.level_year.Statement.{statement}
 use Rattle.strict.proofs.level_year.Tie as tie
 
-field-at-requires : tie.Need-field-at-requires
-field-at-requires c κs = search needs
-
 enum-told : tie.Need-enum-told
 enum-told c = c .match .keys1
 
-behind-year-requires : tie.Need-behind-year-requires
-behind-year-requires c κs = search needs
-
 enum-known-n : tie.Need-enum-known-n
 enum-known-n c = c .match .keys2
-
-season-at-requires : tie.Need-season-at-requires
-season-at-requires c κs = search needs
-
-of-season-requires : tie.Need-of-season-requires
-of-season-requires c κs = search needs
-
-add-t9 : tie.Need-add-t9
-add-t9 c = search needs
 
 returns : tie.Need-returns
 unfolding levelYear on
@@ -51,12 +35,12 @@ pub level-year-spec : {M : Type 1} → statement M
 level-year-spec =
     tie.close
     (tie.spec
-    field-at-requires
+    (λ c κs. search needs)
     enum-told
-    behind-year-requires
+    (λ c κs. search needs)
     enum-known-n
-    season-at-requires
-    of-season-requires
-    add-t9
+    (λ c κs. search needs)
+    (λ c κs. search needs)
+    (λ c. search needs)
     returns
     returns-2)

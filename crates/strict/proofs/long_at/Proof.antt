@@ -1,32 +1,16 @@
 use mir.Syntax.{w32}
 use mir.ValLaws.{toZ-ofZ}
-use Prim.Native.Nat.{ℕ}
-use native.Mathlib.Omega.{arith}
-use mathlib.Core.Path.{_≡_, sym, ap, _∙_}
-use Rattle.dates.specs.declared.Datetime.{Datetime}
-use Rattle.strict.specs.declared.ReadPoint.the-variants.{Upto}
+use mathlib.Core.Path.{sym, _∙_}
 use Rattle.strict.proofs.Runs.{nine-digits}
 use Rattle.strict.proofs.Long.{long-is, nought-first, too-many, too-few}
 use borrow.Author.Needs.{needs}
 use Rattle.strict.proofs.long_at.Statement.{statement}
 use Rattle.strict.proofs.long_at.Tie as tie
 
-digits-at-requires : tie.Need-digits-at-requires
-digits-at-requires c κs = search needs
-
-byte-at-requires : tie.Need-byte-at-requires
-byte-at-requires c κs = search needs
-
 signed-long-requires : tie.Need-signed-long-requires
 signed-long-requires c κs =
     let d = c .before .before .before .before .before .before .digits-at .ensures in
     nine-digits _ _ (d .1 .1 .1) (c .before .before .if2 .taken)
-
-new-requires : tie.Need-new-requires
-new-requires c κs = search needs
-
-add-t14 : tie.Need-add-t14
-add-t14 c = search needs
 
 returns : tie.Need-returns
 returns c =
@@ -60,11 +44,11 @@ pub long-at-spec : {M : Type 1} → statement M
 long-at-spec =
     tie.close
     (tie.spec
-    digits-at-requires
-    byte-at-requires
+    (λ c κs. search needs)
+    (λ c κs. search needs)
     signed-long-requires
-    new-requires
-    add-t14
+    (λ c κs. search needs)
+    (λ c. search needs)
     returns
     returns-2
     returns-3

@@ -5,17 +5,11 @@ use borrow.Author.Needs.{needs}
 use Rattle.strict.proofs.marked.Statement.{statement}
 use Rattle.strict.proofs.marked.Tie as tie
 
-strictly-requires : tie.Need-strictly-requires
-strictly-requires c κs = search needs
-
 returns : tie.Need-returns
 unfolding marked pick
 returns c =
     let b1 = c .before in
     simp (eq-eqb _ _ (b1 .if1 .taken), ← c .strictly .ensures)
-
-strictly-requires-2 : tie.Need-strictly-requires-2
-strictly-requires-2 c κs = search needs
 
 returns-2 : tie.Need-returns-2
 unfolding marked pick
@@ -23,9 +17,6 @@ returns-2 c =
     let b1 = c .before in
     let b2 = b1 .before in
     simp (ne-eqb _ _ (b2 .if1 .left), eq-eqb _ _ (b1 .if2 .taken), ← c .strictly2 .ensures)
-
-strictly-requires-3 : tie.Need-strictly-requires-3
-strictly-requires-3 c κs = search needs
 
 returns-3 : tie.Need-returns-3
 unfolding marked pick
@@ -46,10 +37,10 @@ pub marked-spec : {M : Type 1} → statement M
 marked-spec =
     tie.close
     (tie.spec
-    strictly-requires
+    (λ c κs. search needs)
     returns
-    strictly-requires-2
+    (λ c κs. search needs)
     returns-2
-    strictly-requires-3
+    (λ c κs. search needs)
     returns-3
     returns-4)

@@ -4,12 +4,9 @@ use borrow.Author.Needs.{needs}
 use Rattle.strict.proofs.match_text.Statement.{statement}
 use Rattle.strict.proofs.match_text.Tie as tie
 
-text-of-requires : tie.Need-text-of-requires
-text-of-requires c κs = search needs
-
 returns : tie.Need-returns
 unfolding strict pointOf
 returns c = c .text-of .ensures
 
 pub match-text-spec : {M : Type 1} → statement M
-match-text-spec = tie.close (tie.spec text-of-requires returns)
+match-text-spec = tie.close (tie.spec (λ c κs. search needs) returns)

@@ -6,20 +6,11 @@ use borrow.Author.Needs.{needs}
 use Rattle.strict.proofs.offset_at.Statement.{statement}
 use Rattle.strict.proofs.offset_at.Tie as tie
 
-byte-at-requires : tie.Need-byte-at-requires
-byte-at-requires c κs = search needs
-
-add-t7 : tie.Need-add-t7
-add-t7 c = omega arith
-
 returns : tie.Need-returns
 unfolding offsetAt pick
 returns c =
     let b1 = c .before in
     simp (← b1 .byte-at .ensures, eq-eqb _ _ (c .if1 .taken))
-
-shift-at-requires : tie.Need-shift-at-requires
-shift-at-requires c κs = search needs
 
 returns-2 : tie.Need-returns-2
 unfolding offsetAt pick
@@ -28,9 +19,6 @@ returns-2 c =
     let b2 = b1 .before in
     let b3 = b2 .before in
     simp (← b3 .byte-at .ensures, ne-eqb _ _ (b2 .if1 .left), eq-eqb _ _ (b1 .if2 .taken), ← c .shift-at .ensures)
-
-shift-at-requires-2 : tie.Need-shift-at-requires-2
-shift-at-requires-2 c κs = search needs
 
 returns-3 : tie.Need-returns-3
 unfolding offsetAt pick
@@ -44,10 +32,10 @@ pub offset-at-spec : {M : Type 1} → statement M
 offset-at-spec =
     tie.close
     (tie.spec
-    byte-at-requires
-    add-t7
+    (λ c κs. search needs)
+    (λ c. omega arith)
     returns
-    shift-at-requires
+    (λ c κs. search needs)
     returns-2
-    shift-at-requires-2
+    (λ c κs. search needs)
     returns-3)

@@ -8,13 +8,10 @@ use borrow.Author.Needs.{needs}
 use Rattle.strict.proofs.on_day.Statement.{statement}
 use Rattle.strict.proofs.on_day.Tie as tie
 
-new-requires : tie.Need-new-requires
-new-requires c κs = search needs
-
 returns : tie.Need-returns
 returns c =
     let z = toZ-ofZ w32 (c .before .args .year) (c .before .fits .year) in
     ap {B = ReadPoint} (λ (d : Datetime). Upto d (c .before .args .clock .next)) (rw z at (c .new .ensures))
 
 pub on-day-spec : {M : Type 1} → statement M
-on-day-spec = tie.close (tie.spec new-requires returns)
+on-day-spec = tie.close (tie.spec (λ c κs. search needs) returns)

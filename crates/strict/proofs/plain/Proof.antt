@@ -1,15 +1,9 @@
-use Rattle.strict.specs.Matcher.{signed}
+use Rattle.chars.specs.Signs.{signed}
 use mir.Syntax.{w32}
 use mir.ValLaws.{toZ-ofZ}
 use borrow.Author.Needs.{needs}
 use Rattle.strict.proofs.plain.Statement.{statement}
 use Rattle.strict.proofs.plain.Tie as tie
-
-signed-requires : tie.Need-signed-requires
-signed-requires c κs = search needs
-
-new-requires : tie.Need-new-requires
-new-requires c κs = search needs
 
 returns : tie.Need-returns
 unfolding signed
@@ -18,4 +12,4 @@ returns c =
     rw (z, c .before .signed .ensures) at (c .new .ensures)
 
 pub plain-spec : {M : Type 1} → statement M
-plain-spec = tie.close (tie.spec signed-requires new-requires returns)
+plain-spec = tie.close (tie.spec (λ c κs. search needs) (λ c κs. search needs) returns)

@@ -5,21 +5,12 @@ use borrow.Author.Needs.{needs}
 use Rattle.strict.proofs.point.Statement.{statement}
 use Rattle.strict.proofs.point.Tie as tie
 
-byte-at-requires : tie.Need-byte-at-requires
-byte-at-requires c κs = search needs
-
-point-at-requires : tie.Need-point-at-requires
-point-at-requires c κs = search needs
-
 returns : tie.Need-returns
 unfolding point pick
 returns c =
     let b1 = c .before in
     let b2 = b1 .before in
     simp (← b2 .byte-at .ensures, eq-eqb _ _ (b1 .if1 .taken), ← c .point-at .ensures)
-
-point-at-requires-2 : tie.Need-point-at-requires-2
-point-at-requires-2 c κs = search needs
 
 returns-2 : tie.Need-returns-2
 unfolding point pick
@@ -30,4 +21,4 @@ returns-2 c =
 
 pub point-spec : {M : Type 1} → statement M
 point-spec =
-    tie.close (tie.spec byte-at-requires point-at-requires returns point-at-requires-2 returns-2)
+    tie.close (tie.spec (λ c κs. search needs) (λ c κs. search needs) returns (λ c κs. search needs) returns-2)

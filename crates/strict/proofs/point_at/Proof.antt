@@ -6,23 +6,11 @@ use borrow.Author.Needs.{needs}
 use Rattle.strict.proofs.point_at.Statement.{statement}
 use Rattle.strict.proofs.point_at.Tie as tie
 
-four-at-requires : tie.Need-four-at-requires
-four-at-requires c κs = search needs
-
 enum-told : tie.Need-enum-told
 enum-told c = c .match .keys1
 
 enum-known-n : tie.Need-enum-known-n
 enum-known-n c = c .match .keys2
-
-add-behind-year : tie.Need-add-behind-year
-add-behind-year c = omega arith
-
-signed-requires : tie.Need-signed-requires
-signed-requires c κs = search needs
-
-behind-year-requires : tie.Need-behind-year-requires
-behind-year-requires c κs = search needs
 
 returns : tie.Need-returns
 unfolding pointAt onFour
@@ -42,11 +30,11 @@ pub point-at-spec : {M : Type 1} → statement M
 point-at-spec =
     tie.close
     (tie.spec
-    four-at-requires
+    (λ c κs. search needs)
     enum-told
     enum-known-n
-    add-behind-year
-    signed-requires
-    behind-year-requires
+    (λ c. omega arith)
+    (λ c κs. search needs)
+    (λ c κs. search needs)
     returns
     returns-2)

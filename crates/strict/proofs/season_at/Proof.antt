@@ -1,6 +1,5 @@
-use mathlib.Core.Path.{_≡_, refl, sym, ap, _∙_}
+use mathlib.Core.Path.{_≡_, refl, sym, ap}
 use Prim.Native.Nat.{ℕ, zero, suc}
-use Rattle.dates.specs.declared.OptionSeason.{OptionSeason}
 use Rattle.dates.specs.declared.OptionSeason.the-variants.{Winter}
 use Rattle.strict.specs.Level.{seasonAt}
 use Rattle.strict.proofs.season_at.Statement.{statement}

@@ -4,35 +4,17 @@ use borrow.Author.Needs.{needs}
 use Rattle.strict.proofs.shift_at.Statement.{statement}
 use Rattle.strict.proofs.shift_at.Tie as tie
 
-field-at-requires : tie.Need-field-at-requires
-field-at-requires c κs = search needs
-
 enum-told : tie.Need-enum-told
 enum-told c = c .match .keys1
-
-no-offset-requires : tie.Need-no-offset-requires
-no-offset-requires c κs = search needs
 
 enum-known-hours : tie.Need-enum-known-hours
 enum-known-hours c = c .match .keys2
 
-add-field-at : tie.Need-add-field-at
-add-field-at c = omega arith
-
-field-at-requires-2 : tie.Need-field-at-requires-2
-field-at-requires-2 c κs = search needs
-
 enum-told-2 : tie.Need-enum-told-2
 enum-told-2 c = c .match2 .keys1
 
-no-offset-requires-2 : tie.Need-no-offset-requires-2
-no-offset-requires-2 c κs = search needs
-
 enum-known-minutes : tie.Need-enum-known-minutes
 enum-known-minutes c = c .match2 .keys2
-
-add-t14 : tie.Need-add-t14
-add-t14 c = omega arith
 
 returns : tie.Need-returns
 unfolding shiftAt on
@@ -63,16 +45,16 @@ pub shift-at-spec : {M : Type 1} → statement M
 shift-at-spec =
     tie.close
     (tie.spec
-    field-at-requires
+    (λ c κs. search needs)
     enum-told
-    no-offset-requires
+    (λ c κs. search needs)
     enum-known-hours
-    add-field-at
-    field-at-requires-2
+    (λ c. omega arith)
+    (λ c κs. search needs)
     enum-told-2
-    no-offset-requires-2
+    (λ c κs. search needs)
     enum-known-minutes
-    add-t14
+    (λ c. omega arith)
     returns
     returns-2
     returns-3)

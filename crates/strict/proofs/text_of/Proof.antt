@@ -15,35 +15,17 @@ use Rattle.strict.proofs.text_of.Tie as tie
 within-text : (c : tie.Then2) → 2 < length (c .before .before .before .before .before .before .before .before .args .s .now)
 within-text c = inside (c .before .before .before .before .before .before .before .before .args .s .now) 2 (sym (c .before .byte-at .ensures) ∙ c .if2 .taken) (lit< tt)
 
-unknown-requires : tie.Need-unknown-requires
-unknown-requires c κs = search needs
-
 enum-known-value : tie.Need-enum-known-value
 enum-known-value c = c .match .keys1
 
-ending-requires : tie.Need-ending-requires
-ending-requires c κs = search needs
-
 enum-told : tie.Need-enum-told
 enum-told c = c .match .keys2
-
-is-open-requires : tie.Need-is-open-requires
-is-open-requires c κs = search needs
-
-byte-at-requires : tie.Need-byte-at-requires
-byte-at-requires c κs = search needs
 
 sub-behind-open : tie.Need-sub-behind-open
 sub-behind-open c = let h = within-text c in omega arith
 
 part-behind-open-start : tie.Need-part-behind-open-start
 part-behind-open-start c = omega (arith, within-text c)
-
-part-behind-open-end : tie.Need-part-behind-open-end
-part-behind-open-end c = omega arith
-
-behind-open-requires : tie.Need-behind-open-requires
-behind-open-requires c κs = search needs
 
 returns : tie.Need-returns
 unfolding textOf ofPoints onUnknown pick
@@ -66,9 +48,6 @@ returns-2 c =
     let b6 = b4 .before .before in
     simp (← b6 .unknown .ensures, b4 .enum-told .given .1, ← b3 .is-open .ensures, b2 .if1 .taken, ← b1 .byte-at .ensures, ne-eqb _ _ (c .if2 .left))
 
-from-point-requires : tie.Need-from-point-requires
-from-point-requires c κs = search needs
-
 returns-3 : tie.Need-returns-3
 unfolding textOf ofPoints onUnknown pick
 returns-3 c =
@@ -89,18 +68,18 @@ pub text-of-spec : {M : Type 1} → statement M
 text-of-spec =
     tie.close
     (tie.spec
-    unknown-requires
+    (λ c κs. search needs)
     enum-known-value
-    ending-requires
+    (λ c κs. search needs)
     enum-told
-    is-open-requires
-    byte-at-requires
+    (λ c κs. search needs)
+    (λ c κs. search needs)
     sub-behind-open
     part-behind-open-start
-    part-behind-open-end
-    behind-open-requires
+    (λ c. omega arith)
+    (λ c κs. search needs)
     returns
     returns-2
-    from-point-requires
+    (λ c κs. search needs)
     returns-3
     returns-4)

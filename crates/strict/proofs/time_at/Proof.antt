@@ -4,56 +4,23 @@ use borrow.Author.Needs.{needs}
 use Rattle.strict.proofs.time_at.Statement.{statement}
 use Rattle.strict.proofs.time_at.Tie as tie
 
-field-at-requires : tie.Need-field-at-requires
-field-at-requires c κs = search needs
-
 enum-told : tie.Need-enum-told
 enum-told c = c .match .keys1
-
-no-time-requires : tie.Need-no-time-requires
-no-time-requires c κs = search needs
 
 enum-known-hour : tie.Need-enum-known-hour
 enum-known-hour c = c .match .keys2
 
-add-field-at : tie.Need-add-field-at
-add-field-at c = omega arith
-
-field-at-requires-2 : tie.Need-field-at-requires-2
-field-at-requires-2 c κs = search needs
-
 enum-told-2 : tie.Need-enum-told-2
 enum-told-2 c = c .match2 .keys1
-
-no-time-requires-2 : tie.Need-no-time-requires-2
-no-time-requires-2 c κs = search needs
 
 enum-known-minute : tie.Need-enum-known-minute
 enum-known-minute c = c .match2 .keys2
 
-add-field-at-2 : tie.Need-add-field-at-2
-add-field-at-2 c = omega arith
-
-field-at-requires-3 : tie.Need-field-at-requires-3
-field-at-requires-3 c κs = search needs
-
 enum-told-3 : tie.Need-enum-told-3
 enum-told-3 c = c .match3 .keys1
 
-no-time-requires-3 : tie.Need-no-time-requires-3
-no-time-requires-3 c κs = search needs
-
 enum-known-second : tie.Need-enum-known-second
 enum-known-second c = c .match3 .keys2
-
-add-offset-at : tie.Need-add-offset-at
-add-offset-at c = omega arith
-
-offset-at-requires : tie.Need-offset-at-requires
-offset-at-requires c κs = search needs
-
-timed-requires : tie.Need-timed-requires
-timed-requires c κs = search needs
 
 returns : tie.Need-returns
 unfolding timeAt on
@@ -98,23 +65,23 @@ pub time-at-spec : {M : Type 1} → statement M
 time-at-spec =
     tie.close
     (tie.spec
-    field-at-requires
+    (λ c κs. search needs)
     enum-told
-    no-time-requires
+    (λ c κs. search needs)
     enum-known-hour
-    add-field-at
-    field-at-requires-2
+    (λ c. omega arith)
+    (λ c κs. search needs)
     enum-told-2
-    no-time-requires-2
+    (λ c κs. search needs)
     enum-known-minute
-    add-field-at-2
-    field-at-requires-3
+    (λ c. omega arith)
+    (λ c κs. search needs)
     enum-told-3
-    no-time-requires-3
+    (λ c κs. search needs)
     enum-known-second
-    add-offset-at
-    offset-at-requires
-    timed-requires
+    (λ c. omega arith)
+    (λ c κs. search needs)
+    (λ c κs. search needs)
     returns
     returns-2
     returns-3

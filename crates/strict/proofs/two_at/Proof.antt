@@ -16,21 +16,6 @@ first c = digit _ (sym (c .before .before .before .is-digit .ensures) ∙ c .bef
 second : (c : tie.Then2) → Digit (c .before .before .before .before .byte-at2 .result)
 second c = digit _ (sym (c .before .is-digit2 .ensures) ∙ c .if2 .taken)
 
-byte-at-requires : tie.Need-byte-at-requires
-byte-at-requires c κs = search needs
-
-add-byte-at : tie.Need-add-byte-at
-add-byte-at c = omega arith
-
-byte-at-requires-2 : tie.Need-byte-at-requires-2
-byte-at-requires-2 c κs = search needs
-
-is-digit-requires : tie.Need-is-digit-requires
-is-digit-requires c κs = search needs
-
-is-digit-requires-2 : tie.Need-is-digit-requires-2
-is-digit-requires-2 c κs = search needs
-
 sub-t8 : tie.Need-sub-t8
 sub-t8 c = omega (arith, first c)
 
@@ -75,11 +60,11 @@ pub two-at-spec : {M : Type 1} → statement M
 two-at-spec =
     tie.close
     (tie.spec
-    byte-at-requires
-    add-byte-at
-    byte-at-requires-2
-    is-digit-requires
-    is-digit-requires-2
+    (λ c κs. search needs)
+    (λ c. omega arith)
+    (λ c κs. search needs)
+    (λ c κs. search needs)
+    (λ c κs. search needs)
     sub-t8
     mul-t9
     sub-t10

@@ -5,20 +5,11 @@ use borrow.Author.Needs.{needs}
 use Rattle.strict.proofs.unknown.Statement.{statement}
 use Rattle.strict.proofs.unknown.Tie as tie
 
-byte-at-requires : tie.Need-byte-at-requires
-byte-at-requires c κs = search needs
-
-two-at-requires : tie.Need-two-at-requires
-two-at-requires c κs = search needs
-
 enum-told : tie.Need-enum-told
 enum-told c = c .match .keys1
 
 enum-known-n : tie.Need-enum-known-n
 enum-known-n c = c .match .keys2
-
-unknown-years-requires : tie.Need-unknown-years-requires
-unknown-years-requires c κs = search needs
 
 returns : tie.Need-returns
 unfolding unknown pick on onFour
@@ -37,17 +28,11 @@ returns-2 c =
     let b6 = b5 .before in
     simp (← b6 .byte-at .ensures, eq-eqb _ _ (b5 .if1 .taken), ← b4 .two-at .ensures, b2 .n .given .1, ← c .unknown-years .ensures)
 
-four-at-requires : tie.Need-four-at-requires
-four-at-requires c κs = search needs
-
 enum-told-2 : tie.Need-enum-told-2
 enum-told-2 c = c .match2 .keys1
 
 enum-known-n-2 : tie.Need-enum-known-n-2
 enum-known-n-2 c = c .match2 .keys2
-
-unknown-parts-requires : tie.Need-unknown-parts-requires
-unknown-parts-requires c κs = search needs
 
 returns-3 : tie.Need-returns-3
 unfolding unknown pick on onFour
@@ -70,16 +55,16 @@ pub unknown-spec : {M : Type 1} → statement M
 unknown-spec =
     tie.close
     (tie.spec
-    byte-at-requires
-    two-at-requires
+    (λ c κs. search needs)
+    (λ c κs. search needs)
     enum-told
     enum-known-n
-    unknown-years-requires
+    (λ c κs. search needs)
     returns
     returns-2
-    four-at-requires
+    (λ c κs. search needs)
     enum-told-2
     enum-known-n-2
-    unknown-parts-requires
+    (λ c κs. search needs)
     returns-3
     returns-4)

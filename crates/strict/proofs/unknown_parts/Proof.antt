@@ -8,15 +8,6 @@ use Rattle.strict.proofs.Pieces.{field-within}
 use Rattle.strict.proofs.unknown_parts.Statement.{statement}
 use Rattle.strict.proofs.unknown_parts.Tie as tie
 
-dash-xx-at-requires : tie.Need-dash-xx-at-requires
-dash-xx-at-requires c κs = search needs
-
-dash-xx-at-requires-2 : tie.Need-dash-xx-at-requires-2
-dash-xx-at-requires-2 c κs = search needs
-
-months-requires : tie.Need-months-requires
-months-requires c κs = search needs
-
 returns : tie.Need-returns
 unfolding unknownParts pick on
 returns c =
@@ -25,9 +16,6 @@ returns c =
     let b3 = b2 .before in
     let b4 = b3 .before in
     simp (← b4 .dash-xx-at .ensures, b3 .if1 .taken, ← b2 .dash-xx-at2 .ensures, b1 .if2 .taken, ← c .months .ensures)
-
-months-requires-2 : tie.Need-months-requires-2
-months-requires-2 c κs = search needs
 
 returns-2 : tie.Need-returns-2
 unfolding unknownParts pick on
@@ -38,17 +26,11 @@ returns-2 c =
     let b4 = b3 .before in
     simp (← b4 .dash-xx-at .ensures, b3 .if1 .taken, ← b2 .dash-xx-at2 .ensures, b1 .if2 .left, ← c .months2 .ensures)
 
-field-at-requires : tie.Need-field-at-requires
-field-at-requires c κs = search needs
-
 enum-told : tie.Need-enum-told
 enum-told c = c .match .keys1
 
 enum-known-month : tie.Need-enum-known-month
 enum-known-month c = c .match .keys2
-
-dash-xx-at-requires-3 : tie.Need-dash-xx-at-requires-3
-dash-xx-at-requires-3 c κs = search needs
 
 days-requires : tie.Need-days-requires
 days-requires c κs =
@@ -89,16 +71,16 @@ pub unknown-parts-spec : {M : Type 1} → statement M
 unknown-parts-spec =
     tie.close
     (tie.spec
-    dash-xx-at-requires
-    dash-xx-at-requires-2
-    months-requires
+    (λ c κs. search needs)
+    (λ c κs. search needs)
+    (λ c κs. search needs)
     returns
-    months-requires-2
+    (λ c κs. search needs)
     returns-2
-    field-at-requires
+    (λ c κs. search needs)
     enum-told
     enum-known-month
-    dash-xx-at-requires-3
+    (λ c κs. search needs)
     days-requires
     returns-3
     returns-4

@@ -1,6 +1,6 @@
 use Prim.Native.Char.{code}
 use mathlib.Core.List.{_++_}
-use Rattle.writer.proofs.Puts.{room, both, first-fits}
+use Rattle.puts.proofs.Puts.{room, both, first-fits}
 use Rattle.timed.specs.Texts.{field, zoneText, clockText}
 use borrow.Author.Needs.{needs}
 use Rattle.timed.proofs.put_clock.Statement.{statement}
@@ -36,9 +36,6 @@ put-zone-requires c κs =
     let s = b11 .before .before .before in
     room (both (both (b11 .put-field .ensures) (b7 .put-field2 .ensures)) (b3 .put-field3 .ensures)) (zoneText (s .args .t .offset)) (s .pre)
 
-same-length : tie.Need-same-length
-same-length c = search needs
-
 returns : tie.Need-returns
 unfolding clockText
 returns c =
@@ -56,5 +53,5 @@ put-clock-spec =
     put-field-requires-2
     put-field-requires-3
     put-zone-requires
-    same-length
+    (λ c. search needs)
     returns)

@@ -4,21 +4,6 @@ use borrow.Author.Needs.{needs}
 use Rattle.timed.proofs.put_datetime.Statement.{statement}
 use Rattle.timed.proofs.put_datetime.Tie as tie
 
-from-datetime-requires : tie.Need-from-datetime-requires
-from-datetime-requires c κs = search needs
-
-sub-write-text : tie.Need-sub-write-text
-sub-write-text c = search needs
-
-part-write-text-start : tie.Need-part-write-text-start
-part-write-text-start c = search needs
-
-part-write-text-end : tie.Need-part-write-text-end
-part-write-text-end c = search needs
-
-write-text-requires : tie.Need-write-text-requires
-write-text-requires c κs = search needs
-
 enum-known-w : tie.Need-enum-known-w
 enum-known-w c = c .match .keys1
 
@@ -33,9 +18,6 @@ add-result c =
 enum-told : tie.Need-enum-told
 enum-told c = c .match .keys2
 
-same-length : tie.Need-same-length
-same-length c = search needs
-
 returns : tie.Need-returns
 returns c =
     let b1 = c .before in
@@ -43,9 +25,6 @@ returns c =
     let b7 = b5 .before .before in
     let s = b7 .before .before in
     end-put (s .args .d) (s .args .out .now) (b5 .write-text .last .1 .0) (s .args .at) (b7 .from-datetime .ensures) (s .pre) (b5 .write-text .ensures .0) (b5 .write-text .ensures .1 .0) (b1 .w .given .1)
-
-same-length-2 : tie.Need-same-length-2
-same-length-2 c = search needs
 
 returns-2 : tie.Need-returns-2
 returns-2 c =
@@ -58,15 +37,15 @@ pub put-datetime-spec : {M : Type 1} → statement M
 put-datetime-spec =
     tie.close
     (tie.spec
-    from-datetime-requires
-    sub-write-text
-    part-write-text-start
-    part-write-text-end
-    write-text-requires
+    (λ c κs. search needs)
+    (λ c. search needs)
+    (λ c. search needs)
+    (λ c. search needs)
+    (λ c κs. search needs)
     enum-known-w
     add-result
     enum-told
-    same-length
+    (λ c. search needs)
     returns
-    same-length-2
+    (λ c. search needs)
     returns-2)

@@ -1,5 +1,5 @@
 use Rattle.writer.specs.Texts.{datetimeText}
-use Rattle.writer.proofs.Puts.{room, both, first-fits}
+use Rattle.puts.proofs.Puts.{room, both, first-fits}
 use Rattle.timed.specs.Texts.{timeText, endText}
 use borrow.Author.Needs.{needs}
 use Rattle.timed.proofs.put_end.Statement.{statement}
@@ -18,9 +18,6 @@ put-time-requires c κs =
     let s = b3 .before .before .before in
     room (b3 .put-datetime .ensures) (timeText (s .args .d .time)) (s .pre .2)
 
-same-length : tie.Need-same-length
-same-length c = search needs
-
 returns : tie.Need-returns
 unfolding endText
 returns c =
@@ -29,4 +26,4 @@ returns c =
     both (b6 .put-datetime .ensures) (b2 .put-time .ensures)
 
 pub put-end-spec : {M : Type 1} → statement M
-put-end-spec = tie.close (tie.spec put-datetime-requires put-time-requires same-length returns)
+put-end-spec = tie.close (tie.spec put-datetime-requires put-time-requires (λ c. search needs) returns)

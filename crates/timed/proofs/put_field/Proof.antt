@@ -1,7 +1,7 @@
-use Rattle.writer.specs.Numbers.{digits}
+use Rattle.puts.specs.Numbers.{digits}
 use Prim.Native.Nat.{_+_, _/_, _%_}
 use mathlib.Core.List.{[], _∷_, _++_}
-use Rattle.writer.proofs.Puts.{room, both, first-fits}
+use Rattle.puts.proofs.Puts.{room, both, first-fits}
 use Rattle.timed.specs.Texts.{field}
 use borrow.Author.Needs.{needs}
 use Rattle.timed.proofs.put_field.Statement.{statement}
@@ -13,18 +13,12 @@ put-byte-requires c κs =
     let s = c .before .before in
     first-fits (s .args .c ∷ []) (digits 2 (s .args .n)) (s .args .out .now) (s .args .at) (s .pre)
 
-add-put-byte : tie.Need-add-put-byte
-add-put-byte c = search needs
-
 put-byte-requires-2 : tie.Need-put-byte-requires-2
 unfolding field
 put-byte-requires-2 c κs =
     let b3 = c .before .before .before in
     let s = b3 .before .before .before in
     room (b3 .put-byte .ensures) ((48 + s .args .n / 10 % 10) ∷ []) (first-fits ((s .args .c ∷ []) ++ ((48 + s .args .n / 10 % 10) ∷ [])) ((48 + s .args .n % 10) ∷ []) (s .args .out .now) (s .args .at) (s .pre))
-
-add-put-byte-2 : tie.Need-add-put-byte-2
-add-put-byte-2 c = search needs
 
 put-byte-requires-3 : tie.Need-put-byte-requires-3
 unfolding field
@@ -33,9 +27,6 @@ put-byte-requires-3 c κs =
     let b7 = b3 .before .before .before .before in
     let s = b7 .before .before .before in
     room (both (b7 .put-byte .ensures) (b3 .put-byte2 .ensures)) ((48 + s .args .n % 10) ∷ []) (s .pre)
-
-same-length : tie.Need-same-length
-same-length c = search needs
 
 returns : tie.Need-returns
 unfolding field
@@ -50,9 +41,9 @@ put-field-spec =
     tie.close
     (tie.spec
     put-byte-requires
-    add-put-byte
+    (λ c. search needs)
     put-byte-requires-2
-    add-put-byte-2
+    (λ c. search needs)
     put-byte-requires-3
-    same-length
+    (λ c. search needs)
     returns)

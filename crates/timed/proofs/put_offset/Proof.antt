@@ -1,6 +1,6 @@
 use Prim.Native.Char.{code}
 use mathlib.Core.Path.{ap}
-use Rattle.writer.proofs.Puts.{room, both, first-fits, fits-as, as-text}
+use Rattle.puts.proofs.Puts.{room, both, first-fits, fits-as, as-text}
 use Rattle.timed.proofs.Pieces.{shift-text}
 use Rattle.timed.specs.Texts.{field, offsetText}
 use borrow.Author.Needs.{needs}
@@ -20,9 +20,6 @@ put-byte-requires c κs =
 enum-known-o : tie.Need-enum-known-o
 enum-known-o c = c .match .keys2
 
-sign-requires : tie.Need-sign-requires
-sign-requires c κs = search needs
-
 put-field-requires : tie.Need-put-field-requires
 put-field-requires c κs =
     let b1 = c .before in
@@ -38,18 +35,12 @@ put-field-requires-2 c κs =
     let s = b7 .before .before .before in
     room (b3 .put-field .ensures) (field (code ":") (b7 .o .given .0 .1 .1 .0)) (fits-as (s .args .out .now) (s .args .at) (shift-text (b7 .o .given .0 .0) (b7 .o .given .0 .1 .0) (b7 .o .given .0 .1 .1 .0) (b7 .o .given .1) (b5 .sign .ensures)) (s .pre))
 
-same-length : tie.Need-same-length
-same-length c = search needs
-
 returns : tie.Need-returns
 unfolding offsetText
 returns c =
     let b2 = c .before .before in
     let b4 = b2 .before .before in
     as-text (ap offsetText (b4 .enum-told .given .1)) (b2 .put-byte .ensures)
-
-same-length-2 : tie.Need-same-length-2
-same-length-2 c = search needs
 
 returns-2 : tie.Need-returns-2
 returns-2 c =
@@ -66,10 +57,10 @@ put-offset-spec =
     enum-told
     put-byte-requires
     enum-known-o
-    sign-requires
+    (λ c κs. search needs)
     put-field-requires
     put-field-requires-2
-    same-length
+    (λ c. search needs)
     returns
-    same-length-2
+    (λ c. search needs)
     returns-2)

@@ -11,12 +11,6 @@ enum-told c = c .match .keys1
 enum-known-t : tie.Need-enum-known-t
 enum-known-t c = c .match .keys2
 
-zone-length-requires : tie.Need-zone-length-requires
-zone-length-requires c κs = search needs
-
-add-result : tie.Need-add-result
-add-result c = search needs
-
 returns : tie.Need-returns
 unfolding timeText
 returns c = (simp (c .enum-told .given .1), omega arith)
@@ -28,4 +22,4 @@ returns-2 c =
 
 pub time-length-spec : {M : Type 1} → statement M
 time-length-spec =
-    tie.close (tie.spec enum-told enum-known-t zone-length-requires add-result returns returns-2)
+    tie.close (tie.spec enum-told enum-known-t (λ c κs. search needs) (λ c. search needs) returns returns-2)

@@ -4,17 +4,8 @@ use borrow.Author.Needs.{needs}
 use Rattle.timed.proofs.timed_length.Statement.{statement}
 use Rattle.timed.proofs.timed_length.Tie as tie
 
-date-length-requires : tie.Need-date-length-requires
-date-length-requires c κs = search needs
-
 enum-known-n : tie.Need-enum-known-n
 enum-known-n c = c .match .keys1
-
-value-bad-requires : tie.Need-value-bad-requires
-value-bad-requires c κs = search needs
-
-refuse-requires : tie.Need-refuse-requires
-refuse-requires c κs = search needs
 
 returns : tie.Need-returns
 returns c =
@@ -23,10 +14,7 @@ returns c =
     let b4 = b2 .before .before in
     let b6 = b4 .before .before in
     let s = b6 .before in
-    (is-bad (s .args .d) (b6 .date-length .ensures .0) (b4 .n .given .1) (b2 .value-bad .ensures) (b1 .if1 .taken) (c .refuse .ensures), most (s .args .d) (b6 .date-length .ensures .0) (b6 .date-length .ensures .1))
-
-times-length-requires : tie.Need-times-length-requires
-times-length-requires c κs = search needs
+    (is-bad (s .args .d) (b6 .date-length .ensures .0) (b4 .n .given .1) (b2 .value-bad .ensures) (b1 .if1 .taken) (c .nowhere .ensures), most (s .args .d) (b6 .date-length .ensures .0) (b6 .date-length .ensures .1))
 
 add-t11 : tie.Need-add-t11
 add-t11 c =
@@ -58,12 +46,12 @@ pub timed-length-spec : {M : Type 1} → statement M
 timed-length-spec =
     tie.close
     (tie.spec
-    date-length-requires
+    (λ c κs. search needs)
     enum-known-n
-    value-bad-requires
-    refuse-requires
+    (λ c κs. search needs)
+    (λ c κs. search needs)
     returns
-    times-length-requires
+    (λ c κs. search needs)
     add-t11
     enum-known-e
     returns-2

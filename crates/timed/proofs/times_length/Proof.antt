@@ -11,32 +11,14 @@ use Rattle.timed.proofs.times_length.Tie as tie
 enum-known-v : tie.Need-enum-known-v
 enum-known-v c = c .match .keys1
 
-time-length-requires : tie.Need-time-length-requires
-time-length-requires c κs = search needs
-
 enum-known-v-2 : tie.Need-enum-known-v-2
 enum-known-v-2 c = c .match .keys2
-
-time-length-requires-2 : tie.Need-time-length-requires-2
-time-length-requires-2 c κs = search needs
 
 enum-known-v-3 : tie.Need-enum-known-v-3
 enum-known-v-3 c = c .match .keys3
 
-time-length-requires-3 : tie.Need-time-length-requires-3
-time-length-requires-3 c κs = search needs
-
 enum-known-v-4 : tie.Need-enum-known-v-4
 enum-known-v-4 c = c .match .keys4
-
-time-length-requires-4 : tie.Need-time-length-requires-4
-time-length-requires-4 c κs = search needs
-
-time-length-requires-5 : tie.Need-time-length-requires-5
-time-length-requires-5 c κs = search needs
-
-add-result : tie.Need-add-result
-add-result c = search needs
 
 returns : tie.Need-returns
 unfolding timesText
@@ -68,15 +50,15 @@ times-length-spec =
     tie.close
     (tie.spec
     enum-known-v
-    time-length-requires
+    (λ c κs. search needs)
     enum-known-v-2
-    time-length-requires-2
+    (λ c κs. search needs)
     enum-known-v-3
-    time-length-requires-3
+    (λ c κs. search needs)
     enum-known-v-4
-    time-length-requires-4
-    time-length-requires-5
-    add-result
+    (λ c κs. search needs)
+    (λ c κs. search needs)
+    (λ c. search needs)
     returns
     returns-2
     returns-3

@@ -6,26 +6,14 @@ use Rattle.timed.proofs.value_bad.Tie as tie
 enum-known-v : tie.Need-enum-known-v
 enum-known-v c = c .match .keys1
 
-has-bad-time-requires : tie.Need-has-bad-time-requires
-has-bad-time-requires c κs = search needs
-
 enum-known-v-2 : tie.Need-enum-known-v-2
 enum-known-v-2 c = c .match .keys2
-
-has-bad-time-requires-2 : tie.Need-has-bad-time-requires-2
-has-bad-time-requires-2 c κs = search needs
 
 enum-known-v-3 : tie.Need-enum-known-v-3
 enum-known-v-3 c = c .match .keys3
 
-has-bad-time-requires-3 : tie.Need-has-bad-time-requires-3
-has-bad-time-requires-3 c κs = search needs
-
 enum-known-v-4 : tie.Need-enum-known-v-4
 enum-known-v-4 c = c .match .keys4
-
-has-bad-time-requires-4 : tie.Need-has-bad-time-requires-4
-has-bad-time-requires-4 c κs = search needs
 
 returns : tie.Need-returns
 unfolding valueBad
@@ -33,9 +21,6 @@ returns c =
     let b1 = c .before in
     let b3 = b1 .before .before in
     simp (b3 .v4 .given .1, ← b1 .has-bad-time4 .ensures, c .if1 .taken)
-
-has-bad-time-requires-5 : tie.Need-has-bad-time-requires-5
-has-bad-time-requires-5 c κs = search needs
 
 returns-2 : tie.Need-returns-2
 unfolding valueBad
@@ -68,15 +53,15 @@ value-bad-spec =
     tie.close
     (tie.spec
     enum-known-v
-    has-bad-time-requires
+    (λ c κs. search needs)
     enum-known-v-2
-    has-bad-time-requires-2
+    (λ c κs. search needs)
     enum-known-v-3
-    has-bad-time-requires-3
+    (λ c κs. search needs)
     enum-known-v-4
-    has-bad-time-requires-4
+    (λ c κs. search needs)
     returns
-    has-bad-time-requires-5
+    (λ c κs. search needs)
     returns-2
     returns-3
     returns-4

@@ -3,17 +3,11 @@ use borrow.Author.Needs.{needs}
 use Rattle.timed.proofs.write_timed.Statement.{statement}
 use Rattle.timed.proofs.write_timed.Tie as tie
 
-timed-length-requires : tie.Need-timed-length-requires
-timed-length-requires c κs = search needs
-
-decide-requires : tie.Need-decide-requires
-decide-requires c κs = search needs
-
 enum-told : tie.Need-enum-told
 enum-told c = c .match .keys1
 
-put-date-requires : tie.Need-put-date-requires
-put-date-requires c κs =
+put-timed-requires : tie.Need-put-timed-requires
+put-timed-requires c κs =
     let b1 = c .before in
     let b3 = b1 .before .before in
     let b4 = b3 .before in
@@ -23,9 +17,6 @@ put-date-requires c κs =
 enum-known-e : tie.Need-enum-known-e
 enum-known-e c = c .match .keys2
 
-same-length : tie.Need-same-length
-same-length c = search needs
-
 returns : tie.Need-returns
 returns c =
     let b2 = c .before .before in
@@ -33,7 +24,7 @@ returns c =
     let b6 = b4 .before .before in
     let b7 = b6 .before in
     let s = b7 .before .before in
-    let q = done (s .args .d) (s .args .out .now) (b7 .timed-length .ensures .0) (b6 .decide .ensures) (b4 .enum-told .given .1) (b2 .put-date .ensures) in (q .0, (q .1, b7 .timed-length .ensures .1))
+    let q = done (s .args .d) (s .args .out .now) (b7 .timed-length .ensures .0) (b6 .decide .ensures) (b4 .enum-told .given .1) (b2 .put-timed .ensures) in (q .0, (q .1, b7 .timed-length .ensures .1))
 
 returns-2 : tie.Need-returns-2
 returns-2 c =
@@ -47,11 +38,11 @@ pub write-timed-spec : {M : Type 1} → statement M
 write-timed-spec =
     tie.close
     (tie.spec
-    timed-length-requires
-    decide-requires
+    (λ c κs. search needs)
+    (λ c κs. search needs)
     enum-told
-    put-date-requires
+    put-timed-requires
     enum-known-e
-    same-length
+    (λ c. search needs)
     returns
     returns-2)

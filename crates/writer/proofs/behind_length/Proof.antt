@@ -8,18 +8,6 @@ use borrow.Author.Needs.{needs}
 use Rattle.writer.proofs.behind_length.Statement.{statement}
 use Rattle.writer.proofs.behind_length.Tie as tie
 
-has-season-requires : tie.Need-has-season-requires
-has-season-requires c κs = search needs
-
-season-number-requires : tie.Need-season-number-requires
-season-number-requires c κs = search needs
-
-part-length-requires : tie.Need-part-length-requires
-part-length-requires c κs = search needs
-
-add-result : tie.Need-add-result
-add-result c = omega arith
-
 returns : tie.Need-returns
 returns c =
     let b1 = c .before in
@@ -29,12 +17,6 @@ returns c =
     let n = b1 .season-number .result in
     let e : length (behindText (s .args .d)) ≡ length (hyphenPart n) = ap length (season-behind (s .args .d) (b3 .has-season .ensures) (b2 .if1 .taken) (b1 .season-number .ensures)) in
     (omega (arith, e, hyphen-length n, c .part-length .ensures .0), omega arith)
-
-parts-of-requires : tie.Need-parts-of-requires
-parts-of-requires c κs = search needs
-
-parts-length-requires : tie.Need-parts-length-requires
-parts-length-requires c κs = search needs
 
 returns-2 : tie.Need-returns-2
 returns-2 c =
@@ -48,11 +30,11 @@ pub behind-length-spec : {M : Type 1} → statement M
 behind-length-spec =
     tie.close
     (tie.spec
-    has-season-requires
-    season-number-requires
-    part-length-requires
-    add-result
+    (λ c κs. search needs)
+    (λ c κs. search needs)
+    (λ c κs. search needs)
+    (λ c. omega arith)
     returns
-    parts-of-requires
-    parts-length-requires
+    (λ c κs. search needs)
+    (λ c κs. search needs)
     returns-2)

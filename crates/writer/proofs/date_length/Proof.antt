@@ -1,26 +1,13 @@
 use native.Mathlib.Omega.{arith}
 use mathlib.Core.Path.{sym, _∙_}
 use Rattle.writer.proofs.Pieces.{added}
-use Rattle.writer.proofs.Answered.{has-length, has-season, unseasoned, panicked}
-use Rattle.writer.specs.Texts.{markText, panics, valueText, dateText}
+use Rattle.puts.proofs.Answered.{has-length, panicked}
+use Rattle.writer.proofs.Answered.{has-season, unseasoned}
+use Rattle.writer.specs.Texts.{panics, valueText, dateText}
+use Rattle.puts.specs.Marks.{markText}
 use borrow.Author.Needs.{needs}
 use Rattle.writer.proofs.date_length.Statement.{statement}
 use Rattle.writer.proofs.date_length.Tie as tie
-
-value-length-requires : tie.Need-value-length-requires
-value-length-requires c κs = search needs
-
-mark-length-requires : tie.Need-mark-length-requires
-mark-length-requires c κs = search needs
-
-add-n : tie.Need-add-n
-add-n c = omega arith
-
-has-season-requires : tie.Need-has-season-requires
-has-season-requires c κs = search needs
-
-refuse-requires : tie.Need-refuse-requires
-refuse-requires c κs = search needs
 
 returns : tie.Need-returns
 unfolding dateText
@@ -30,13 +17,7 @@ returns c =
     let b4 = b3 .before in
     let s = b4 .before in
     let e = added (valueText (s .args .d .value)) (markText (s .args .d .uncertain) (s .args .d .approximate)) (b4 .value-length .ensures .0) (b3 .mark-length .ensures .0) in
-    (has-season (s .args .d) (dateText (s .args .d)) (b2 .has-season .ensures) (c .before .if1 .taken) (c .refuse .ensures), λ _. omega (arith, e, b4 .value-length .ensures .1, b3 .mark-length .ensures .1))
-
-value-panics-requires : tie.Need-value-panics-requires
-value-panics-requires c κs = search needs
-
-refuse-requires-2 : tie.Need-refuse-requires-2
-refuse-requires-2 c κs = search needs
+    (has-season (s .args .d) (dateText (s .args .d)) (b2 .has-season .ensures) (c .before .if1 .taken) (c .nowhere .ensures), λ _. omega (arith, e, b4 .value-length .ensures .1, b3 .mark-length .ensures .1))
 
 returns-2 : tie.Need-returns-2
 unfolding panics dateText
@@ -49,7 +30,7 @@ returns-2 c =
     let b6 = b5 .before in
     let s = b6 .before in
     let e = added (valueText (s .args .d .value)) (markText (s .args .d .uncertain) (s .args .d .approximate)) (b6 .value-length .ensures .0) (b5 .mark-length .ensures .0) in
-    let p = panicked (dateText (s .args .d)) (sym (b2 .value-panics .ensures) ∙ b1 .if2 .taken) (c .refuse2 .ensures) in
+    let p = panicked (dateText (s .args .d)) (sym (b2 .value-panics .ensures) ∙ b1 .if2 .taken) (c .nowhere2 .ensures) in
     (unseasoned (s .args .d) (dateText (s .args .d)) (b4 .has-season .ensures) (b3 .if1 .left) p, λ _. omega (arith, e, b6 .value-length .ensures .1, b5 .mark-length .ensures .1))
 
 returns-3 : tie.Need-returns-3
@@ -68,13 +49,13 @@ pub date-length-spec : {M : Type 1} → statement M
 date-length-spec =
     tie.close
     (tie.spec
-    value-length-requires
-    mark-length-requires
-    add-n
-    has-season-requires
-    refuse-requires
+    (λ c κs. search needs)
+    (λ c κs. search needs)
+    (λ c. omega arith)
+    (λ c κs. search needs)
+    (λ c κs. search needs)
     returns
-    value-panics-requires
-    refuse-requires-2
+    (λ c κs. search needs)
+    (λ c κs. search needs)
     returns-2
     returns-3)

@@ -9,18 +9,6 @@ use borrow.Author.Needs.{needs}
 use Rattle.writer.proofs.datetime_length.Statement.{statement}
 use Rattle.writer.proofs.datetime_length.Tie as tie
 
-parts-of-requires : tie.Need-parts-of-requires
-parts-of-requires c κs = search needs
-
-year-length-requires : tie.Need-year-length-requires
-year-length-requires c κs = search needs
-
-parts-length-requires : tie.Need-parts-length-requires
-parts-length-requires c κs = search needs
-
-add-result : tie.Need-add-result
-add-result c = omega arith
-
 returns : tie.Need-returns
 returns c =
     let b1 = c .before in
@@ -33,4 +21,4 @@ returns c =
 pub datetime-length-spec : {M : Type 1} → statement M
 datetime-length-spec =
     tie.close
-    (tie.spec parts-of-requires year-length-requires parts-length-requires add-result returns)
+    (tie.spec (λ c κs. search needs) (λ c κs. search needs) (λ c κs. search needs) (λ c. omega arith) returns)

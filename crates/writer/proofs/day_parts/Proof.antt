@@ -8,9 +8,6 @@ use Rattle.writer.proofs.day_parts.Tie as tie
 enum-told : tie.Need-enum-told
 enum-told c = c .match .keys1
 
-written-month-requires : tie.Need-written-month-requires
-written-month-requires c κs = search needs
-
 enum-known-day : tie.Need-enum-known-day
 enum-known-day c = c .match .keys2
 
@@ -19,12 +16,6 @@ unfolding dayParts pick
 returns c =
     let b3 = c .before .before .before in
     simp (b3 .day .given .1, eq-eqb _ _ (c .if1 .taken))
-
-written-month-requires-2 : tie.Need-written-month-requires-2
-written-month-requires-2 c κs = search needs
-
-written-day-requires : tie.Need-written-day-requires
-written-day-requires c κs = search needs
 
 returns-2 : tie.Need-returns-2
 unfolding dayParts pick
@@ -45,10 +36,10 @@ day-parts-spec =
     tie.close
     (tie.spec
     enum-told
-    written-month-requires
+    (λ c κs. search needs)
     enum-known-day
     returns
-    written-month-requires-2
-    written-day-requires
+    (λ c κs. search needs)
+    (λ c κs. search needs)
     returns-2
     returns-3)

@@ -11,21 +11,6 @@ use borrow.Author.Needs.{needs}
 use Rattle.writer.proofs.end_lines_length.Statement.{statement}
 use Rattle.writer.proofs.end_lines_length.Tie as tie
 
-parts-of-requires : tie.Need-parts-of-requires
-parts-of-requires c κs = search needs
-
-year-length-requires : tie.Need-year-length-requires
-year-length-requires c κs = search needs
-
-line-length-requires : tie.Need-line-length-requires
-line-length-requires c κs = search needs
-
-part-lines-length-requires : tie.Need-part-lines-length-requires
-part-lines-length-requires c κs = search needs
-
-add-result : tie.Need-add-result
-add-result c = omega arith
-
 returns : tie.Need-returns
 returns c =
     let b1 = c .before in
@@ -41,9 +26,9 @@ pub end-lines-length-spec : {M : Type 1} → statement M
 end-lines-length-spec =
     tie.close
     (tie.spec
-    parts-of-requires
-    year-length-requires
-    line-length-requires
-    part-lines-length-requires
-    add-result
+    (λ c κs. search needs)
+    (λ c κs. search needs)
+    (λ c κs. search needs)
+    (λ c κs. search needs)
+    (λ c. omega arith)
     returns)

@@ -3,9 +3,6 @@ use borrow.Author.Needs.{needs}
 use Rattle.writer.proofs.end_panics.Statement.{statement}
 use Rattle.writer.proofs.end_panics.Tie as tie
 
-parts-of-requires : tie.Need-parts-of-requires
-parts-of-requires c κs = search needs
-
 enum-told : tie.Need-enum-told
 enum-told c = c .match .keys1
 
@@ -46,7 +43,7 @@ pub end-panics-spec : {M : Type 1} → statement M
 end-panics-spec =
     tie.close
     (tie.spec
-    parts-of-requires
+    (λ c κs. search needs)
     enum-told
     enum-told-2
     enum-told-3

@@ -1,29 +1,18 @@
 use mathlib.Core.Path.{sym, _∙_}
-use Rattle.writer.proofs.Answered.{has-length, has-season, unseasoned, panicked}
+use Rattle.puts.proofs.Answered.{has-length, panicked}
+use Rattle.writer.proofs.Answered.{has-season, unseasoned}
 use Rattle.writer.specs.Texts.{panics}
 use Rattle.writer.specs.Fields.{fieldsText}
 use borrow.Author.Needs.{needs}
 use Rattle.writer.proofs.fields_length.Statement.{statement}
 use Rattle.writer.proofs.fields_length.Tie as tie
 
-has-season-requires : tie.Need-has-season-requires
-has-season-requires c κs = search needs
-
-refuse-requires : tie.Need-refuse-requires
-refuse-requires c κs = search needs
-
 returns : tie.Need-returns
 returns c =
     let b1 = c .before in
     let b2 = b1 .before in
     let s = b2 .before in
-    has-season (s .args .d) (fieldsText (s .args .d)) (b2 .has-season .ensures) (b1 .if1 .taken) (c .refuse .ensures)
-
-value-panics-requires : tie.Need-value-panics-requires
-value-panics-requires c κs = search needs
-
-refuse-requires-2 : tie.Need-refuse-requires-2
-refuse-requires-2 c κs = search needs
+    has-season (s .args .d) (fieldsText (s .args .d)) (b2 .has-season .ensures) (b1 .if1 .taken) (c .nowhere .ensures)
 
 returns-2 : tie.Need-returns-2
 unfolding panics
@@ -33,11 +22,8 @@ returns-2 c =
     let b3 = b2 .before in
     let b4 = b3 .before in
     let s = b4 .before in
-    let p = panicked (fieldsText (s .args .d)) (sym (b2 .value-panics .ensures) ∙ b1 .if2 .taken) (c .refuse2 .ensures) in
+    let p = panicked (fieldsText (s .args .d)) (sym (b2 .value-panics .ensures) ∙ b1 .if2 .taken) (c .nowhere2 .ensures) in
     unseasoned (s .args .d) (fieldsText (s .args .d)) (b4 .has-season .ensures) (b3 .if1 .left) p
-
-value-lines-length-requires : tie.Need-value-lines-length-requires
-value-lines-length-requires c κs = search needs
 
 returns-3 : tie.Need-returns-3
 unfolding panics fieldsText
@@ -54,11 +40,11 @@ pub fields-length-spec : {M : Type 1} → statement M
 fields-length-spec =
     tie.close
     (tie.spec
-    has-season-requires
-    refuse-requires
+    (λ c κs. search needs)
+    (λ c κs. search needs)
     returns
-    value-panics-requires
-    refuse-requires-2
+    (λ c κs. search needs)
+    (λ c κs. search needs)
     returns-2
-    value-lines-length-requires
+    (λ c κs. search needs)
     returns-3)

@@ -8,13 +8,10 @@ use borrow.Author.Needs.{needs}
 use Rattle.writer.proofs.is_short.Statement.{statement}
 use Rattle.writer.proofs.is_short.Tie as tie
 
-magnitude-requires : tie.Need-magnitude-requires
-magnitude-requires c κs = search needs
-
 returns : tie.Need-returns
 returns c =
     let s = c .before in
     ap (λ (n : ℕ). ltb n 10000) (c .magnitude .ensures ∙ ap natAbs (toZ-ofZ w32 (s .args .year) (s .fits .year)))
 
 pub is-short-spec : {M : Type 1} → statement M
-is-short-spec = tie.close (tie.spec magnitude-requires returns)
+is-short-spec = tie.close (tie.spec (λ c κs. search needs) returns)

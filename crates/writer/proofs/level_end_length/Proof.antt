@@ -9,21 +9,6 @@ use borrow.Author.Needs.{needs}
 use Rattle.writer.proofs.level_end_length.Statement.{statement}
 use Rattle.writer.proofs.level_end_length.Tie as tie
 
-long-sign-length-requires : tie.Need-long-sign-length-requires
-long-sign-length-requires c κs = search needs
-
-year-length-requires : tie.Need-year-length-requires
-year-length-requires c κs = search needs
-
-add-result : tie.Need-add-result
-add-result c = omega arith
-
-behind-length-requires : tie.Need-behind-length-requires
-behind-length-requires c κs = search needs
-
-add-result-2 : tie.Need-add-result-2
-add-result-2 c = omega arith
-
 returns : tie.Need-returns
 unfolding levelEnd
 returns c =
@@ -41,9 +26,9 @@ pub level-end-length-spec : {M : Type 1} → statement M
 level-end-length-spec =
     tie.close
     (tie.spec
-    long-sign-length-requires
-    year-length-requires
-    add-result
-    behind-length-requires
-    add-result-2
+    (λ c κs. search needs)
+    (λ c κs. search needs)
+    (λ c. omega arith)
+    (λ c κs. search needs)
+    (λ c. omega arith)
     returns)

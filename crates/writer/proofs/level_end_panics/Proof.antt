@@ -4,17 +4,11 @@ use borrow.Author.Needs.{needs}
 use Rattle.writer.proofs.level_end_panics.Statement.{statement}
 use Rattle.writer.proofs.level_end_panics.Tie as tie
 
-has-season-requires : tie.Need-has-season-requires
-has-season-requires c κs = search needs
-
 returns : tie.Need-returns
 unfolding levelEndPanics pick
 returns c =
     let b1 = c .before in
     simp (← b1 .has-season .ensures, c .if1 .taken)
-
-end-panics-requires : tie.Need-end-panics-requires
-end-panics-requires c κs = search needs
 
 returns-2 : tie.Need-returns-2
 unfolding levelEndPanics pick
@@ -27,7 +21,7 @@ pub level-end-panics-spec : {M : Type 1} → statement M
 level-end-panics-spec =
     tie.close
     (tie.spec
-    has-season-requires
+    (λ c κs. search needs)
     returns
-    end-panics-requires
+    (λ c κs. search needs)
     returns-2)

@@ -6,26 +6,14 @@ use Rattle.writer.proofs.level_value_panics.Tie as tie
 enum-known-v : tie.Need-enum-known-v
 enum-known-v c = c .match .keys1
 
-level-end-panics-requires : tie.Need-level-end-panics-requires
-level-end-panics-requires c κs = search needs
-
 enum-known-v-2 : tie.Need-enum-known-v-2
 enum-known-v-2 c = c .match .keys2
-
-level-end-panics-requires-2 : tie.Need-level-end-panics-requires-2
-level-end-panics-requires-2 c κs = search needs
 
 enum-known-v-3 : tie.Need-enum-known-v-3
 enum-known-v-3 c = c .match .keys3
 
-level-end-panics-requires-3 : tie.Need-level-end-panics-requires-3
-level-end-panics-requires-3 c κs = search needs
-
 enum-known-v-4 : tie.Need-enum-known-v-4
 enum-known-v-4 c = c .match .keys4
-
-level-end-panics-requires-4 : tie.Need-level-end-panics-requires-4
-level-end-panics-requires-4 c κs = search needs
 
 returns : tie.Need-returns
 unfolding levelValuePanics
@@ -33,9 +21,6 @@ returns c =
     let b1 = c .before in
     let b3 = b1 .before .before in
     simp (b3 .v4 .given .1, ← b1 .level-end-panics4 .ensures, c .if1 .taken)
-
-level-end-panics-requires-5 : tie.Need-level-end-panics-requires-5
-level-end-panics-requires-5 c κs = search needs
 
 returns-2 : tie.Need-returns-2
 unfolding levelValuePanics
@@ -68,15 +53,15 @@ level-value-panics-spec =
     tie.close
     (tie.spec
     enum-known-v
-    level-end-panics-requires
+    (λ c κs. search needs)
     enum-known-v-2
-    level-end-panics-requires-2
+    (λ c κs. search needs)
     enum-known-v-3
-    level-end-panics-requires-3
+    (λ c κs. search needs)
     enum-known-v-4
-    level-end-panics-requires-4
+    (λ c κs. search needs)
     returns
-    level-end-panics-requires-5
+    (λ c κs. search needs)
     returns-2
     returns-3
     returns-4

@@ -6,27 +6,12 @@ use mathlib.Core.Path.{ap, _≡_}
 use Rattle.writer.proofs.line_length.Statement.{statement}
 use Rattle.writer.proofs.line_length.Tie as tie
 
-add-result : tie.Need-add-result
-add-result c = omega arith
-
-add-result-2 : tie.Need-add-result-2
-add-result-2 c = omega arith
-
-add-result-3 : tie.Need-add-result-3
-add-result-3 c = omega arith
-
 returns : tie.Need-returns
 unfolding prefix
 returns c =
     let s = c .before in
     let e : length (prefix (s .args .end)) ≡ 3 = ap (λ (b : Bool). length (prefix b)) (c .if1 .taken) in
     (omega (arith, e), omega arith)
-
-add-result-4 : tie.Need-add-result-4
-add-result-4 c = omega arith
-
-add-result-5 : tie.Need-add-result-5
-add-result-5 c = omega arith
 
 returns-2 : tie.Need-returns-2
 unfolding prefix
@@ -38,4 +23,4 @@ returns-2 c =
 pub line-length-spec : {M : Type 1} → statement M
 line-length-spec =
     tie.close
-    (tie.spec add-result add-result-2 add-result-3 returns add-result-4 add-result-5 returns-2)
+    (tie.spec (λ c. omega arith) (λ c. omega arith) (λ c. omega arith) returns (λ c. omega arith) (λ c. omega arith) returns-2)

@@ -6,9 +6,6 @@ use borrow.Author.Needs.{needs}
 use Rattle.writer.proofs.long_sign_length.Statement.{statement}
 use Rattle.writer.proofs.long_sign_length.Tie as tie
 
-is-short-requires : tie.Need-is-short-requires
-is-short-requires c κs = search needs
-
 returns : tie.Need-returns
 returns c =
     let b1 = c .before in
@@ -25,6 +22,6 @@ pub long-sign-length-spec : {M : Type 1} → statement M
 long-sign-length-spec =
     tie.close
     (tie.spec
-    is-short-requires
+    (λ c κs. search needs)
     returns
     returns-2)

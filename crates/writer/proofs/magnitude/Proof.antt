@@ -20,8 +20,5 @@ returns c = ap natAbs (minus-read (c .before .args .year) (c .before .fits .year
 cast-result-2 : tie.Need-cast-result-2
 cast-result-2 c = not-negative (c .before .args .year) (c .before .fits .year) (c .if1 .left)
 
-returns-2 : tie.Need-returns-2
-returns-2 c = search needs
-
 pub magnitude-spec : {M : Type 1} → statement M
-magnitude-spec = tie.close (tie.spec cast-y sub-result cast-result returns cast-result-2 returns-2)
+magnitude-spec = tie.close (tie.spec cast-y sub-result cast-result returns cast-result-2 (λ c. search needs))

@@ -1,14 +1,11 @@
 use native.Mathlib.Omega.{arith}
 use Rattle.writer.proofs.Bounds.{part-most}
 use Rattle.writer.specs.Texts.{partText}
-use Rattle.writer.proofs.Counts.{length-decimal}
+use Rattle.puts.proofs.Counts.{length-decimal}
 use mathlib.Core.Path.{sym, _∙_}
 use borrow.Author.Needs.{needs}
 use Rattle.writer.proofs.part_length.Statement.{statement}
 use Rattle.writer.proofs.part_length.Tie as tie
-
-width-requires : tie.Need-width-requires
-width-requires c κs = search needs
 
 returns : tie.Need-returns
 unfolding partText
@@ -19,4 +16,4 @@ returns c =
     (e, omega (arith, e, m))
 
 pub part-length-spec : {M : Type 1} → statement M
-part-length-spec = tie.close (tie.spec width-requires returns)
+part-length-spec = tie.close (tie.spec (λ c κs. search needs) returns)

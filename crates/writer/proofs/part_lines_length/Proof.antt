@@ -17,29 +17,8 @@ enum-told c = c .match .keys1
 enum-known-p : tie.Need-enum-known-p
 enum-known-p c = c .match .keys2
 
-part-length-requires : tie.Need-part-length-requires
-part-length-requires c κs = search needs
-
-line-length-requires : tie.Need-line-length-requires
-line-length-requires c κs = search needs
-
 enum-known-p-2 : tie.Need-enum-known-p-2
 enum-known-p-2 c = c .match .keys3
-
-part-length-requires-2 : tie.Need-part-length-requires-2
-part-length-requires-2 c κs = search needs
-
-line-length-requires-2 : tie.Need-line-length-requires-2
-line-length-requires-2 c κs = search needs
-
-part-length-requires-3 : tie.Need-part-length-requires-3
-part-length-requires-3 c κs = search needs
-
-line-length-requires-3 : tie.Need-line-length-requires-3
-line-length-requires-3 c κs = search needs
-
-add-result : tie.Need-add-result
-add-result c = omega arith
 
 enum-told-2 : tie.Need-enum-told-2
 enum-told-2 c = c .match .keys4
@@ -82,14 +61,14 @@ part-lines-length-spec =
     (tie.spec
     enum-told
     enum-known-p
-    part-length-requires
-    line-length-requires
+    (λ c κs. search needs)
+    (λ c κs. search needs)
     enum-known-p-2
-    part-length-requires-2
-    line-length-requires-2
-    part-length-requires-3
-    line-length-requires-3
-    add-result
+    (λ c κs. search needs)
+    (λ c κs. search needs)
+    (λ c κs. search needs)
+    (λ c κs. search needs)
+    (λ c. omega arith)
     enum-told-2
     returns
     returns-2

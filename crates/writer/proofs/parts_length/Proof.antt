@@ -15,29 +15,8 @@ enum-told c = c .match .keys1
 enum-known-p : tie.Need-enum-known-p
 enum-known-p c = c .match .keys2
 
-part-length-requires : tie.Need-part-length-requires
-part-length-requires c κs = search needs
-
-add-result : tie.Need-add-result
-add-result c = omega arith
-
 enum-known-p-2 : tie.Need-enum-known-p-2
 enum-known-p-2 c = c .match .keys3
-
-part-length-requires-2 : tie.Need-part-length-requires-2
-part-length-requires-2 c κs = search needs
-
-add-result-2 : tie.Need-add-result-2
-add-result-2 c = omega arith
-
-part-length-requires-3 : tie.Need-part-length-requires-3
-part-length-requires-3 c κs = search needs
-
-add-result-3 : tie.Need-add-result-3
-add-result-3 c = omega arith
-
-add-result-4 : tie.Need-add-result-4
-add-result-4 c = omega arith
 
 enum-told-2 : tie.Need-enum-told-2
 enum-told-2 c = c .match .keys4
@@ -73,14 +52,14 @@ parts-length-spec =
     (tie.spec
     enum-told
     enum-known-p
-    part-length-requires
-    add-result
+    (λ c κs. search needs)
+    (λ c. omega arith)
     enum-known-p-2
-    part-length-requires-2
-    add-result-2
-    part-length-requires-3
-    add-result-3
-    add-result-4
+    (λ c κs. search needs)
+    (λ c. omega arith)
+    (λ c κs. search needs)
+    (λ c. omega arith)
+    (λ c. omega arith)
     enum-told-2
     returns
     returns-2

@@ -17,9 +17,6 @@ returns c =
     let b3 = c .before .before .before in
     simp (b3 .month .given .1, eq-eqb _ _ (c .if1 .taken))
 
-day-parts-requires : tie.Need-day-parts-requires
-day-parts-requires c κs = search needs
-
 returns-2 : tie.Need-returns-2
 unfolding partsOf monthParts pick
 returns-2 c = simp (c .enum-told .given .1)
@@ -33,4 +30,4 @@ returns-3 c =
 
 pub parts-of-spec : {M : Type 1} → statement M
 parts-of-spec =
-    tie.close (tie.spec enum-told enum-known-month returns day-parts-requires returns-2 returns-3)
+    tie.close (tie.spec enum-told enum-known-month returns (λ c κs. search needs) returns-2 returns-3)

@@ -1,14 +1,8 @@
 use Rattle.writer.proofs.Pieces.{season-behind, parts-behind}
-use Rattle.writer.proofs.Puts.{as-text, fits-as}
+use Rattle.puts.proofs.Puts.{as-text, fits-as}
 use borrow.Author.Needs.{needs}
 use Rattle.writer.proofs.put_behind.Statement.{statement}
 use Rattle.writer.proofs.put_behind.Tie as tie
-
-has-season-requires : tie.Need-has-season-requires
-has-season-requires c κs = search needs
-
-season-number-requires : tie.Need-season-number-requires
-season-number-requires c κs = search needs
 
 put-hyphen-part-requires : tie.Need-put-hyphen-part-requires
 put-hyphen-part-requires c κs =
@@ -17,9 +11,6 @@ put-hyphen-part-requires c κs =
     let b3 = b2 .before in
     let s = b3 .before .before in
     fits-as (s .args .out .now) (s .args .at) (season-behind (s .args .d) (b3 .has-season .ensures) (b2 .if1 .taken) (b1 .season-number .ensures)) (s .pre)
-
-same-length : tie.Need-same-length
-same-length c = search needs
 
 returns : tie.Need-returns
 returns c =
@@ -30,9 +21,6 @@ returns c =
     let s = b6 .before .before in
     as-text (season-behind (s .args .d) (b6 .has-season .ensures) (b5 .if1 .taken) (b4 .season-number .ensures)) (b2 .put-hyphen-part .ensures)
 
-parts-of-requires : tie.Need-parts-of-requires
-parts-of-requires c κs = search needs
-
 put-parts-requires : tie.Need-put-parts-requires
 put-parts-requires c κs =
     let b1 = c .before in
@@ -40,9 +28,6 @@ put-parts-requires c κs =
     let b3 = b2 .before in
     let s = b3 .before .before in
     fits-as (s .args .out .now) (s .args .at) (parts-behind (s .args .d) (b3 .has-season .ensures) (b2 .if1 .left) (b1 .parts-of .ensures)) (s .pre)
-
-same-length-2 : tie.Need-same-length-2
-same-length-2 c = search needs
 
 returns-2 : tie.Need-returns-2
 returns-2 c =
@@ -57,12 +42,12 @@ pub put-behind-spec : {M : Type 1} → statement M
 put-behind-spec =
     tie.close
     (tie.spec
-    has-season-requires
-    season-number-requires
+    (λ c κs. search needs)
+    (λ c κs. search needs)
     put-hyphen-part-requires
-    same-length
+    (λ c. search needs)
     returns
-    parts-of-requires
+    (λ c κs. search needs)
     put-parts-requires
-    same-length-2
+    (λ c. search needs)
     returns-2)

@@ -1,15 +1,12 @@
 use Rattle.chars.specs.Utf8.{first}
 use Rattle.writer.specs.Texts.{partsText, datetimeText, partsOf, yearText}
-use Rattle.writer.proofs.Puts.{front-as, first-fits, as-text, both, front, room}
+use Rattle.puts.proofs.Puts.{front-as, first-fits, as-text, both, front, room}
 use Rattle.writer.proofs.Pieces.{datetime-pieces}
 use mir.Syntax.{w32}
 use mir.ValLaws.{toZ-ofZ}
 use borrow.Author.Needs.{needs}
 use Rattle.writer.proofs.put_datetime.Statement.{statement}
 use Rattle.writer.proofs.put_datetime.Tie as tie
-
-parts-of-requires : tie.Need-parts-of-requires
-parts-of-requires c κs = search needs
 
 put-year-requires : tie.Need-put-year-requires
 unfolding datetimeText
@@ -26,9 +23,6 @@ put-parts-requires c κs =
     let first = rw (toZ-ofZ w32 (s .args .d .year) (record { sfits = b4 .struct-told .given .0 .1 })) at (b3 .put-year .ensures) in
     room first (partsText (b6 .parts-of .result)) (front-as (s .args .out .now) (datetime-pieces (s .args .d) (b6 .parts-of .ensures)) (s .pre))
 
-same-length : tie.Need-same-length
-same-length c = search needs
-
 returns : tie.Need-returns
 returns c =
     let b2 = c .before .before in
@@ -41,4 +35,4 @@ returns c =
 
 pub put-datetime-spec : {M : Type 1} → statement M
 put-datetime-spec =
-    tie.close (tie.spec parts-of-requires put-year-requires put-parts-requires same-length returns)
+    tie.close (tie.spec (λ c κs. search needs) put-year-requires put-parts-requires (λ c. search needs) returns)

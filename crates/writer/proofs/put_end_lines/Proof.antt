@@ -3,15 +3,12 @@ use Rattle.writer.proofs.Pieces.{end-pieces}
 use Rattle.chars.specs.Ascii.{ascii}
 use Rattle.chars.specs.Utf8.{first}
 use Rattle.writer.specs.Fields.{partLines, endLines, line}
-use Rattle.writer.proofs.Puts.{room, as-text, both, fits-as, first-fits}
+use Rattle.puts.proofs.Puts.{room, as-text, both, fits-as, first-fits}
 use mir.Syntax.{w32}
 use mir.ValLaws.{toZ-ofZ}
 use borrow.Author.Needs.{needs}
 use Rattle.writer.proofs.put_end_lines.Statement.{statement}
 use Rattle.writer.proofs.put_end_lines.Tie as tie
-
-parts-of-requires : tie.Need-parts-of-requires
-parts-of-requires c κs = search needs
 
 put-year-line-requires : tie.Need-put-year-line-requires
 unfolding endLines
@@ -28,9 +25,6 @@ put-part-lines-requires c κs =
     let first = rw (toZ-ofZ w32 (s .args .d .year) (record { sfits = b4 .struct-told .given .0 .1 })) at (b3 .put-year-line .ensures) in
     room first (partLines (s .args .end) (b6 .parts-of .result)) (fits-as (s .args .out .now) (s .args .at) (end-pieces (s .args .end) (s .args .d) (b6 .parts-of .ensures)) (s .pre))
 
-same-length : tie.Need-same-length
-same-length c = search needs
-
 returns : tie.Need-returns
 returns c =
     let b2 = c .before .before in
@@ -44,4 +38,4 @@ returns c =
 pub put-end-lines-spec : {M : Type 1} → statement M
 put-end-lines-spec =
     tie.close
-    (tie.spec parts-of-requires put-year-line-requires put-part-lines-requires same-length returns)
+    (tie.spec (λ c κs. search needs) put-year-line-requires put-part-lines-requires (λ c. search needs) returns)

@@ -1,5 +1,5 @@
-use Rattle.writer.specs.Numbers.{decimal}
-use Rattle.writer.proofs.Puts.{room, both, first-fits}
+use Rattle.puts.specs.Numbers.{decimal}
+use Rattle.puts.proofs.Puts.{room, both, first-fits}
 use Rattle.writer.specs.Texts.{partText, hyphenPart}
 use mathlib.Core.List.{[], _∷_}
 use native.Mathlib.Omega.{arith}
@@ -20,9 +20,6 @@ put-decimal-requires c κs =
     let s = b3 .before .before .before in
     (omega arith, room (b3 .put-byte .ensures) (decimal 2 (s .args .n)) (s .pre))
 
-same-length : tie.Need-same-length
-same-length c = search needs
-
 returns : tie.Need-returns
 unfolding hyphenPart partText
 returns c =
@@ -32,4 +29,4 @@ returns c =
 
 pub put-hyphen-part-spec : {M : Type 1} → statement M
 put-hyphen-part-spec =
-    tie.close (tie.spec put-byte-requires put-decimal-requires same-length returns)
+    tie.close (tie.spec put-byte-requires put-decimal-requires (λ c. search needs) returns)

@@ -3,7 +3,7 @@ use mir.Syntax.{w32}
 use mir.ValLaws.{toZ-ofZ}
 use Rattle.writer.specs.Level.{longSign, behindText, levelEnd}
 use Rattle.writer.specs.Texts.{yearText}
-use Rattle.writer.proofs.Puts.{first-fits, room, both}
+use Rattle.puts.proofs.Puts.{first-fits, room, both}
 use borrow.Author.Needs.{needs}
 use Rattle.writer.proofs.put_level_end.Statement.{statement}
 use Rattle.writer.proofs.put_level_end.Tie as tie
@@ -37,9 +37,6 @@ put-behind-requires c κs =
     let digits = rw (toZ-ofZ w32 (s .args .d .year) (record { sfits = b4 .struct-told2 .given .0 .1 })) at (b3 .put-year .ensures) in
     room (both sign digits) (behindText (s .args .d)) (s .pre)
 
-same-length : tie.Need-same-length
-same-length c = search needs
-
 returns : tie.Need-returns
 unfolding levelEnd
 returns c =
@@ -60,5 +57,5 @@ put-level-end-spec =
     put-long-sign-requires
     put-year-requires
     put-behind-requires
-    same-length
+    (λ c. search needs)
     returns)

@@ -1,5 +1,5 @@
 use Rattle.chars.specs.Ascii.{ascii}
-use Rattle.writer.proofs.Puts.{room, front-as, first-fits, as-text, both}
+use Rattle.puts.proofs.Puts.{room, front-as, first-fits, as-text, both}
 use Rattle.writer.specs.Level.{levelValue, levelEnd}
 use mathlib.Core.List.{_++_}
 use mathlib.Core.Path.{ap}
@@ -27,29 +27,8 @@ put-level-end-requires-2 c κs =
     let s = b2 .before .before .before in
     first-fits (levelEnd (b2 .v2 .given .0 .0)) (ascii "/..") (s .args .out .now) 0 (front-as (s .args .out .now) (ap levelValue (b2 .v2 .given .1)) (s .pre))
 
-slice-aggregate-put-bytes : tie.Need-slice-aggregate-put-bytes
-slice-aggregate-put-bytes c = search needs
-
-put-bytes-requires : tie.Need-put-bytes-requires
-unfolding levelValue
-put-bytes-requires c κs =
-    let b4 = c .before .before .before .before in
-    let b7 = b4 .before .before .before in
-    let s = b7 .before .before .before in
-    room (b4 .put-level-end2 .ensures) (ascii "/..") (front-as (s .args .out .now) (ap levelValue (b7 .v2 .given .1)) (s .pre))
-
 enum-known-v-3 : tie.Need-enum-known-v-3
 enum-known-v-3 c = c .match .keys3
-
-slice-aggregate-put-bytes-2 : tie.Need-slice-aggregate-put-bytes-2
-slice-aggregate-put-bytes-2 c = search needs
-
-put-bytes-requires-2 : tie.Need-put-bytes-requires-2
-unfolding levelValue
-put-bytes-requires-2 c κs =
-    let b3 = c .before .before .before in
-    let s = b3 .before .before .before in
-    first-fits (ascii "../") (levelEnd (b3 .v3 .given .0 .0)) (s .args .out .now) 0 (front-as (s .args .out .now) (ap levelValue (b3 .v3 .given .1)) (s .pre))
 
 put-level-end-requires-3 : tie.Need-put-level-end-requires-3
 unfolding levelValue
@@ -57,7 +36,9 @@ put-level-end-requires-3 c κs =
     let b3 = c .before .before .before in
     let b7 = b3 .before .before .before .before in
     let s = b7 .before .before .before in
-    room (b3 .put-bytes2 .ensures) (levelEnd (b7 .v3 .given .0 .0)) (front-as (s .args .out .now) (ap levelValue (b7 .v3 .given .1)) (s .pre))
+    let d = levelEnd (b7 .v3 .given .0 .0) in
+    let h = front-as (s .args .out .now) (ap levelValue (b7 .v3 .given .1)) (s .pre) in
+    room (b3 .put-bytes2 .ensures .put (first-fits (ascii "../") d (s .args .out .now) 0 h)) d h
 
 enum-known-v-4 : tie.Need-enum-known-v-4
 enum-known-v-4 c = c .match .keys4
@@ -86,9 +67,6 @@ put-level-end-requires-5 c κs =
     let s = b10 .before .before .before in
     room (both (b7 .put-level-end4 .ensures) (b3 .put-byte .ensures)) (levelEnd (b10 .v4 .given .0 .1 .0)) (front-as (s .args .out .now) (ap levelValue (b10 .v4 .given .1)) (s .pre))
 
-same-length : tie.Need-same-length
-same-length c = search needs
-
 returns : tie.Need-returns
 unfolding levelValue
 returns c =
@@ -96,19 +74,16 @@ returns c =
     let b5 = b2 .before .before .before in
     as-text (ap levelValue (b5 .v .given .1)) (b2 .put-level-end .ensures)
 
-same-length-2 : tie.Need-same-length-2
-same-length-2 c = search needs
-
 returns-2 : tie.Need-returns-2
 unfolding levelValue
 returns-2 c =
     let b2 = c .before .before in
     let b7 = b2 .before .before .before .before .before in
     let b10 = b7 .before .before .before in
-    as-text (ap levelValue (b10 .v2 .given .1)) (both (b7 .put-level-end2 .ensures) (b2 .put-bytes .ensures))
-
-same-length-3 : tie.Need-same-length-3
-same-length-3 c = search needs
+    let s = b10 .before .before .before in
+    let e = ap levelValue (b10 .v2 .given .1) in
+    let p = b7 .put-level-end2 .ensures in
+    as-text e (both p (b2 .put-bytes .ensures .put (room p (ascii "/..") (front-as (s .args .out .now) e (s .pre)))))
 
 returns-3 : tie.Need-returns-3
 unfolding levelValue
@@ -116,10 +91,10 @@ returns-3 c =
     let b2 = c .before .before in
     let b6 = b2 .before .before .before .before in
     let b10 = b6 .before .before .before .before in
-    as-text (ap levelValue (b10 .v3 .given .1)) (both (b6 .put-bytes2 .ensures) (b2 .put-level-end3 .ensures))
-
-same-length-4 : tie.Need-same-length-4
-same-length-4 c = search needs
+    let s = b10 .before .before .before in
+    let e = ap levelValue (b10 .v3 .given .1) in
+    let h = first-fits (ascii "../") (levelEnd (b10 .v3 .given .0 .0)) (s .args .out .now) 0 (front-as (s .args .out .now) e (s .pre)) in
+    as-text e (both (b6 .put-bytes2 .ensures .put h) (b2 .put-level-end3 .ensures))
 
 returns-4 : tie.Need-returns-4
 unfolding levelValue
@@ -138,21 +113,21 @@ put-level-value-spec =
     put-level-end-requires
     enum-known-v-2
     put-level-end-requires-2
-    slice-aggregate-put-bytes
-    put-bytes-requires
+    (λ c. search needs)
+    (λ c κs. search needs)
     enum-known-v-3
-    slice-aggregate-put-bytes-2
-    put-bytes-requires-2
+    (λ c. search needs)
+    (λ c κs. search needs)
     put-level-end-requires-3
     enum-known-v-4
     put-level-end-requires-4
     put-byte-requires
     put-level-end-requires-5
-    same-length
+    (λ c. search needs)
     returns
-    same-length-2
+    (λ c. search needs)
     returns-2
-    same-length-3
+    (λ c. search needs)
     returns-3
-    same-length-4
+    (λ c. search needs)
     returns-4)

@@ -1,11 +1,8 @@
 use Rattle.writer.proofs.Pieces.{no-sign, has-sign}
-use Rattle.writer.proofs.Puts.{nothing, as-text}
+use Rattle.puts.proofs.Puts.{nothing, as-text}
 use borrow.Author.Needs.{needs}
 use Rattle.writer.proofs.put_long_sign.Statement.{statement}
 use Rattle.writer.proofs.put_long_sign.Tie as tie
-
-is-short-requires : tie.Need-is-short-requires
-is-short-requires c κs = search needs
 
 returns : tie.Need-returns
 returns c =
@@ -20,9 +17,6 @@ put-byte-requires c κs =
     let s = b2 .before .before in
     rw (has-sign (s .args .year) (s .fits .year) (b2 .is-short .ensures) (b1 .if1 .left)) at (s .pre)
 
-same-length : tie.Need-same-length
-same-length c = search needs
-
 returns-2 : tie.Need-returns-2
 returns-2 c =
     let b2 = c .before .before in
@@ -35,8 +29,8 @@ pub put-long-sign-spec : {M : Type 1} → statement M
 put-long-sign-spec =
     tie.close
     (tie.spec
-    is-short-requires
+    (λ c κs. search needs)
     returns
     put-byte-requires
-    same-length
+    (λ c. search needs)
     returns-2)

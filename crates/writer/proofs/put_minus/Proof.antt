@@ -1,5 +1,5 @@
 use Rattle.writer.proofs.Pieces.{has-minus, no-minus}
-use Rattle.writer.proofs.Puts.{nothing, as-text}
+use Rattle.puts.proofs.Puts.{nothing, as-text}
 use borrow.Author.Needs.{needs}
 use Rattle.writer.proofs.put_minus.Statement.{statement}
 use Rattle.writer.proofs.put_minus.Tie as tie
@@ -9,9 +9,6 @@ put-byte-requires c κs =
     let b1 = c .before in
     let s = b1 .before .before in
     rw (has-minus (s .args .year) (s .fits .year) (b1 .if1 .taken)) at (s .pre)
-
-same-length : tie.Need-same-length
-same-length c = search needs
 
 returns : tie.Need-returns
 returns c =
@@ -26,4 +23,4 @@ returns-2 c =
     as-text (no-minus (s .args .year) (s .fits .year) (c .if1 .left)) (nothing (s .args .out .now) (s .args .at))
 
 pub put-minus-spec : {M : Type 1} → statement M
-put-minus-spec = tie.close (tie.spec put-byte-requires same-length returns returns-2)
+put-minus-spec = tie.close (tie.spec put-byte-requires (λ c. search needs) returns returns-2)

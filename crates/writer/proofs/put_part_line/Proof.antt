@@ -1,7 +1,7 @@
 use Rattle.writer.specs.Fields.{line, prefix}
-use Rattle.writer.specs.Numbers.{decimal}
+use Rattle.puts.specs.Numbers.{decimal}
 use Rattle.writer.specs.Texts.{partText}
-use Rattle.writer.proofs.Puts.{both, first-fits, room}
+use Rattle.puts.proofs.Puts.{both, first-fits, room}
 use mathlib.Core.List.{[], _∷_, _++_}
 use native.Mathlib.Omega.{arith}
 use borrow.Author.Needs.{needs}
@@ -29,9 +29,6 @@ put-byte-requires c κs =
     let s = b7 .before .before .before .before in
     room (both (b7 .put-name .ensures) (b3 .put-decimal .ensures)) (10 ∷ []) (s .pre)
 
-same-length : tie.Need-same-length
-same-length c = search needs
-
 returns : tie.Need-returns
 unfolding line partText
 returns c =
@@ -43,4 +40,4 @@ returns c =
 pub put-part-line-spec : {M : Type 1} → statement M
 put-part-line-spec =
     tie.close
-    (tie.spec put-name-requires put-decimal-requires put-byte-requires same-length returns)
+    (tie.spec put-name-requires put-decimal-requires put-byte-requires (λ c. search needs) returns)

@@ -1,7 +1,7 @@
 use Rattle.writer.specs.Texts.{partText}
 use Rattle.writer.specs.Fields.{partLines, line}
 use Rattle.chars.specs.Ascii.{ascii}
-use Rattle.writer.proofs.Puts.{both, first-fits, fits-as, room, as-text, nothing}
+use Rattle.puts.proofs.Puts.{both, first-fits, fits-as, room, as-text, nothing}
 use mathlib.Core.Path.{ap}
 use borrow.Author.Needs.{needs}
 use Rattle.writer.proofs.put_part_lines.Statement.{statement}
@@ -13,9 +13,6 @@ enum-told c = c .match .keys1
 enum-known-p : tie.Need-enum-known-p
 enum-known-p c = c .match .keys2
 
-slice-aggregate-put-part-line : tie.Need-slice-aggregate-put-part-line
-slice-aggregate-put-part-line c = search needs
-
 put-part-line-requires : tie.Need-put-part-line-requires
 unfolding partLines
 put-part-line-requires c κs =
@@ -26,18 +23,12 @@ put-part-line-requires c κs =
 enum-known-p-2 : tie.Need-enum-known-p-2
 enum-known-p-2 c = c .match .keys3
 
-slice-aggregate-put-part-line-2 : tie.Need-slice-aggregate-put-part-line-2
-slice-aggregate-put-part-line-2 c = search needs
-
 put-part-line-requires-2 : tie.Need-put-part-line-requires-2
 unfolding partLines
 put-part-line-requires-2 c κs =
     let b3 = c .before .before .before in
     let s = b3 .before .before .before in
     first-fits (line (s .args .end) (ascii "month=") (partText (b3 .p2 .given .0 .0 .0))) (line (s .args .end) (ascii "day=") (partText (b3 .p2 .given .0 .1 .0 .0))) (s .args .out .now) (s .args .at) (fits-as (s .args .out .now) (s .args .at) (ap (partLines (s .args .end)) (b3 .p2 .given .1)) (s .pre))
-
-slice-aggregate-put-part-line-3 : tie.Need-slice-aggregate-put-part-line-3
-slice-aggregate-put-part-line-3 c = search needs
 
 put-part-line-requires-3 : tie.Need-put-part-line-requires-3
 unfolding partLines
@@ -56,9 +47,6 @@ returns c =
     let s = c .before .before .before in
     as-text (ap (partLines (s .args .end)) (c .enum-told .given .1)) (nothing (s .args .out .now) (s .args .at))
 
-same-length : tie.Need-same-length
-same-length c = search needs
-
 returns-2 : tie.Need-returns-2
 unfolding partLines
 returns-2 c =
@@ -66,9 +54,6 @@ returns-2 c =
     let b6 = b2 .before .before .before .before in
     let s = b6 .before .before .before in
     as-text (ap (partLines (s .args .end)) (b6 .p .given .1)) (b2 .put-part-line .ensures)
-
-same-length-2 : tie.Need-same-length-2
-same-length-2 c = search needs
 
 returns-3 : tie.Need-returns-3
 unfolding partLines
@@ -91,17 +76,17 @@ put-part-lines-spec =
     (tie.spec
     enum-told
     enum-known-p
-    slice-aggregate-put-part-line
+    (λ c. search needs)
     put-part-line-requires
     enum-known-p-2
-    slice-aggregate-put-part-line-2
+    (λ c. search needs)
     put-part-line-requires-2
-    slice-aggregate-put-part-line-3
+    (λ c. search needs)
     put-part-line-requires-3
     enum-told-2
     returns
-    same-length
+    (λ c. search needs)
     returns-2
-    same-length-2
+    (λ c. search needs)
     returns-3
     returns-4)

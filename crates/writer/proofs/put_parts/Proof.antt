@@ -1,5 +1,5 @@
 use Rattle.writer.specs.Texts.{hyphenPart, partsText}
-use Rattle.writer.proofs.Puts.{first-fits, room, both, as-text, nothing, fits-as}
+use Rattle.puts.proofs.Puts.{first-fits, room, both, as-text, nothing, fits-as}
 use mathlib.Core.Path.{ap}
 use borrow.Author.Needs.{needs}
 use Rattle.writer.proofs.put_parts.Statement.{statement}
@@ -45,18 +45,12 @@ returns c =
     let s = c .before .before .before in
     as-text (ap partsText (c .enum-told .given .1)) (nothing (s .args .out .now) (s .args .at))
 
-same-length : tie.Need-same-length
-same-length c = search needs
-
 returns-2 : tie.Need-returns-2
 unfolding partsText
 returns-2 c =
     let b2 = c .before .before in
     let b5 = b2 .before .before .before in
     as-text (ap partsText (b5 .p .given .1)) (b2 .put-hyphen-part .ensures)
-
-same-length-2 : tie.Need-same-length-2
-same-length-2 c = search needs
 
 returns-3 : tie.Need-returns-3
 unfolding partsText
@@ -84,8 +78,8 @@ put-parts-spec =
     put-hyphen-part-requires-3
     enum-told-2
     returns
-    same-length
+    (λ c. search needs)
     returns-2
-    same-length-2
+    (λ c. search needs)
     returns-3
     returns-4)

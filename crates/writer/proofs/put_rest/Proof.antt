@@ -1,27 +1,9 @@
 use native.Mathlib.Omega.{arith}
 use Rattle.writer.specs.Texts.{datetimeText}
-use Rattle.writer.proofs.Puts.{lent}
+use Rattle.puts.proofs.Puts.{lent}
 use borrow.Author.Needs.{needs}
 use Rattle.writer.proofs.put_rest.Statement.{statement}
 use Rattle.writer.proofs.put_rest.Tie as tie
-
-sub-put-datetime : tie.Need-sub-put-datetime
-sub-put-datetime c = omega arith
-
-part-put-datetime-start : tie.Need-part-put-datetime-start
-part-put-datetime-start c = omega arith
-
-part-put-datetime-end : tie.Need-part-put-datetime-end
-part-put-datetime-end c = omega arith
-
-put-datetime-requires : tie.Need-put-datetime-requires
-put-datetime-requires c κs = search needs
-
-add-result : tie.Need-add-result
-add-result c = omega arith
-
-same-length : tie.Need-same-length
-same-length c = search needs
 
 returns : tie.Need-returns
 returns c =
@@ -33,10 +15,10 @@ pub put-rest-spec : {M : Type 1} → statement M
 put-rest-spec =
     tie.close
     (tie.spec
-    sub-put-datetime
-    part-put-datetime-start
-    part-put-datetime-end
-    put-datetime-requires
-    add-result
-    same-length
+    (λ c. omega arith)
+    (λ c. omega arith)
+    (λ c. omega arith)
+    (λ c κs. search needs)
+    (λ c. omega arith)
+    (λ c. search needs)
     returns)

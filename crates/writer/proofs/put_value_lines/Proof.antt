@@ -1,5 +1,5 @@
 use Rattle.writer.specs.Fields.{endLines, valueLines}
-use Rattle.writer.proofs.Puts.{both, first-fits, room, as-text, front-as}
+use Rattle.puts.proofs.Puts.{both, first-fits, room, as-text, front-as}
 use mathlib.Core.Bool.{true, false}
 use mathlib.Core.Path.{ap}
 use borrow.Author.Needs.{needs}
@@ -54,18 +54,12 @@ put-end-lines-requires-5 c κs =
     let s = b6 .before .before .before in
     room (b3 .put-end-lines4 .ensures) (endLines true (b6 .v4 .given .0 .1 .0)) (front-as (s .args .out .now) (ap valueLines (b6 .v4 .given .1)) (s .pre))
 
-same-length : tie.Need-same-length
-same-length c = search needs
-
 returns : tie.Need-returns
 unfolding valueLines
 returns c =
     let b2 = c .before .before in
     let b5 = b2 .before .before .before in
     as-text (ap valueLines (b5 .v .given .1)) (b2 .put-end-lines .ensures)
-
-same-length-2 : tie.Need-same-length-2
-same-length-2 c = search needs
 
 returns-2 : tie.Need-returns-2
 unfolding valueLines
@@ -74,18 +68,12 @@ returns-2 c =
     let b5 = b2 .before .before .before in
     as-text (ap valueLines (b5 .v2 .given .1)) (b2 .put-end-lines2 .ensures)
 
-same-length-3 : tie.Need-same-length-3
-same-length-3 c = search needs
-
 returns-3 : tie.Need-returns-3
 unfolding valueLines
 returns-3 c =
     let b2 = c .before .before in
     let b5 = b2 .before .before .before in
     as-text (ap valueLines (b5 .v3 .given .1)) (b2 .put-end-lines3 .ensures)
-
-same-length-4 : tie.Need-same-length-4
-same-length-4 c = search needs
 
 returns-4 : tie.Need-returns-4
 unfolding valueLines
@@ -108,11 +96,11 @@ put-value-lines-spec =
     enum-known-v-4
     put-end-lines-requires-4
     put-end-lines-requires-5
-    same-length
+    (λ c. search needs)
     returns
-    same-length-2
+    (λ c. search needs)
     returns-2
-    same-length-3
+    (λ c. search needs)
     returns-3
-    same-length-4
+    (λ c. search needs)
     returns-4)

@@ -1,8 +1,8 @@
 use Rattle.chars.specs.Utf8.{first}
-use Rattle.writer.specs.Numbers.{decimal}
+use Rattle.puts.specs.Numbers.{decimal}
 use Rattle.writer.proofs.Pieces.{year-digits}
 use Rattle.writer.specs.Texts.{yearText, minus}
-use Rattle.writer.proofs.Puts.{room, as-text, both, fits-as, first-fits}
+use Rattle.puts.proofs.Puts.{room, as-text, both, fits-as, first-fits}
 use native.Mathlib.Omega.{arith}
 use lib.IntN.{natAbs}
 use mir.Syntax.{w32}
@@ -10,9 +10,6 @@ use mir.ValLaws.{toZ-ofZ}
 use borrow.Author.Needs.{needs}
 use Rattle.writer.proofs.put_year.Statement.{statement}
 use Rattle.writer.proofs.put_year.Tie as tie
-
-magnitude-requires : tie.Need-magnitude-requires
-magnitude-requires c κs = search needs
 
 put-minus-requires : tie.Need-put-minus-requires
 unfolding yearText
@@ -28,9 +25,6 @@ put-decimal-requires c κs =
     let first = rw (toZ-ofZ w32 (s .args .year) (s .fits .year)) at (b3 .put-minus .ensures) in
     (omega arith, room first (decimal 4 (b5 .magnitude .result)) (fits-as (s .args .out .now) (s .args .at) (year-digits (s .args .year) (s .fits .year) (b5 .magnitude .ensures)) (s .pre)))
 
-same-length : tie.Need-same-length
-same-length c = search needs
-
 returns : tie.Need-returns
 returns c =
     let b2 = c .before .before in
@@ -43,4 +37,4 @@ returns c =
 pub put-year-spec : {M : Type 1} → statement M
 put-year-spec =
     tie.close
-    (tie.spec magnitude-requires put-minus-requires put-decimal-requires same-length returns)
+    (tie.spec (λ c κs. search needs) put-minus-requires put-decimal-requires (λ c. search needs) returns)

@@ -1,16 +1,13 @@
 use Rattle.writer.specs.Texts.{yearText}
 use Rattle.writer.specs.Fields.{line, prefix}
 use Rattle.chars.specs.Ascii.{ascii}
-use Rattle.writer.proofs.Puts.{both, first-fits, room}
+use Rattle.puts.proofs.Puts.{both, first-fits, room}
 use mathlib.Core.List.{[], _∷_, _++_}
 use mir.Syntax.{w32}
 use mir.ValLaws.{toZ-ofZ}
 use borrow.Author.Needs.{needs}
 use Rattle.writer.proofs.put_year_line.Statement.{statement}
 use Rattle.writer.proofs.put_year_line.Tie as tie
-
-slice-aggregate-put-name : tie.Need-slice-aggregate-put-name
-slice-aggregate-put-name c = search needs
 
 put-name-requires : tie.Need-put-name-requires
 unfolding line
@@ -33,9 +30,6 @@ put-byte-requires c κs =
     let s = b7 .before .before .before .before in
     let y = rw (toZ-ofZ w32 (s .args .year) (s .fits .year)) at (b3 .put-year .ensures) in room (both (b7 .put-name .ensures) y) (10 ∷ []) (s .pre)
 
-same-length : tie.Need-same-length
-same-length c = search needs
-
 returns : tie.Need-returns
 unfolding line
 returns c =
@@ -49,9 +43,9 @@ pub put-year-line-spec : {M : Type 1} → statement M
 put-year-line-spec =
     tie.close
     (tie.spec
-    slice-aggregate-put-name
+    (λ c. search needs)
     put-name-requires
     put-year-requires
     put-byte-requires
-    same-length
+    (λ c. search needs)
     returns)

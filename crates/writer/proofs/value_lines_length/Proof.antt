@@ -12,32 +12,14 @@ use Rattle.writer.proofs.value_lines_length.Tie as tie
 enum-known-v : tie.Need-enum-known-v
 enum-known-v c = c .match .keys1
 
-end-lines-length-requires : tie.Need-end-lines-length-requires
-end-lines-length-requires c κs = search needs
-
 enum-known-v-2 : tie.Need-enum-known-v-2
 enum-known-v-2 c = c .match .keys2
-
-end-lines-length-requires-2 : tie.Need-end-lines-length-requires-2
-end-lines-length-requires-2 c κs = search needs
 
 enum-known-v-3 : tie.Need-enum-known-v-3
 enum-known-v-3 c = c .match .keys3
 
-end-lines-length-requires-3 : tie.Need-end-lines-length-requires-3
-end-lines-length-requires-3 c κs = search needs
-
 enum-known-v-4 : tie.Need-enum-known-v-4
 enum-known-v-4 c = c .match .keys4
-
-end-lines-length-requires-4 : tie.Need-end-lines-length-requires-4
-end-lines-length-requires-4 c κs = search needs
-
-end-lines-length-requires-5 : tie.Need-end-lines-length-requires-5
-end-lines-length-requires-5 c κs = search needs
-
-add-result : tie.Need-add-result
-add-result c = omega arith
 
 returns : tie.Need-returns
 unfolding valueLines
@@ -69,15 +51,15 @@ value-lines-length-spec =
     tie.close
     (tie.spec
     enum-known-v
-    end-lines-length-requires
+    (λ c κs. search needs)
     enum-known-v-2
-    end-lines-length-requires-2
+    (λ c κs. search needs)
     enum-known-v-3
-    end-lines-length-requires-3
+    (λ c κs. search needs)
     enum-known-v-4
-    end-lines-length-requires-4
-    end-lines-length-requires-5
-    add-result
+    (λ c κs. search needs)
+    (λ c κs. search needs)
+    (λ c. omega arith)
     returns
     returns-2
     returns-3

@@ -4,24 +4,6 @@ use borrow.Author.Needs.{needs}
 use Rattle.writer.proofs.write_date.Statement.{statement}
 use Rattle.writer.proofs.write_date.Tie as tie
 
-date-length-requires : tie.Need-date-length-requires
-date-length-requires c κs = search needs
-
-enum-told : tie.Need-enum-told
-enum-told c = search needs
-
-write-text-requires : tie.Need-write-text-requires
-write-text-requires c κs = search needs
-
-enum-known-e : tie.Need-enum-known-e
-enum-known-e c = search needs
-
-same-length : tie.Need-same-length
-same-length c = search needs
-
-returns : tie.Need-returns
-returns c = search needs
-
 returns-2 : tie.Need-returns-2
 returns-2 c =
     let b3 = c .before .before .before in
@@ -33,10 +15,10 @@ pub write-date-spec : {M : Type 1} → statement M
 write-date-spec =
     tie.close
     (tie.spec
-    date-length-requires
-    enum-told
-    write-text-requires
-    enum-known-e
-    same-length
-    returns
+    (λ c κs. search needs)
+    (λ c. search needs)
+    (λ c κs. search needs)
+    (λ c. search needs)
+    (λ c. search needs)
+    (λ c. search needs)
     returns-2)

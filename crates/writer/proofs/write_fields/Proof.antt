@@ -4,12 +4,6 @@ use borrow.Author.Needs.{needs}
 use Rattle.writer.proofs.write_fields.Statement.{statement}
 use Rattle.writer.proofs.write_fields.Tie as tie
 
-fields-length-requires : tie.Need-fields-length-requires
-fields-length-requires c κs = search needs
-
-decide-requires : tie.Need-decide-requires
-decide-requires c κs = search needs
-
 enum-told : tie.Need-enum-told
 enum-told c = c .match .keys1
 
@@ -24,9 +18,6 @@ put-value-lines-requires c κs =
 
 enum-known-e : tie.Need-enum-known-e
 enum-known-e c = c .match .keys2
-
-same-length : tie.Need-same-length
-same-length c = search needs
 
 returns : tie.Need-returns
 unfolding fieldsText
@@ -50,11 +41,11 @@ pub write-fields-spec : {M : Type 1} → statement M
 write-fields-spec =
     tie.close
     (tie.spec
-    fields-length-requires
-    decide-requires
+    (λ c κs. search needs)
+    (λ c κs. search needs)
     enum-told
     put-value-lines-requires
     enum-known-e
-    same-length
+    (λ c. search needs)
     returns
     returns-2)

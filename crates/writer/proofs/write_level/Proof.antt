@@ -1,14 +1,8 @@
 use Rattle.writer.specs.Level.{levelPanics, levelText}
-use Rattle.writer.proofs.Answered.{fits, refuses, done}
+use Rattle.puts.proofs.Answered.{fits, refuses, done}
 use borrow.Author.Needs.{needs}
 use Rattle.writer.proofs.write_level.Statement.{statement}
 use Rattle.writer.proofs.write_level.Tie as tie
-
-level-length-requires : tie.Need-level-length-requires
-level-length-requires c κs = search needs
-
-decide-requires : tie.Need-decide-requires
-decide-requires c κs = search needs
 
 enum-told : tie.Need-enum-told
 enum-told c = c .match .keys1
@@ -23,9 +17,6 @@ put-level-date-requires c κs =
 
 enum-known-e : tie.Need-enum-known-e
 enum-known-e c = c .match .keys2
-
-same-length : tie.Need-same-length
-same-length c = search needs
 
 returns : tie.Need-returns
 returns c =
@@ -50,11 +41,11 @@ pub write-level-spec : {M : Type 1} → statement M
 write-level-spec =
     tie.close
     (tie.spec
-    level-length-requires
-    decide-requires
+    (λ c κs. search needs)
+    (λ c κs. search needs)
     enum-told
     put-level-date-requires
     enum-known-e
-    same-length
+    (λ c. search needs)
     returns
     returns-2)

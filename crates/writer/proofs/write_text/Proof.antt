@@ -4,12 +4,6 @@ use borrow.Author.Needs.{needs}
 use Rattle.writer.proofs.write_text.Statement.{statement}
 use Rattle.writer.proofs.write_text.Tie as tie
 
-date-length-requires : tie.Need-date-length-requires
-date-length-requires c κs = search needs
-
-decide-requires : tie.Need-decide-requires
-decide-requires c κs = search needs
-
 enum-told : tie.Need-enum-told
 enum-told c = c .match .keys1
 
@@ -23,9 +17,6 @@ put-date-requires c κs =
 
 enum-known-e : tie.Need-enum-known-e
 enum-known-e c = c .match .keys2
-
-same-length : tie.Need-same-length
-same-length c = search needs
 
 returns : tie.Need-returns
 returns c =
@@ -50,11 +41,11 @@ pub write-text-spec : {M : Type 1} → statement M
 write-text-spec =
     tie.close
     (tie.spec
-    date-length-requires
-    decide-requires
+    (λ c κs. search needs)
+    (λ c κs. search needs)
     enum-told
     put-date-requires
     enum-known-e
-    same-length
+    (λ c. search needs)
     returns
     returns-2)

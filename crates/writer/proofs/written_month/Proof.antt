@@ -4,12 +4,9 @@ use mathlib.Core.Path.{refl}
 use Rattle.writer.proofs.written_month.Statement.{statement}
 use Rattle.writer.proofs.written_month.Tie as tie
 
-add-t2 : tie.Need-add-t2
-add-t2 c = omega arith
-
 returns : tie.Need-returns
 unfolding writtenMonth
 returns c = refl
 
 pub written-month-spec : {M : Type 1} → statement M
-written-month-spec = tie.close (tie.spec add-t2 returns)
+written-month-spec = tie.close (tie.spec (λ c. omega arith) returns)

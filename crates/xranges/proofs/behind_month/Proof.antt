@@ -5,27 +5,6 @@ use borrow.Author.Needs.{needs}
 use Rattle.xranges.proofs.behind_month.Statement.{statement}
 use Rattle.xranges.proofs.behind_month.Tie as tie
 
-get-hyphen-requires : tie.Need-get-hyphen-requires
-get-hyphen-requires c κs = search needs
-
-enum-known-c1 : tie.Need-enum-known-c1
-enum-known-c1 c = search needs
-
-eat-while-requires : tie.Need-eat-while-requires
-eat-while-requires c κs = search needs
-
-len-requires : tie.Need-len-requires
-len-requires c κs = search needs
-
-eat-whitespace-requires : tie.Need-eat-whitespace-requires
-eat-whitespace-requires c κs = search needs
-
-done-requires : tie.Need-done-requires
-done-requires c κs = search needs
-
-days-requires : tie.Need-days-requires
-days-requires c κs = search needs
-
 returns : tie.Need-returns
 unfolding behindMonth onHyphen dayRun endOfDays pick
 returns c =
@@ -39,9 +18,6 @@ returns c =
     let b10 = b8 .before .before in
     simp (← b10 .get-hyphen .ensures, b8 .c1 .given .1, ← b6 .eat-while .ensures, ← b5 .len .ensures, eq-eqb _ _ (b4 .if1 .taken), ← b3 .eat-whitespace .ensures, ← b2 .done .ensures, b1 .if2 .taken, ← c .days .ensures)
 
-here-requires : tie.Need-here-requires
-here-requires c κs = search needs
-
 returns-2 : tie.Need-returns-2
 unfolding behindMonth onHyphen dayRun endOfDays pick
 returns-2 c =
@@ -54,12 +30,6 @@ returns-2 c =
     let b8 = b6 .before .before in
     let b10 = b8 .before .before in
     simp (← b10 .get-hyphen .ensures, b8 .c1 .given .1, ← b6 .eat-while .ensures, ← b5 .len .ensures, eq-eqb _ _ (b4 .if1 .taken), ← b3 .eat-whitespace .ensures, ← b2 .done .ensures, b1 .if2 .left, ← c .here .ensures)
-
-here-requires-2 : tie.Need-here-requires-2
-here-requires-2 c κs = search needs
-
-enum-known-e : tie.Need-enum-known-e
-enum-known-e c = search needs
 
 returns-3 : tie.Need-returns-3
 unfolding behindMonth onHyphen dayRun endOfDays pick
@@ -82,17 +52,17 @@ pub behind-month-spec : {M : Type 1} → statement M
 behind-month-spec =
     tie.close
     (tie.spec
-    get-hyphen-requires
-    enum-known-c1
-    eat-while-requires
-    len-requires
-    eat-whitespace-requires
-    done-requires
-    days-requires
+    (λ c κs. search needs)
+    (λ c. search needs)
+    (λ c κs. search needs)
+    (λ c κs. search needs)
+    (λ c κs. search needs)
+    (λ c κs. search needs)
+    (λ c κs. search needs)
     returns
-    here-requires
+    (λ c κs. search needs)
     returns-2
-    here-requires-2
-    enum-known-e
+    (λ c κs. search needs)
+    (λ c. search needs)
     returns-3
     returns-4)

@@ -5,15 +5,6 @@ use borrow.Author.Needs.{needs}
 use Rattle.xranges.proofs.behind_months.Statement.{statement}
 use Rattle.xranges.proofs.behind_months.Tie as tie
 
-eat-whitespace-requires : tie.Need-eat-whitespace-requires
-eat-whitespace-requires c κs = search needs
-
-done-requires : tie.Need-done-requires
-done-requires c κs = search needs
-
-months-requires : tie.Need-months-requires
-months-requires c κs = search needs
-
 returns : tie.Need-returns
 unfolding behindMonths secondAt onHyphen secondRun pick
 returns c =
@@ -21,21 +12,6 @@ returns c =
     let b2 = b1 .before in
     let b3 = b2 .before in
     simp (← b3 .eat-whitespace .ensures, ← b2 .done .ensures, b1 .if1 .taken, ← c .months .ensures)
-
-get-hyphen-requires : tie.Need-get-hyphen-requires
-get-hyphen-requires c κs = search needs
-
-enum-known-c2 : tie.Need-enum-known-c2
-enum-known-c2 c = search needs
-
-eat-while-requires : tie.Need-eat-while-requires
-eat-while-requires c κs = search needs
-
-len-requires : tie.Need-len-requires
-len-requires c κs = search needs
-
-months-requires-2 : tie.Need-months-requires-2
-months-requires-2 c κs = search needs
 
 returns-2 : tie.Need-returns-2
 unfolding behindMonths secondAt onHyphen secondRun pick
@@ -49,12 +25,6 @@ returns-2 c =
     let b9 = b8 .before in
     let b10 = b9 .before in
     simp (← b10 .eat-whitespace .ensures, ← b9 .done .ensures, b8 .if1 .left, ← b7 .get-hyphen .ensures, b5 .c2 .given .1, ← b3 .eat-while .ensures, ← b2 .len .ensures, eq-eqb _ _ (b1 .if2 .taken), ← c .months2 .ensures)
-
-here-requires : tie.Need-here-requires
-here-requires c κs = search needs
-
-enum-known-e : tie.Need-enum-known-e
-enum-known-e c = search needs
 
 returns-3 : tie.Need-returns-3
 unfolding behindMonths secondAt onHyphen secondRun pick
@@ -83,17 +53,17 @@ pub behind-months-spec : {M : Type 1} → statement M
 behind-months-spec =
     tie.close
     (tie.spec
-    eat-whitespace-requires
-    done-requires
-    months-requires
+    (λ c κs. search needs)
+    (λ c κs. search needs)
+    (λ c κs. search needs)
     returns
-    get-hyphen-requires
-    enum-known-c2
-    eat-while-requires
-    len-requires
-    months-requires-2
+    (λ c κs. search needs)
+    (λ c. search needs)
+    (λ c κs. search needs)
+    (λ c κs. search needs)
+    (λ c κs. search needs)
     returns-2
-    here-requires
-    enum-known-e
+    (λ c κs. search needs)
+    (λ c. search needs)
     returns-3
     returns-4)

@@ -5,30 +5,6 @@ use borrow.Author.Needs.{needs}
 use Rattle.xranges.proofs.behind_year.Statement.{statement}
 use Rattle.xranges.proofs.behind_year.Tie as tie
 
-get-hyphen-requires : tie.Need-get-hyphen-requires
-get-hyphen-requires c κs = search needs
-
-enum-known-idx : tie.Need-enum-known-idx
-enum-known-idx c = search needs
-
-eat-while-requires : tie.Need-eat-while-requires
-eat-while-requires c κs = search needs
-
-len-requires : tie.Need-len-requires
-len-requires c κs = search needs
-
-month-requires : tie.Need-month-requires
-month-requires c κs = search needs
-
-behind-months-requires : tie.Need-behind-months-requires
-behind-months-requires c κs = search needs
-
-refuse-text-requires : tie.Need-refuse-text-requires
-refuse-text-requires c κs = search needs
-
-enum-known-e : tie.Need-enum-known-e
-enum-known-e c = search needs
-
 returns : tie.Need-returns
 unfolding behindYear onHyphen monthsRun pick
 returns c =
@@ -68,14 +44,14 @@ pub behind-year-spec : {M : Type 1} → statement M
 behind-year-spec =
     tie.close
     (tie.spec
-    get-hyphen-requires
-    enum-known-idx
-    eat-while-requires
-    len-requires
-    month-requires
-    behind-months-requires
-    refuse-text-requires
-    enum-known-e
+    (λ c κs. search needs)
+    (λ c. search needs)
+    (λ c κs. search needs)
+    (λ c κs. search needs)
+    (λ c κs. search needs)
+    (λ c κs. search needs)
+    (λ c κs. search needs)
+    (λ c. search needs)
     returns
     returns-2
     returns-3

@@ -5,15 +5,6 @@ use borrow.Author.Needs.{needs}
 use Rattle.xranges.proofs.month.Statement.{statement}
 use Rattle.xranges.proofs.month.Tie as tie
 
-eat-while-requires : tie.Need-eat-while-requires
-eat-while-requires c κs = search needs
-
-len-requires : tie.Need-len-requires
-len-requires c κs = search needs
-
-refuse-text-requires : tie.Need-refuse-text-requires
-refuse-text-requires c κs = search needs
-
 returns : tie.Need-returns
 unfolding month monthRun onValue pick
 returns c =
@@ -21,18 +12,6 @@ returns c =
     let b2 = b1 .before in
     let b3 = b2 .before in
     simp (← b3 .eat-while .ensures, ← b2 .len .ensures, ne-eqb _ _ (b1 .if1 .taken), ← c .refuse-text .ensures)
-
-from-requires : tie.Need-from-requires
-from-requires c κs = search needs
-
-parse-requires : tie.Need-parse-requires
-parse-requires c κs = search needs
-
-enum-known-written : tie.Need-enum-known-written
-enum-known-written c = search needs
-
-panics-requires : tie.Need-panics-requires
-panics-requires c κs = search needs
 
 returns-2 : tie.Need-returns-2
 unfolding month monthRun onValue pick
@@ -46,9 +25,6 @@ returns-2 c =
     let b9 = b8 .before in
     simp (← b9 .eat-while .ensures, ← b8 .len .ensures, eq-eqb _ _ (b7 .if1 .left), ← b6 .from .ensures, ← b5 .parse .ensures, b3 .written .given .1, eq-eqb _ _ (b1 .if2 .taken), ← c .panics .ensures)
 
-refuse-text-requires-2 : tie.Need-refuse-text-requires-2
-refuse-text-requires-2 c κs = search needs
-
 returns-3 : tie.Need-returns-3
 unfolding month monthRun onValue pick
 returns-3 c =
@@ -61,21 +37,6 @@ returns-3 c =
     let b9 = b8 .before in
     let b10 = b9 .before in
     simp (← b10 .eat-while .ensures, ← b9 .len .ensures, eq-eqb _ _ (b8 .if1 .left), ← b7 .from .ensures, ← b6 .parse .ensures, b4 .written .given .1, ne-eqb _ _ (b2 .if2 .left), lt-ltb _ _ (b1 .if3 .taken), ← c .refuse-text2 .ensures)
-
-sub-t18 : tie.Need-sub-t18
-sub-t18 c = search needs
-
-cast-t19 : tie.Need-cast-t19
-cast-t19 c = search needs
-
-behind-month-requires : tie.Need-behind-month-requires
-behind-month-requires c κs = search needs
-
-enum-told : tie.Need-enum-told
-enum-told c = search needs
-
-panics-requires-2 : tie.Need-panics-requires-2
-panics-requires-2 c κs = search needs
 
 returns-4 : tie.Need-returns-4
 unfolding month monthRun onValue pick
@@ -105,21 +66,21 @@ pub month-spec : {M : Type 1} → statement M
 month-spec =
     tie.close
     (tie.spec
-    eat-while-requires
-    len-requires
-    refuse-text-requires
+    (λ c κs. search needs)
+    (λ c κs. search needs)
+    (λ c κs. search needs)
     returns
-    from-requires
-    parse-requires
-    enum-known-written
-    panics-requires
+    (λ c κs. search needs)
+    (λ c κs. search needs)
+    (λ c. search needs)
+    (λ c κs. search needs)
     returns-2
-    refuse-text-requires-2
+    (λ c κs. search needs)
     returns-3
-    sub-t18
-    cast-t19
-    behind-month-requires
-    enum-told
-    panics-requires-2
+    (λ c. search needs)
+    (λ c. search needs)
+    (λ c κs. search needs)
+    (λ c. search needs)
+    (λ c κs. search needs)
     returns-4
     returns-5)

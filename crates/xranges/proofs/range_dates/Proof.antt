@@ -1,6 +1,6 @@
 use Rattle.scanner.proofs.Runs.{run-start, run-end}
 use Rattle.xranges.proofs.Bounds.{tens}
-use Rattle.strs.proofs.Digits.{value-in}
+use Rattle.numbers.proofs.Whole.{value-in}
 use native.Mathlib.Omega.{arith}
 use mathlib.Core.Path.{sym, _∙_}
 use Rattle.chars.specs.Pick.{pick}
@@ -9,15 +9,6 @@ use borrow.Author.Tests.{lt-ltb, le-ltb, eq-eqb, ne-eqb}
 use borrow.Author.Needs.{needs}
 use Rattle.xranges.proofs.range_dates.Statement.{statement}
 use Rattle.xranges.proofs.range_dates.Tie as tie
-
-next-run-requires : tie.Need-next-run-requires
-next-run-requires c κs = search needs
-
-len-requires : tie.Need-len-requires
-len-requires c κs = search needs
-
-panics-requires : tie.Need-panics-requires
-panics-requires c κs = search needs
 
 returns : tie.Need-returns
 unfolding rangeDates rangeFrom digitRun yearRun onValue pick
@@ -29,9 +20,6 @@ returns c =
     let e = b4 .before .next-run .ensures in
     simp (← run-start _ _ _ _ e, ← run-end _ _ _ _ e, ← b2 .len .ensures, lt-ltb _ _ (b1 .if1 .taken), ← c .panics .ensures)
 
-refuse-text-requires : tie.Need-refuse-text-requires
-refuse-text-requires c κs = search needs
-
 returns-2 : tie.Need-returns-2
 unfolding rangeDates rangeFrom digitRun yearRun onValue pick
 returns-2 c =
@@ -42,15 +30,6 @@ returns-2 c =
     let b5 = b4 .before in
     let e = b5 .before .next-run .ensures in
     simp (← run-start _ _ _ _ e, ← run-end _ _ _ _ e, ← b3 .len .ensures, le-ltb _ _ (b2 .if1 .left), lt-ltb _ _ (b1 .if2 .taken), ← c .refuse-text .ensures)
-
-eat-while-requires : tie.Need-eat-while-requires
-eat-while-requires c κs = search needs
-
-len-requires-2 : tie.Need-len-requires-2
-len-requires-2 c κs = search needs
-
-refuse-text-requires-2 : tie.Need-refuse-text-requires-2
-refuse-text-requires-2 c κs = search needs
 
 returns-3 : tie.Need-returns-3
 unfolding rangeDates rangeFrom digitRun yearRun onValue pick
@@ -65,15 +44,6 @@ returns-3 c =
     let b8 = b7 .before in
     let e = b8 .before .next-run .ensures in
     simp (← run-start _ _ _ _ e, ← run-end _ _ _ _ e, ← b6 .len .ensures, le-ltb _ _ (b5 .if1 .left), le-ltb _ _ (b4 .if2 .left), ← b3 .eat-while .ensures, ← b2 .len2 .ensures, ne-eqb _ _ (b1 .if3 .taken), ← c .refuse-text2 .ensures)
-
-from-requires : tie.Need-from-requires
-from-requires c κs = search needs
-
-parse-requires : tie.Need-parse-requires
-parse-requires c κs = search needs
-
-enum-known-year-part : tie.Need-enum-known-year-part
-enum-known-year-part c = search needs
 
 behind-year-requires : tie.Need-behind-year-requires
 behind-year-requires c κs = let h = value-in 9999 _ (sym (c .before .before .before .before .parse .ensures) ∙ c .before .before .year-part .given .1) in omega arith
@@ -96,17 +66,8 @@ returns-4 c =
     let e = b14 .before .next-run .ensures in
     simp (← run-start _ _ _ _ e, ← run-end _ _ _ _ e, ← b12 .len .ensures, le-ltb _ _ (b11 .if1 .left), le-ltb _ _ (b10 .if2 .left), ← b9 .eat-while .ensures, ← b8 .len2 .ensures, eq-eqb _ _ (b7 .if3 .left), ← b6 .from .ensures, ← b5 .parse .ensures, b3 .year-part .given .1, eq-eqb _ _ (b1 .if4 .taken), ← c .behind-year .ensures)
 
-variable-requires : tie.Need-variable-requires
-variable-requires c κs = search needs
-
 years-requires : tie.Need-years-requires
 years-requires c κs = let h = value-in 9999 _ (sym (c .before .before .before .before .before .parse .ensures) ∙ c .before .before .before .year-part .given .1) in let g = tens (c .before .before .before .before .before .before .before .before .before .before .before .before .len .result) in let e = c .variable .ensures in (omega arith, (omega arith, omega arith))
-
-enum-told : tie.Need-enum-told
-enum-told c = search needs
-
-panics-requires-2 : tie.Need-panics-requires-2
-panics-requires-2 c κs = search needs
 
 returns-5 : tie.Need-returns-5
 unfolding rangeDates rangeFrom digitRun yearRun onValue pick
@@ -148,24 +109,24 @@ pub range-dates-spec : {M : Type 1} → statement M
 range-dates-spec =
     tie.close
     (tie.spec
-    next-run-requires
-    len-requires
-    panics-requires
+    (λ c κs. search needs)
+    (λ c κs. search needs)
+    (λ c κs. search needs)
     returns
-    refuse-text-requires
+    (λ c κs. search needs)
     returns-2
-    eat-while-requires
-    len-requires-2
-    refuse-text-requires-2
+    (λ c κs. search needs)
+    (λ c κs. search needs)
+    (λ c κs. search needs)
     returns-3
-    from-requires
-    parse-requires
-    enum-known-year-part
+    (λ c κs. search needs)
+    (λ c κs. search needs)
+    (λ c. search needs)
     behind-year-requires
     returns-4
-    variable-requires
+    (λ c κs. search needs)
     years-requires
-    enum-told
-    panics-requires-2
+    (λ c. search needs)
+    (λ c κs. search needs)
     returns-5
     returns-6)

@@ -10,9 +10,6 @@ mul-year c = omega (arith, bounded (c .args .digits) (c .args .variable) (omega 
 date-requires : tie.Need-date-requires
 date-requires c κs = omega (arith, bounded (c .args .digits) (c .args .variable) (omega arith) (omega arith))
 
-sub-date : tie.Need-sub-date
-sub-date c = omega arith
-
 add-date : tie.Need-add-date
 add-date c = omega (arith, bounded (c .before .args .digits) (c .before .args .variable) (omega arith) (omega arith))
 
@@ -26,4 +23,4 @@ returns c =
     simp (← b1 .date .ensures, ← c .date2 .ensures)
 
 pub years-spec : {M : Type 1} → statement M
-years-spec = tie.close (tie.spec mul-year date-requires sub-date add-date date-requires-2 returns)
+years-spec = tie.close (tie.spec mul-year date-requires (λ c. omega arith) add-date date-requires-2 returns)

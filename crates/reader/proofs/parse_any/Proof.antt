@@ -1,0 +1,21 @@
+use Rattle.chunks.proofs.Buffers.{large-room, small-room}
+use borrow.Author.Needs.{needs}
+use Rattle.reader.proofs.parse_any.Statement.{statement}
+use Rattle.reader.proofs.parse_any.Tie as tie
+
+parse-in-requires : tie.Need-parse-in-requires
+parse-in-requires c κs = let a = c .before .before .before .before .before .args in small-room (a .bytes .now) (a .table .now) (c .before .before .if1 .taken) (c .before .if2 .taken)
+
+parse-in-requires-2 : tie.Need-parse-in-requires-2
+parse-in-requires-2 c κs = large-room (c .before .before .before .before .args .bytes .now) (c .before .before .before .before .args .table .now)
+
+pub parse-any-spec : {M : Type 1} → statement M
+parse-any-spec =
+    tie.close
+    (tie.spec
+    (λ c. search needs)
+    parse-in-requires
+    (λ c. search needs)
+    (λ c. search needs)
+    parse-in-requires-2
+    (λ c. search needs))

@@ -1,0 +1,4 @@
+pub mod Entries
+pub mod Single
+pub mod Stored
+pub mod Examples

@@ -1,0 +1,45 @@
+-- What three fields give: a single date with no mark, or a refusal.
+-- Assumes nothing.
+use mathlib.Core.Bool.{Bool}
+use mathlib.Core.List.{List}
+use Prim.Native.Nat.{ℕ}
+use lib.IntN.{ℤ}
+use Rattle.refusals.specs.declared.Refusal.{Refusal}
+use Rattle.chunks.specs.declared.Checked.{Checked}
+use Rattle.chunks.specs.declared.Checked.the-variants.{Clean, Faulty}
+use Rattle.dates.specs.declared.OptionTime.the-variants.{NoTime}
+use Rattle.dates.specs.declared.Datetime.{Datetime}
+use Rattle.dates.specs.Value.{datetime, fromDatetime}
+use Rattle.refusals.specs.declared.ReadDate.{ReadDate}
+use Rattle.refusals.specs.declared.ReadDate.the-variants.{Accepted, Refused}
+use Rattle.reading_laws.specs.declared.FieldYear.{FieldYear}
+use Rattle.reading_laws.specs.declared.FieldYear.the-variants.{YearIs, NoFieldYear}
+use Rattle.reading_laws.specs.declared.Parts.{Parts}
+use Rattle.reading_laws.specs.declared.Parts.the-variants.{PartsAre, NoParts}
+use Rattle.reading_laws.specs.Field.{onClean}
+use Rattle.reading_laws.specs.Fields.{partsOf, dated, onYear, readFields, threeFields}
+
+-- a single date with no mark, or a refusal
+pub data Single : ReadDate → Type 0 where
+  one : (a : Datetime) → Single (Accepted (fromDatetime a))
+  none : {e : Refusal} → Single (Refused e)
+
+dated-single : (y : ℤ) (p : Parts) → Single (dated y p)
+unfolding dated
+dated-single y (PartsAre m k) = one (datetime y m k NoTime)
+dated-single y (NoParts e) = none
+
+year-single : (f : FieldYear) {go : ℤ → ReadDate} → ((y : ℤ) → Single (go y)) → Single (onYear f go)
+unfolding onYear
+year-single (YearIs y) h = h y
+year-single (NoFieldYear e) h = none
+
+clean-single : (k : Checked) {r : ReadDate} → Single r → Single (onClean k r)
+unfolding onClean
+clean-single Clean h = h
+clean-single (Faulty e) h = none
+
+-- three fields give no other
+pub three-single : (b table : List ℕ) (hm : Bool) (m mt : List ℕ) (hd : Bool) (dy dt : List ℕ) → Single (threeFields b table hm m mt hd dy dt)
+unfolding threeFields readFields
+three-single b table hm m mt hd dy dt = clean-single _ (year-single _ (λ y. dated-single y (partsOf hm m mt hd dy dt)))

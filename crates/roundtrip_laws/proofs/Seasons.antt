@@ -1,0 +1,46 @@
+-- The readers that know no seasons never give one. Assumes nothing.
+use mathlib.Core.Path.{_≡_, refl, ap, subst}
+use mathlib.Core.Bool.{Bool, false}
+use mathlib.Core.List.{List}
+use mathlib.Core.Logic.{⊎-elim}
+use Prim.Native.Nat.{ℕ}
+use Rattle.dates.specs.declared.Datetime.{Datetime}
+use Rattle.dates.specs.declared.DateValue.{DateValue}
+use Rattle.dates.specs.declared.DateValue.the-variants.{At, After, Before, Between}
+use Rattle.dates.specs.declared.Date.{Date}
+use Rattle.dates.specs.Value.{isSeason, hasSeason, anySeason}
+use Rattle.points.proofs.Accepted.{Dated}
+use Rattle.refusals.specs.declared.ReadDate.the-variants.{Accepted}
+use Rattle.reading_laws.specs.Field.{parsed, parsedStrict}
+use Rattle.reading_laws.specs.Fields.{threeFields}
+use Rattle.reading_laws.proofs.Stored.{FieldsIn, fields, three-in}
+use Rattle.roundtrip_laws.specs.Domain.{ShortMonthRange, days-xx}
+use Rattle.roundtrip_laws.proofs.Accepted.{AllDated, accepted-known}
+use Rattle.roundtrip_laws.proofs.Strictly.{strict-dated}
+
+end-none : (d : Datetime) → Dated d → hasSeason d ≡ false
+end-none d w = ap isSeason (w .unseasoned)
+
+dated-none : (v : DateValue) → AllDated v → anySeason v ≡ false
+dated-none (At a) w = end-none a w
+dated-none (After a) w = end-none a w
+dated-none (Before a) w = end-none a w
+dated-none (Between a b) w = rw (end-none a (w .0), end-none b (w .1))
+
+short-none : {v : DateValue} → ShortMonthRange v → anySeason v ≡ false
+short-none (days-xx y m h l n) = refl
+
+-- the ported reader
+pub ported-none : (b table : List ℕ) {d : Date} → parsed b table ≡ Accepted d → anySeason (d .value) ≡ false
+ported-none b table {d} e = ⊎-elim (λ w. dated-none (d .value) w) (λ r. short-none r) (accepted-known b table e)
+
+-- the strict reader
+pub strict-none : (b table : List ℕ) {d : Date} → parsedStrict b table ≡ Accepted d → anySeason (d .value) ≡ false
+strict-none b table {d} e = dated-none (d .value) (strict-dated b table e)
+
+fields-none : {d : Date} → FieldsIn (Accepted d) → anySeason (d .value) ≡ false
+fields-none (fields h k l) = refl
+
+-- three fields
+pub three-none : (b table : List ℕ) (hm : Bool) (m mt : List ℕ) (hd : Bool) (dy dt : List ℕ) {d : Date} → threeFields b table hm m mt hd dy dt ≡ Accepted d → anySeason (d .value) ≡ false
+three-none b table hm m mt hd dy dt e = fields-none (subst FieldsIn e (three-in b table hm m mt hd dy dt))
