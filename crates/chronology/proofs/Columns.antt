@@ -143,13 +143,6 @@ below-test d l k n e = go (place d l)
     go (in-it a h) = lt-ltb (k + placeOf d l) n (omega arith) ∙ sym a
     go (past-it a h) = le-ltb (k + placeOf d l) n (omega arith) ∙ sym a
 
-pub end-test : (d : ℕ) (l : List ℕ) (k n : ℕ) → k + length l ≡ n → eqb (k + placeOf d l) n ≡ not (among d l)
-end-test d l k n e = go (place d l)
-  where
-    go : Place d l → eqb (k + placeOf d l) n ≡ not (among d l)
-    go (in-it a h) = ne-eqb (k + placeOf d l) n (λ (q : k + placeOf d l ≡ n). omega arith) ∙ sym (ap not a)
-    go (past-it a h) = eq-eqb (k + placeOf d l) n (omega arith) ∙ sym (ap not a)
-
 -- the first entry of a sort
 module _ (is : Entry → Bool) where
   pub where-here : (x : Entry) (l : List Entry) → is x ≡ true → firstWhere is (x ∷ l) ≡ 0
