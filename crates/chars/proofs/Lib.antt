@@ -1,5 +1,6 @@
 pub mod Below
 pub mod Joined
+pub mod Ones
 pub mod Cases
 pub mod Encode
 pub mod Laws
@@ -7,3 +8,4 @@ pub mod Table
 pub mod Uppers
 pub mod Spelled
 pub mod Classes
+pub mod Examples

@@ -1,5 +1,5 @@
 -- UTF-8 in plain arithmetic: what a text begins with, what stands at a place of it, its characters' codes, and a code's bytes.
-use Prim.Native.Nat.{ℕ, _+_, _*_, _/_, _%_}
+use Prim.Native.Nat.{ℕ, _+_, _-_, _*_, _/_, _%_}
 use mathlib.Core.List.{List, [], _∷_, _++_}
 use mathlib.Core.Bool.{Bool, _&&_}
 use lib.Dec.{ltb, leb, eqb}
@@ -11,6 +11,19 @@ use Rattle.chars.specs.declared.Decoded.the-variants.{Char, Bad, End}
 -- how many bytes a character has, by its first byte: 00..7F one, C0..DF two, E0..EF three, F0..F7 four; any other starts none
 unfoldable pub lenOf : ℕ → ℕ
 lenOf b = pick (ltb b 0x80) 1 (pick (ltb b 0xC0) 0 (pick (ltb b 0xE0) 2 (pick (ltb b 0xF0) 3 (pick (ltb b 0xF8) 4 0))))
+
+-- how many one bits a number begins with, by the weights of its bits from the first on
+unfoldable pub onesFrom : List ℕ → ℕ → ℕ
+onesFrom [] b = 0
+onesFrom (w ∷ ws) b = pick (leb w b) (1 + onesFrom ws (b - w)) 0
+
+-- the count of leading one bits of a byte
+unfoldable pub leadingOnes : ℕ → ℕ
+leadingOnes b = onesFrom (128 ∷ 64 ∷ 32 ∷ 16 ∷ 8 ∷ 4 ∷ 2 ∷ 1 ∷ []) b
+
+-- the length by that count: no ones one byte, two to four ones so many bytes; one or more than four start no character
+unfoldable pub lenByOnes : ℕ → ℕ
+lenByOnes n = pick (eqb n 0) 1 (pick (leb 2 n && leb n 4) n 0)
 
 -- a byte that continues a character: 80..BF
 unfoldable pub isCont : ℕ → Bool
