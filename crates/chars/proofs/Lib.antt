@@ -5,6 +5,7 @@ pub mod Cases
 pub mod Encode
 pub mod Laws
 pub mod Table
+pub mod Rows
 pub mod Uppers
 pub mod Spelled
 pub mod Classes

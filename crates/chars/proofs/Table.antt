@@ -3,7 +3,7 @@
 use mathlib.Core.Path.{_≡_, refl, sym, ap, subst, _∙_}
 use mathlib.Core.Logic.{_↔_}
 use mathlib.Core.Bool.{true, false, false≢true}
-use mathlib.Core.List.{List, [], _∷_, _++_}
+use mathlib.Core.List.{List, [], _∷_, _++_, append-nil}
 use Prim.Native.Nat.{ℕ, _≤_, _<_}
 use native.Mathlib.Omega.{arith}
 use native.Mathlib.Decide.{decLt}
@@ -22,11 +22,11 @@ is-cont : (b : ℕ) → In 0x80 0xBF b → isCont b ≡ true
 unfolding isCont
 is-cont b h = rw (le-leb 0x80 b (h .low), lt-ltb b 0xC0 (omega (arith, h .high)))
 
-no-surrogate : (n : ℕ) → n < 0xD800 → isSurrogate n ≡ false
+pub no-surrogate : (n : ℕ) → n < 0xD800 → isSurrogate n ≡ false
 unfolding isSurrogate
 no-surrogate n h = rw (lt-leb 0xD800 n h)
 
-past-surrogates : (n : ℕ) → 0xE000 ≤ n → isSurrogate n ≡ false
+pub past-surrogates : (n : ℕ) → 0xE000 ≤ n → isSurrogate n ≡ false
 unfolding isSurrogate
 past-surrogates n h = rw (le-leb 0xD800 n (omega arith), le-ltb n 0xE000 h)
 
@@ -49,6 +49,10 @@ taken (row8 {a} {b} {c} {d} h k l m) t =
 taken (row9 {a} {b} {c} {d} h k l m) t =
     four-is a b c d t (omega (arith, h .low)) (omega (arith, h .high)) (is-cont b (record { low = k .low; high = omega (arith, k .high) })) (is-cont c l) (is-cont d m) (omega (arith, h .low, h .high)) (omega (arith, h .low, h .high, k .low, k .high))
 
+-- it alone is that character
+pub whole : {s : List ℕ} {code : ℕ} → WellFormed s code → first s ≡ Char code (length s)
+whole {s} w = rw (append-nil s) at (taken w [])
+
 -- what is taken for a character begins with a sequence of the table
 data Listed (t : List ℕ) : Decoded → Type 0 where
   listed : {k code : ℕ} → Begins t code k → Listed t (Char code k)
@@ -63,7 +67,7 @@ unfolding isSurrogate
 surrogate-not n e h = elim (decLt n 0xE000) [ yes l ↦ absurd (false≢true (sym e ∙ rw (le-leb 0xD800 n h, lt-ltb n 0xE000 l))) | no l ↦ omega (arith, l) ]
 
 module _ (a b c : ℕ) (hb : Cont b) (hc : Cont c) where
-  three-row : 0xE0 ≤ a → a < 0xF0 → 0x800 ≤ code3 a b c → isSurrogate (code3 a b c) ≡ false → WellFormed (a ∷ b ∷ c ∷ []) (code3 a b c)
+  pub three-row : 0xE0 ≤ a → a < 0xF0 → 0x800 ≤ code3 a b c → isSurrogate (code3 a b c) ≡ false → WellFormed (a ∷ b ∷ c ∷ []) (code3 a b c)
   three-row l h v n =
       elim (decLt a 0xE1) [
         | yes x ↦ row3 {a = a} {b = b} (record { low = l; high = omega arith }) (record { low = omega (arith, hb .low, hb .high); high = omega (arith, hb .high) }) (in-cont hc)
@@ -84,7 +88,7 @@ module _ (a b c : ℕ) (hb : Cont b) (hc : Cont c) where
           ]
 
   module _ (d : ℕ) (hd : Cont d) where
-    four-row : 0xF0 ≤ a → 0x10000 ≤ code4 a b c d → code4 a b c d ≤ 0x10FFFF → a < 0xF8 → WellFormed (a ∷ b ∷ c ∷ d ∷ []) (code4 a b c d)
+    pub four-row : 0xF0 ≤ a → 0x10000 ≤ code4 a b c d → code4 a b c d ≤ 0x10FFFF → a < 0xF8 → WellFormed (a ∷ b ∷ c ∷ d ∷ []) (code4 a b c d)
     four-row l v m h =
         elim (decLt a 0xF1) [
           | yes x ↦ row7 {a = a} {b = b} (record { low = l; high = omega arith }) (record { low = omega (arith, hb .low, hb .high); high = omega (arith, hb .high) }) (in-cont hc) (in-cont hd)
