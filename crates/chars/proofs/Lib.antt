@@ -7,6 +7,7 @@ pub mod Laws
 pub mod Table
 pub mod Rows
 pub mod Uppers
+pub mod Typeset
 pub mod Spelled
 pub mod Classes
 pub mod Examples
