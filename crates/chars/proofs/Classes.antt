@@ -31,11 +31,10 @@ not-wide b h =
 
 -- a printing character is no white space
 pub printing-not-white : (b : ℕ) → 0x20 < b → b < 0x80 → isWhitespace b ≡ false
-unfolding isWhitespace within
+unfolding isWhitespace
 printing-not-white b l h =
     rw (
-      le-leb 0x09 b (omega arith),
-      lt-leb b 0x0D (omega arith),
+      within-past 0x09 0x0D b (omega arith),
       ne-eqb b 0x20 (λ (e : b ≡ 0x20). omega arith),
       ne-eqb b 0x85 (λ (e : b ≡ 0x85). omega arith),
       ne-eqb b 0xA0 (λ (e : b ≡ 0xA0). omega arith),
