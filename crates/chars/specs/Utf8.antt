@@ -1,4 +1,4 @@
--- UTF-8 in plain arithmetic: what a text begins with, what stands at a place of it, its characters' codes, and a code's bytes.
+-- UTF-8 in plain arithmetic: how long a character is, what a text begins with, what stands at a place of it, and a code's bytes.
 use Prim.Native.Nat.{ℕ, _+_, _-_, _*_, _/_, _%_}
 use mathlib.Core.List.{List, [], _∷_, _++_}
 use mathlib.Core.Bool.{Bool, not, _&&_}
