@@ -1,10 +1,17 @@
--- What the classes say of ASCII. Assumes nothing.
+-- What the classes say of ASCII, and of a code past a range. Assumes nothing.
 use mathlib.Core.Path.{_≡_}
 use mathlib.Core.Bool.{true, false}
 use Prim.Native.Nat.{ℕ, _<_}
 use native.Mathlib.Omega.{arith}
+use lib.Dec.{leb}
 use borrow.Author.Tests.{le-leb, lt-leb, ne-eqb}
 use Rattle.chars.specs.Classes.{within, isAdmitted, isWideSpace, isWhitespace}
+use Rattle.chars.proofs.Cases.{of-test}
+
+-- a code past a range is not in it
+pub within-past : (a b n : ℕ) → b < n → within a b n ≡ false
+unfolding within
+within-past a b n h = of-test (leb a n) (λ (e : leb a n ≡ true). rw (e, lt-leb n b h)) (λ (e : leb a n ≡ false). rw e)
 
 -- every ASCII character is read
 pub ascii-admitted : (b : ℕ) → b < 0x80 → isAdmitted b ≡ true
@@ -24,11 +31,10 @@ not-wide b h =
 
 -- a printing character is no white space
 pub printing-not-white : (b : ℕ) → 0x20 < b → b < 0x80 → isWhitespace b ≡ false
-unfolding isWhitespace within
+unfolding isWhitespace
 printing-not-white b l h =
     rw (
-      le-leb 0x09 b (omega arith),
-      lt-leb b 0x0D (omega arith),
+      within-past 0x09 0x0D b (omega arith),
       ne-eqb b 0x20 (λ (e : b ≡ 0x20). omega arith),
       ne-eqb b 0x85 (λ (e : b ≡ 0x85). omega arith),
       ne-eqb b 0xA0 (λ (e : b ≡ 0xA0). omega arith),

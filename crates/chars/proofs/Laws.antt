@@ -6,7 +6,7 @@ use mathlib.Core.Bool.{true, false, false≢true}
 use mathlib.Core.List.{List, [], _∷_, _++_}
 use Prim.Native.Nat.{ℕ, suc, _+_, _-_, _*_, _/_, _%_, _≤_, _<_, zero-le}
 use native.Mathlib.Omega.{arith}
-use borrow.Author.Tests.{lt-ltb, le-ltb, ltb-true, ltb-false, leb-true, le-leb}
+use borrow.Author.Tests.{lt-ltb, le-ltb, ltb-true, ltb-false, leb-true, not-true, le-leb}
 use lib.Dec.{ltb, leb, eqb, lit<}
 use lib.ListN.{length, getD, take, drop, length-take, length-drop, drop-of-length-le}
 use lib.Seq.{drop-cons, getD-drop}
@@ -110,35 +110,32 @@ pub record Ways (P : Decoded → Type 0) (a b c d : ℕ) : Type 0 where
 module _ {P : Decoded → Type 0} {a b c d : ℕ} (w : Ways P a b c d) where
   two-ways : 0xC0 ≤ a → a < 0xE0 → P (two a b)
   unfolding two
-  two-ways l h = by-test P _ (λ e. by-test P _ (λ v. w .two-bytes l h e (leb-true 0x80 (code2 a b) v)) (λ _. w .ill)) (λ _. w .ill)
+  two-ways l h =
+      by-test P _ (λ t. let e = and-true _ _ t in w .two-bytes l h (e .0) (leb-true 0x80 (code2 a b) (e .1))) (λ _. w .ill)
 
   three-ways : 0xE0 ≤ a → a < 0xF0 → P (three a b c)
   unfolding three
   three-ways l h =
       by-test P _
-      (λ e. by-test P _
-      (λ f. by-test P _ (λ v. by-test P _ (λ _. w .ill) (λ n. w .three-bytes l h e f (leb-true 0x800 (code3 a b c) v) n)) (λ _. w .ill))
-      (λ _. w .ill))
+      (λ t. let e3 = and-true _ _ t in
+      let e2 = and-true _ _ (e3 .0) in
+      let e1 = and-true _ _ (e2 .0) in
+      w .three-bytes l h (e1 .0) (e1 .1) (leb-true 0x800 (code3 a b c) (e2 .1)) (not-true _ (e3 .1)))
       (λ _. w .ill)
 
   four-ways : 0xF0 ≤ a → a < 0xF8 → P (four a b c d)
   unfolding four
   four-ways l h =
       by-test P _
-      (λ e. by-test P _
-      (λ f. by-test P _
-      (λ g. by-test P _
-      (λ v. by-test P _
-      (λ m. w .four-bytes l h e f g (leb-true 0x10000 (code4 a b c d) v) (leb-true (code4 a b c d) 0x10FFFF m))
-      (λ _. w .ill))
-      (λ _. w .ill))
-      (λ _. w .ill))
-      (λ _. w .ill))
+      (λ t. let e4 = and-true _ _ t in
+      let e3 = and-true _ _ (e4 .0) in
+      let e2 = and-true _ _ (e3 .0) in
+      let e1 = and-true _ _ (e2 .0) in
+      w .four-bytes l h (e1 .0) (e1 .1) (e2 .1) (leb-true 0x10000 (code4 a b c d) (e3 .1)) (leb-true (code4 a b c d) 0x10FFFF (e4 .1)))
       (λ _. w .ill)
 
   -- by the length that the first byte says
-  by-head : {k : ℕ} → Head a k → P (pick (eqb k 1) (Char a 1) (pick (eqb k 2) (two a b) (pick (eqb k 3) (three a b c) (pick (eqb k 4) (four a b c d) Bad))))
-  unfolding pick
+  by-head : {k : ℕ} → Head a k → P (getD (Bad ∷ Char a 1 ∷ two a b ∷ three a b c ∷ four a b c d ∷ []) k Bad)
   by-head head0 = w .ill
   by-head (head1 h) = w .one h
   by-head (head2 l h) = two-ways l h

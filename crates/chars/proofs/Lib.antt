@@ -1,9 +1,13 @@
 pub mod Below
 pub mod Joined
+pub mod Ones
 pub mod Cases
 pub mod Encode
 pub mod Laws
 pub mod Table
+pub mod Rows
 pub mod Uppers
+pub mod Typeset
 pub mod Spelled
 pub mod Classes
+pub mod Examples

@@ -1,56 +1,62 @@
--- The sequences that `first` takes for one character are just the rows of the Unicode Standard's Table 3-7.
+-- What is taken for a character, at any place of any text, is just what the rows of the Unicode Standard's Table 3-7 have.
 -- Assumes nothing.
-use mathlib.Core.Path.{_≡_, sym, subst, _∙_}
+use mathlib.Core.Path.{_≡_, refl, sym, ap, subst, _∙_}
+use mathlib.Core.Logic.{_↔_}
 use mathlib.Core.Bool.{true, false, false≢true}
-use mathlib.Core.List.{List, [], _∷_}
+use mathlib.Core.List.{List, [], _∷_, _++_, append-nil}
 use Prim.Native.Nat.{ℕ, _≤_, _<_}
 use native.Mathlib.Omega.{arith}
 use native.Mathlib.Decide.{decLt}
 use borrow.Author.Tests.{lt-ltb, le-ltb, le-leb, lt-leb}
-use lib.ListN.{length, take}
-use lib.Seq.{take-length}
-use Rattle.chars.specs.Utf8.{isCont, isSurrogate, code2, code3, code4, first}
-use Rattle.chars.specs.Table.{In, WellFormed}
+use lib.ListN.{length, take, drop, take-append-drop, length-drop}
+use lib.Seq.{take-append-seam}
+use Rattle.chars.specs.Utf8.{isCont, isSurrogate, code2, code3, code4, first, decodeAt}
+use Rattle.chars.specs.Table.{In, WellFormed, Begins}
 use Rattle.chars.specs.Table.WellFormed.{row1, row2, row3, row4, row5, row6, row7, row8, row9}
+use Rattle.chars.specs.Table.Begins.{begins}
 use Rattle.chars.specs.declared.Decoded.{Decoded}
 use Rattle.chars.specs.declared.Decoded.the-variants.{Char, Bad, End}
-use Rattle.chars.proofs.Laws.{Cont, cont, first-ways, first-ascii, two-is, three-is, four-is}
+use Rattle.chars.proofs.Laws.{Cont, cont, first-ways, first-ascii, first-end, past-end, two-is, three-is, four-is}
 
 -- a row's bytes are one character
 is-cont : (b : ℕ) → In 0x80 0xBF b → isCont b ≡ true
 unfolding isCont
 is-cont b h = rw (le-leb 0x80 b (h .low), lt-ltb b 0xC0 (omega (arith, h .high)))
 
-no-surrogate : (n : ℕ) → n < 0xD800 → isSurrogate n ≡ false
+pub no-surrogate : (n : ℕ) → n < 0xD800 → isSurrogate n ≡ false
 unfolding isSurrogate
 no-surrogate n h = rw (lt-leb 0xD800 n h)
 
-past-surrogates : (n : ℕ) → 0xE000 ≤ n → isSurrogate n ≡ false
+pub past-surrogates : (n : ℕ) → 0xE000 ≤ n → isSurrogate n ≡ false
 unfolding isSurrogate
 past-surrogates n h = rw (le-leb 0xD800 n (omega arith), le-ltb n 0xE000 h)
 
--- each sequence of the table is one character, all of it
-pub taken : {s : List ℕ} → WellFormed s → (code : ℕ) × (first s ≡ Char code (length s))
-taken (row1 {a} h) = (a, first-ascii a [] (omega (arith, h .high)))
-taken (row2 {a} {b} h k) = (code2 a b, two-is a b [] (omega (arith, h .low)) (omega (arith, h .high)) (is-cont b k) (omega (arith, h .low, h .high)))
-taken (row3 {a} {b} {c} h k l) =
-    (code3 a b c, three-is a b c [] (h .low) (omega (arith, h .high)) (is-cont b (record { low = omega (arith, k .low); high = k .high })) (is-cont c l) (omega (arith, h .low, h .high, k .low, k .high)) (no-surrogate (code3 a b c) (omega (arith, h .low, h .high))))
-taken (row4 {a} {b} {c} h k l) =
-    (code3 a b c, three-is a b c [] (omega (arith, h .low)) (omega (arith, h .high)) (is-cont b k) (is-cont c l) (omega (arith, h .low, h .high)) (no-surrogate (code3 a b c) (omega (arith, h .low, h .high))))
-taken (row5 {a} {b} {c} h k l) =
-    (code3 a b c, three-is a b c [] (omega (arith, h .low)) (omega (arith, h .high)) (is-cont b (record { low = k .low; high = omega (arith, k .high) })) (is-cont c l) (omega (arith, h .low, h .high)) (no-surrogate (code3 a b c) (omega (arith, h .low, h .high, k .low, k .high))))
-taken (row6 {a} {b} {c} h k l) =
-    (code3 a b c, three-is a b c [] (omega (arith, h .low)) (omega (arith, h .high)) (is-cont b k) (is-cont c l) (omega (arith, h .low, h .high)) (past-surrogates (code3 a b c) (omega (arith, h .low, h .high))))
-taken (row7 {a} {b} {c} {d} h k l m) =
-    (code4 a b c d, four-is a b c d [] (h .low) (omega (arith, h .high)) (is-cont b (record { low = omega (arith, k .low); high = k .high })) (is-cont c l) (is-cont d m) (omega (arith, h .low, h .high, k .low, k .high)) (omega (arith, h .low, h .high)))
-taken (row8 {a} {b} {c} {d} h k l m) =
-    (code4 a b c d, four-is a b c d [] (omega (arith, h .low)) (omega (arith, h .high)) (is-cont b k) (is-cont c l) (is-cont d m) (omega (arith, h .low, h .high)) (omega (arith, h .low, h .high)))
-taken (row9 {a} {b} {c} {d} h k l m) =
-    (code4 a b c d, four-is a b c d [] (omega (arith, h .low)) (omega (arith, h .high)) (is-cont b (record { low = k .low; high = omega (arith, k .high) })) (is-cont c l) (is-cont d m) (omega (arith, h .low, h .high)) (omega (arith, h .low, h .high, k .low, k .high)))
+-- each sequence of the table is taken for its character, whatever stands behind it
+taken : {s : List ℕ} {code : ℕ} → WellFormed s code → (t : List ℕ) → first (s ++ t) ≡ Char code (length s)
+taken (row1 {a} h) t = first-ascii a t (omega (arith, h .high))
+taken (row2 {a} {b} h k) t = two-is a b t (omega (arith, h .low)) (omega (arith, h .high)) (is-cont b k) (omega (arith, h .low, h .high))
+taken (row3 {a} {b} {c} h k l) t =
+    three-is a b c t (h .low) (omega (arith, h .high)) (is-cont b (record { low = omega (arith, k .low); high = k .high })) (is-cont c l) (omega (arith, h .low, h .high, k .low, k .high)) (no-surrogate (code3 a b c) (omega (arith, h .low, h .high)))
+taken (row4 {a} {b} {c} h k l) t =
+    three-is a b c t (omega (arith, h .low)) (omega (arith, h .high)) (is-cont b k) (is-cont c l) (omega (arith, h .low, h .high)) (no-surrogate (code3 a b c) (omega (arith, h .low, h .high)))
+taken (row5 {a} {b} {c} h k l) t =
+    three-is a b c t (omega (arith, h .low)) (omega (arith, h .high)) (is-cont b (record { low = k .low; high = omega (arith, k .high) })) (is-cont c l) (omega (arith, h .low, h .high)) (no-surrogate (code3 a b c) (omega (arith, h .low, h .high, k .low, k .high)))
+taken (row6 {a} {b} {c} h k l) t =
+    three-is a b c t (omega (arith, h .low)) (omega (arith, h .high)) (is-cont b k) (is-cont c l) (omega (arith, h .low, h .high)) (past-surrogates (code3 a b c) (omega (arith, h .low, h .high)))
+taken (row7 {a} {b} {c} {d} h k l m) t =
+    four-is a b c d t (h .low) (omega (arith, h .high)) (is-cont b (record { low = omega (arith, k .low); high = k .high })) (is-cont c l) (is-cont d m) (omega (arith, h .low, h .high, k .low, k .high)) (omega (arith, h .low, h .high))
+taken (row8 {a} {b} {c} {d} h k l m) t =
+    four-is a b c d t (omega (arith, h .low)) (omega (arith, h .high)) (is-cont b k) (is-cont c l) (is-cont d m) (omega (arith, h .low, h .high)) (omega (arith, h .low, h .high))
+taken (row9 {a} {b} {c} {d} h k l m) t =
+    four-is a b c d t (omega (arith, h .low)) (omega (arith, h .high)) (is-cont b (record { low = k .low; high = omega (arith, k .high) })) (is-cont c l) (is-cont d m) (omega (arith, h .low, h .high)) (omega (arith, h .low, h .high, k .low, k .high))
 
--- what is taken for a character is a sequence of the table
+-- it alone is that character
+pub whole : {s : List ℕ} {code : ℕ} → WellFormed s code → first s ≡ Char code (length s)
+whole {s} w = rw (append-nil s) at (taken w [])
+
+-- what is taken for a character begins with a sequence of the table
 data Listed (t : List ℕ) : Decoded → Type 0 where
-  listed : {k code : ℕ} → WellFormed (take k t) → Listed t (Char code k)
+  listed : {k code : ℕ} → Begins t code k → Listed t (Char code k)
   ill : Listed t Bad
   none : Listed t End
 
@@ -62,7 +68,7 @@ unfolding isSurrogate
 surrogate-not n e h = elim (decLt n 0xE000) [ yes l ↦ absurd (false≢true (sym e ∙ rw (le-leb 0xD800 n h, lt-ltb n 0xE000 l))) | no l ↦ omega (arith, l) ]
 
 module _ (a b c : ℕ) (hb : Cont b) (hc : Cont c) where
-  three-row : 0xE0 ≤ a → a < 0xF0 → 0x800 ≤ code3 a b c → isSurrogate (code3 a b c) ≡ false → WellFormed (a ∷ b ∷ c ∷ [])
+  pub three-row : 0xE0 ≤ a → a < 0xF0 → 0x800 ≤ code3 a b c → isSurrogate (code3 a b c) ≡ false → WellFormed (a ∷ b ∷ c ∷ []) (code3 a b c)
   three-row l h v n =
       elim (decLt a 0xE1) [
         | yes x ↦ row3 {a = a} {b = b} (record { low = l; high = omega arith }) (record { low = omega (arith, hb .low, hb .high); high = omega (arith, hb .high) }) (in-cont hc)
@@ -83,7 +89,7 @@ module _ (a b c : ℕ) (hb : Cont b) (hc : Cont c) where
           ]
 
   module _ (d : ℕ) (hd : Cont d) where
-    four-row : 0xF0 ≤ a → 0x10000 ≤ code4 a b c d → code4 a b c d ≤ 0x10FFFF → a < 0xF8 → WellFormed (a ∷ b ∷ c ∷ d ∷ [])
+    pub four-row : 0xF0 ≤ a → 0x10000 ≤ code4 a b c d → code4 a b c d ≤ 0x10FFFF → a < 0xF8 → WellFormed (a ∷ b ∷ c ∷ d ∷ []) (code4 a b c d)
     four-row l v m h =
         elim (decLt a 0xF1) [
           | yes x ↦ row7 {a = a} {b = b} (record { low = l; high = omega arith }) (record { low = omega (arith, hb .low, hb .high); high = omega (arith, hb .high) }) (in-cont hc) (in-cont hd)
@@ -93,19 +99,61 @@ module _ (a b c : ℕ) (hb : Cont b) (hc : Cont c) where
           ]
         ]
 
+-- a text whose first bytes are a sequence of the table
+front : (t : List ℕ) {s : List ℕ} {code : ℕ} → take (length s) t ≡ s → WellFormed s code → Begins t code (length s)
+front t {s} {code} e w =
+    subst (λ (u : List ℕ). Begins u code (length s)) (ap (λ (u : List ℕ). u ++ drop (length s) t) (sym e) ∙ take-append-drop (length s) t)
+    (begins (drop (length s) t) w)
+
 of-table : (t : List ℕ) → Listed t (first t)
 of-table =
     first-ways Listed none λ t a b c d h1 h2 h3 h4.
     record {
       ill = ill;
-      one = λ h. listed (subst WellFormed (sym h1) (row1 (record { low = omega arith; high = omega arith })));
-      two-bytes = λ l h e v. listed (subst WellFormed (sym (h2 e)) (row2 (record { low = omega arith; high = omega arith }) (in-cont (cont b e))));
-      three-bytes = λ l h e f v n. listed (subst WellFormed (sym (h3 f)) (three-row a b c (cont b e) (cont c f) l h v n));
-      four-bytes = λ l h e f g v m. listed (subst WellFormed (sym (h4 g)) (four-row a b c (cont b e) (cont c f) d (cont d g) l v m h));
+      one = λ h. listed (front t h1 (row1 (record { low = omega arith; high = omega arith })));
+      two-bytes = λ l h e v. listed (front t (h2 e) (row2 (record { low = omega arith; high = omega arith }) (in-cont (cont b e))));
+      three-bytes = λ l h e f v n. listed (front t (h3 f) (three-row a b c (cont b e) (cont c f) l h v n));
+      four-bytes = λ l h e f g v m. listed (front t (h4 g) (four-row a b c (cont b e) (cont c f) d (cont d g) l v m h));
     }
 
-well-formed : {t : List ℕ} {code k : ℕ} → Listed t (Char code k) → WellFormed (take k t)
-well-formed (listed w) = w
+of-listed : {t : List ℕ} {code k : ℕ} → Listed t (Char code k) → Begins t code k
+of-listed (listed b) = b
 
-pub in-table : (s : List ℕ) {code : ℕ} → first s ≡ Char code (length s) → WellFormed s
-in-table s e = subst WellFormed (take-length s) (well-formed (subst (Listed s) e (of-table s)))
+of-begins : {t : List ℕ} {code k : ℕ} → Begins t code k → first t ≡ Char code k
+of-begins (begins t w) = taken w t
+
+row-taken : {t : List ℕ} {code k : ℕ} → Begins t code k → WellFormed (take k t) code
+row-taken (begins {s} {c} t w) = subst (λ (u : List ℕ). WellFormed u c) (sym (take-append-seam s t)) w
+
+bad-no-char : {code n : ℕ} → _≡_ {A = Decoded} Bad (Char code n) → ⊥
+bad-no-char {code} {n} e = let z : _≡_ {A = ℕ} 0 1 = cc in omega arith
+
+bad-no-end : _≡_ {A = Decoded} Bad End → ⊥
+bad-no-end e = let z : _≡_ {A = ℕ} 0 1 = cc in omega arith
+
+module _ (s : List ℕ) (at : ℕ) where
+  -- a character of n bytes stands at a place exactly if the text from there on begins with n bytes that the table has for its code
+  pub char-exact : (code n : ℕ) → (decodeAt s at ≡ Char code n) ↔ Begins (drop at s) code n
+  unfolding decodeAt
+  char-exact code n = ((λ e. of-listed (subst (Listed (drop at s)) e (of-table (drop at s)))), of-begins)
+
+  -- so the bytes that were taken are a row of the table, with the code
+  pub char-row : (code n : ℕ) → decodeAt s at ≡ Char code n → WellFormed (take n (drop at s)) code
+  char-row code n e = row-taken (char-exact code n .0 e)
+
+  -- the place is the end exactly if the text is no longer
+  pub end-exact : (decodeAt s at ≡ End) ↔ (length s ≤ at)
+  unfolding decodeAt
+  end-exact = ((λ e. omega (arith, length-drop at s, ap length (first-end (drop at s) e))), past-end s at)
+
+  no-row : (d : Decoded) → decodeAt s at ≡ d → at < length s → ((code n : ℕ) → Begins (drop at s) code n → ⊥) → decodeAt s at ≡ Bad
+  no-row (Char code n) e h f = absurd (f code n (char-exact code n .0 e))
+  no-row Bad e h f = e
+  no-row End e h f = absurd (omega (arith, end-exact .0 e))
+
+  goes-on : decodeAt s at ≡ Bad → at < length s
+  goes-on e = elim (decLt at (length s)) [ yes h ↦ h | no h ↦ absurd (bad-no-end (sym e ∙ past-end s at (omega (arith, h)))) ]
+
+  -- no character stands at a place exactly if the text goes on there and no sequence of the table is what it begins with
+  pub bad-exact : (decodeAt s at ≡ Bad) ↔ ((at < length s) × ((code n : ℕ) → Begins (drop at s) code n → ⊥))
+  bad-exact = ((λ e. (goes-on e, λ code n b. bad-no-char (sym e ∙ char-exact code n .1 b))), λ h. no-row (decodeAt s at) refl (h .0) (h .1))

@@ -6,7 +6,7 @@ use mathlib.Core.List.{append-nil}
 use Prim.Native.Nat.{ℕ, _≤_, _<_}
 use native.Mathlib.Omega.{arith}
 use native.Mathlib.Decide.{decLt}
-use borrow.Author.Tests.{le-leb, lt-leb, ne-eqb}
+use borrow.Author.Tests.{lt-leb, ne-eqb}
 use lib.ListN.{length}
 use Rattle.chars.specs.Pick.{pick}
 use Rattle.chars.specs.Utf8.{encode, encodeAll}
@@ -16,6 +16,7 @@ use Rattle.chars.specs.declared.Upper.{Upper}
 use Rattle.chars.specs.declared.Upper.the-variants.{One, Two}
 use Rattle.chars.proofs.Below.{agree}
 use Rattle.chars.proofs.Cases.{by-test}
+use Rattle.chars.proofs.Classes.{within-past}
 
 -- a letter that loses 32 is at least that
 pub loses-above : (c : ℕ) → loses32 c ≡ true → 32 ≤ c
@@ -27,19 +28,16 @@ loses-above c e =
     ]
 
 -- above U+00FF every character stays as it is
-upper-far : (c : ℕ) → 256 ≤ c → upperOf c ≡ One c
-unfolding upperOf loses32 within pick
+pub upper-far : (c : ℕ) → 256 ≤ c → upperOf c ≡ One c
+unfolding upperOf loses32 pick
 upper-far c h =
     rw (
-      le-leb 97 c (omega arith),
-      lt-leb c 122 (omega arith),
-      le-leb 224 c (omega arith),
-      lt-leb c 246 (omega arith),
-      le-leb 248 c (omega arith),
-      lt-leb c 254 (omega arith),
-      ne-eqb c 255 (λ (e : c ≡ 255). omega arith),
-      ne-eqb c 181 (λ (e : c ≡ 181). omega arith),
-      ne-eqb c 223 (λ (e : c ≡ 223). omega arith),
+      within-past 0x61 0x7A c (omega arith),
+      within-past 0xE0 0xF6 c (omega arith),
+      within-past 0xF8 0xFE c (omega arith),
+      ne-eqb c 0xFF (λ (e : c ≡ 0xFF). omega arith),
+      ne-eqb c 0xB5 (λ (e : c ≡ 0xB5). omega arith),
+      ne-eqb c 0xDF (λ (e : c ≡ 0xDF). omega arith),
     )
 
 -- the bytes of a character's upper case are as many as the character's

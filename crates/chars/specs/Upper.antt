@@ -1,4 +1,4 @@
--- Upper case: what a character becomes, and a text in upper case.
+-- Upper case: what a character becomes, one character or two.
 use Prim.Native.Nat.{ℕ, _-_}
 use mathlib.Core.List.{List, [], _∷_}
 use mathlib.Core.Bool.{Bool, _||_}

@@ -1,7 +1,7 @@
--- UTF-8 in plain arithmetic: what a text begins with, what stands at a place of it, its characters' codes, and a code's bytes.
-use Prim.Native.Nat.{ℕ, _+_, _*_, _/_, _%_}
+-- UTF-8 in plain arithmetic: how long a character is, what a text begins with, what stands at a place of it, and a code's bytes.
+use Prim.Native.Nat.{ℕ, _+_, _-_, _*_, _/_, _%_}
 use mathlib.Core.List.{List, [], _∷_, _++_}
-use mathlib.Core.Bool.{Bool, _&&_}
+use mathlib.Core.Bool.{Bool, not, _&&_}
 use lib.Dec.{ltb, leb, eqb}
 use lib.ListN.{getD, drop}
 use Rattle.chars.specs.Pick.{pick}
@@ -11,6 +11,19 @@ use Rattle.chars.specs.declared.Decoded.the-variants.{Char, Bad, End}
 -- how many bytes a character has, by its first byte: 00..7F one, C0..DF two, E0..EF three, F0..F7 four; any other starts none
 unfoldable pub lenOf : ℕ → ℕ
 lenOf b = pick (ltb b 0x80) 1 (pick (ltb b 0xC0) 0 (pick (ltb b 0xE0) 2 (pick (ltb b 0xF0) 3 (pick (ltb b 0xF8) 4 0))))
+
+-- how many one bits a number begins with, by the weights of its bits from the first on
+unfoldable pub onesFrom : List ℕ → ℕ → ℕ
+onesFrom [] b = 0
+onesFrom (w ∷ ws) b = pick (leb w b) (1 + onesFrom ws (b - w)) 0
+
+-- the count of leading one bits of a byte
+unfoldable pub leadingOnes : ℕ → ℕ
+leadingOnes b = onesFrom (128 ∷ 64 ∷ 32 ∷ 16 ∷ 8 ∷ 4 ∷ 2 ∷ 1 ∷ []) b
+
+-- the length by that count: no ones one byte, two to four ones so many bytes; one or more than four start no character
+unfoldable pub lenByOnes : ℕ → ℕ
+lenByOnes n = pick (eqb n 0) 1 (pick (leb 2 n && leb n 4) n 0)
 
 -- a byte that continues a character: 80..BF
 unfoldable pub isCont : ℕ → Bool
@@ -34,33 +47,21 @@ code4 a b c d = ((a % 8 * 64 + b % 64) * 64 + c % 64) * 64 + d % 64
 
 -- a character of two bytes: the second continues it, and one byte would not do (else the form is overlong)
 unfoldable pub two : ℕ → ℕ → Decoded
-two a b = pick (isCont b) (pick (leb 0x80 (code2 a b)) (Char (code2 a b) 2) Bad) Bad
+two a b = pick (isCont b && leb 0x80 (code2 a b)) (Char (code2 a b) 2) Bad
 
 -- of three bytes: not overlong, and no surrogate
 unfoldable pub three : ℕ → ℕ → ℕ → Decoded
 three a b c =
-    pick (isCont b)
-    (pick (isCont c)
-    (pick (leb 0x800 (code3 a b c)) (pick (isSurrogate (code3 a b c)) Bad (Char (code3 a b c) 3)) Bad)
-    Bad)
-    Bad
+    pick (isCont b && isCont c && leb 0x800 (code3 a b c) && not (isSurrogate (code3 a b c))) (Char (code3 a b c) 3) Bad
 
 -- of four bytes: not overlong, and not above U+10FFFF
 unfoldable pub four : ℕ → ℕ → ℕ → ℕ → Decoded
 four a b c d =
-    pick (isCont b)
-    (pick (isCont c)
-    (pick (isCont d)
-    (pick (leb 0x10000 (code4 a b c d)) (pick (leb (code4 a b c d) 0x10FFFF) (Char (code4 a b c d) 4) Bad) Bad)
-    Bad)
-    Bad)
-    Bad
+    pick (isCont b && isCont c && isCont d && leb 0x10000 (code4 a b c d) && leb (code4 a b c d) 0x10FFFF) (Char (code4 a b c d) 4) Bad
 
--- what four bytes begin with, by the length that the first one says
+-- what four bytes begin with, by the length that the first one says, from none to four
 unfoldable pub decode : ℕ → ℕ → ℕ → ℕ → Decoded
-decode a b c d =
-    pick (eqb (lenOf a) 1) (Char a 1)
-    (pick (eqb (lenOf a) 2) (two a b) (pick (eqb (lenOf a) 3) (three a b c) (pick (eqb (lenOf a) 4) (four a b c d) Bad)))
+decode a b c d = getD (Bad ∷ Char a 1 ∷ two a b ∷ three a b c ∷ four a b c d ∷ []) (lenOf a) Bad
 
 -- what a text begins with; behind its end there are zeros, which continue nothing, so a truncated character is ill-formed
 unfoldable pub first : List ℕ → Decoded
