@@ -15,11 +15,13 @@ use Rattle.numbers.specs.declared.ParsedNumber.{ParsedNumber}
 use Rattle.numbers.specs.declared.ParsedNumber.the-variants.{Value, NoValue}
 use Rattle.numbers.specs.Parse.{parse}
 use Rattle.refusals.specs.declared.Refusal.{Refusal}
-use Rattle.refusals.specs.declared.Kind.the-variants.{TooLong, BadChunks, NoRoom}
+use Rattle.refusals.specs.declared.TextRefusal.{TextRefusal}
+use Rattle.refusals.specs.Offset.{textRefusal, offsetNumber}
+use Rattle.refusals.specs.declared.Kind.the-variants.{InvalidNumber, TooLong, BadChunks, NoRoom}
 use Rattle.pages.specs.declared.ReadNumber.the-variants.{NumberIs, NoNumber}
 use Rattle.pages.specs.declared.Answer.{Answer}
 use Rattle.pages.specs.declared.Answer.the-variants.{Ranges, Refused}
-use Rattle.pages.specs.Piece.{noNumber, numbered, numberOf, numberAt}
+use Rattle.pages.specs.Piece.{numbered, numberOf, numberAt}
 use Rattle.pages.specs.Pieces.{addsUp, judged, refusedPages, pagesAnswer, put, tableAfter, pagesAfterwards}
 
 module _ (s : List ℕ) (start at : ℕ) {run : Run} {t : List ℕ} {p : ParsedNumber} (r : run ≡ nextRun AsciiDigit s at) (f : t ≡ part s (run .start .0) (run .end .0)) (q : p ≡ parse 4294967295 t) where
@@ -31,9 +33,9 @@ module _ (s : List ℕ) (start at : ℕ) {run : Run} {t : List ℕ} {p : ParsedN
   unfolding numbered
   is-number e = sym (ap (numbered start run) e) ∙ by-run
 
-  pub is-none : {e : Refusal} → p ≡ NoValue → e ≡ noNumber start (run .start .0) (run .end .0) → NoNumber e ≡ numberAt s start at
+  pub is-none : {e : TextRefusal} {f : Refusal} → p ≡ NoValue → e ≡ textRefusal InvalidNumber (run .start .0) (run .end .0) → f ≡ offsetNumber e start → NoNumber f ≡ numberAt s start at
   unfolding numbered
-  is-none e g = ap NoNumber g ∙ sym (ap (numbered start run) e) ∙ by-run
+  is-none e m g = ap NoNumber (g ∙ ap (λ (x : TextRefusal). offsetNumber x start) m) ∙ sym (ap (numbered start run) e) ∙ by-run
 
 abbrev isRanges : Answer → Bool
 isRanges (Ranges n) = true
