@@ -240,7 +240,7 @@ fn step(bytes: &[u8], table: &[u64], at: usize, row: usize, n: usize) -> Taken
 // The first pass: the first refused piece decides, and nothing is stored.
 fn judge(bytes: &[u8], table: &[u64], counts: &[usize]) -> Answer
     requires { ⌜ pieces.addsUp (now bytes) (now table) (now counts) ≡ true ⌝ }
-    ensures { λ r. ⌜ r ≡ pieces.judged (length (now (counts .entry))) (now (bytes .entry)) (now (table .entry)) (now (counts .entry)) ⌝ }
+    ensures { λ r. ⌜ r ≡ pieces.judged (length (now (counts .entry))) (pieces.piecesOf (now (bytes .entry)) (now (table .entry)) (now (counts .entry))) ⌝ }
 {
     let mut at = 0;
     let mut row = 0;
@@ -280,7 +280,7 @@ fn put_range(r: ReadRange, out: &mut [u32], at: usize)
 // The second pass: the numbers of all pieces, at the front of the lent table.
 fn store(bytes: &[u8], table: &[u64], counts: &[usize], out: &mut [u32])
     requires { ⌜ (pieces.addsUp (now bytes) (now table) (now counts) ≡ true) × (2 * length (now counts) ≤ length (now out)) ⌝ }
-    ensures { λ u. ⌜ now (out .exit) ≡ pieces.put 0 (now (bytes .entry)) (now (table .entry)) (now (counts .entry)) (now (out .entry)) ⌝ }
+    ensures { λ u. ⌜ now (out .exit) ≡ pieces.put 0 (pieces.piecesOf (now (bytes .entry)) (now (table .entry)) (now (counts .entry))) (now (out .entry)) ⌝ }
 {
     let mut at = 0;
     let mut row = 0;
