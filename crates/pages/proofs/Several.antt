@@ -159,13 +159,13 @@ module _ (b t cs : List ℕ) where
         let q : Holds (put 0 ps out) (2 * i) x y = rw (← zero-add i) (put-at 0 ps out i (omega (arith, length-pieces b t cs)) (omega (arith, f .2, length-pieces b t cs)) r) in
         rw after (q .first, q .second)
 
-    -- it is as long as it was
-    pub length-kept : length (pagesAfterwards b t cs out) ≡ length out
-    length-kept = rw after (put-length 0 ps out)
-
     -- and behind them it is as it was
     pub rest-kept : (j : ℕ) → 2 * length cs ≤ j → getD (pagesAfterwards b t cs out) j 0 ≡ getD out j 0
     rest-kept j h = rw after (put-behind 0 ps out j (omega (arith, length-pieces b t cs)))
+
+    -- it is as long as it was
+    pub length-kept : length (pagesAfterwards b t cs out) ≡ length out
+    length-kept = rw after (put-length 0 ps out)
 
 -- a piece lent alone
 
