@@ -21,6 +21,7 @@ fn main() {
     };
     let chunk = published(&src, "chunk.rs");
     let date = published(&src, "types/date.rs");
+    let types = published(&src, "types.rs");
     let (scanner, name) = scanner();
 
     let text = format!(
@@ -30,12 +31,15 @@ fn main() {
     );
     let out = PathBuf::from(env::var_os("OUT_DIR").unwrap()).join("published.rs");
     fs::write(out, text).unwrap();
+    let out = PathBuf::from(env::var_os("OUT_DIR").unwrap()).join("ranges.rs");
+    fs::write(out, block(&types, "impl Type for Vec<Range<u32>> {")).unwrap();
 
     println!("cargo:rustc-env=ORACLE_SCANNER={name}");
     println!(
-        "cargo:rustc-env=ORACLE_SOURCES=date.rs {}, chunk.rs {}",
+        "cargo:rustc-env=ORACLE_SOURCES=date.rs {}, chunk.rs {}, types.rs {}",
         fingerprint(&date),
-        fingerprint(&chunk)
+        fingerprint(&chunk),
+        fingerprint(&types)
     );
 }
 
@@ -48,6 +52,18 @@ fn published(src: &Path, name: &str) -> PathBuf {
         }
         Err(e) => fail(&format!("BIBLATEX_SRC has no {name}: {e}")),
     }
+}
+
+/// The block of a file that starts with a line, unchanged: the file as a whole
+/// needs crates that are not here.
+fn block(path: &Path, head: &str) -> String {
+    let text = fs::read_to_string(path).unwrap();
+    let mut lines = text.lines().skip_while(|line| *line != head).peekable();
+    if lines.peek().is_none() {
+        fail(&format!("{} has no line {head:?}", path.display()));
+    }
+    let body = lines.by_ref().take_while(|line| *line != "}");
+    body.map(|line| format!("{line}\n")).collect::<String>() + "}\n"
 }
 
 /// The scanner to build with: the real crate if its source is there (named by

@@ -1,5 +1,6 @@
 //! The published date.rs and chunk.rs of biblatex, unchanged, behind the
-//! frames that docs/RULES.md describes.
+//! frames that docs/RULES.md describes; and the reader of page ranges, one
+//! block of the published types.rs.
 //!
 //! The two files are modules of this crate, so that what is private to their
 //! own crate is in reach. What else they need of it stands below, cut down to
@@ -108,6 +109,19 @@ mod types {
         fn from_chunks(chunks: ChunksRef) -> Result<Self, TypeError>;
         fn to_chunks(&self) -> Chunks;
     }
+}
+
+/// Page ranges, as the published types.rs reads and writes them.
+#[allow(clippy::all)]
+mod ranges {
+    use std::ops::Range;
+    use std::str::FromStr;
+
+    use crate::chunk::*;
+    use crate::types::{Type, TypeError, TypeErrorKind};
+    use crate::{Scanner, Spanned};
+
+    include!(concat!(env!("OUT_DIR"), "/ranges.rs"));
 }
 
 mod resolve {

@@ -7,7 +7,7 @@ use Rattle.chars.specs.Classes.{isAdmitted}
 use Rattle.chars.specs.declared.Decoded.{Decoded}
 use Rattle.chars.specs.declared.Decoded.the-variants.{Char, Bad, End}
 use Rattle.refusals.specs.declared.Kind.the-variants.{BadUtf8, UnsupportedChar, BadChunks, TooLong}
-use Rattle.refusals.specs.Refusal.{fileSpan, refusal}
+use Rattle.refusals.specs.Refusal.{fileSpan, refusal, bytesAt}
 use Rattle.chunks.specs.declared.Checked.{Checked}
 use Rattle.chunks.specs.declared.Checked.the-variants.{Clean, Faulty}
 use Rattle.chunks.specs.Characters.{characters}
@@ -18,8 +18,8 @@ use Rattle.chunks.specs.Chunks.{Chunk, chunksOf, fits, isShort}
 unfoldable pub faultIn : ℕ → List Decoded → Checked
 faultIn p [] = Clean
 faultIn p (Char code len ∷ rest) =
-    pick (isAdmitted code) (faultIn (p + len) rest) (Faulty (refusal UnsupportedChar (fileSpan p (p + len))))
-faultIn p (Bad ∷ rest) = Faulty (refusal BadUtf8 (fileSpan p (p + 1)))
+    pick (isAdmitted code) (faultIn (p + len) rest) (Faulty (bytesAt UnsupportedChar p (p + len)))
+faultIn p (Bad ∷ rest) = Faulty (bytesAt BadUtf8 p (p + 1))
 faultIn p (End ∷ rest) = Clean
 
 -- a fault, or else what is found behind it

@@ -7,7 +7,7 @@ ghost use lib.Dec.{eqb};
 ghost use lib.ListN.{length};
 ghost use lib.Seq.{sets};
 ghost use Rattle.chars.specs.Utf8.{encode};
-ghost use Rattle.refusals.specs.Refusal.{fileSpan, refusal};
+ghost use Rattle.refusals.specs.Refusal.{bytesAt};
 ghost use Rattle.chunks.specs.declared.Checked.the-variants.{Faulty};
 ghost use Rattle.chunks.specs.Characters.{codes};
 ghost use Rattle.chunks.specs.Chunks as chunks_;
@@ -123,11 +123,9 @@ fn check_characters(bytes: &[u8], table: &[u64]) -> Checked
 // A fault at a place of the lent bytes.
 fn faulty(kind: Kind, at: usize, len: usize) -> Checked
     requires { ⌜ at + len < 2 ^ 64 ⌝ }
-    ensures { λ r. ⌜ r ≡ Faulty (refusal kind (fileSpan at (at + len))) ⌝ }
+    ensures { λ r. ⌜ r ≡ Faulty (bytesAt kind at (at + len)) ⌝ }
 {
-    let start = at as u64;
-    let end = (at + len) as u64;
-    Checked::Faulty(refusals::refuse(kind, FileSpan(start, end)))
+    Checked::Faulty(refusals::bytes_at(kind, at, at + len))
 }
 
 // Whether the list keeps within the limits: 64 chunks and 4,096 bytes.
@@ -159,9 +157,9 @@ pub fn span(table: &[u64]) -> FileSpan
 {
     let n = table.len() / 4 * 4;
     if n == 0 {
-        return FileSpan(0, 0);
+        return refusals::lent_span(0, 0);
     }
-    FileSpan(table[2], table[n - 1])
+    refusals::lent_span(table[2], table[n - 1])
 }
 
 // Puts the bytes of a character.

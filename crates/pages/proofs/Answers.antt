@@ -15,12 +15,14 @@ use Rattle.numbers.specs.declared.ParsedNumber.{ParsedNumber}
 use Rattle.numbers.specs.declared.ParsedNumber.the-variants.{Value, NoValue}
 use Rattle.numbers.specs.Parse.{parse}
 use Rattle.refusals.specs.declared.Refusal.{Refusal}
-use Rattle.refusals.specs.declared.Kind.the-variants.{TooLong, BadChunks, NoRoom}
+use Rattle.refusals.specs.declared.TextRefusal.{TextRefusal}
+use Rattle.refusals.specs.Offset.{textRefusal, offsetNumber}
+use Rattle.refusals.specs.declared.Kind.the-variants.{InvalidNumber, TooLong, BadChunks, NoRoom}
 use Rattle.pages.specs.declared.ReadNumber.the-variants.{NumberIs, NoNumber}
 use Rattle.pages.specs.declared.Answer.{Answer}
 use Rattle.pages.specs.declared.Answer.the-variants.{Ranges, Refused}
-use Rattle.pages.specs.Piece.{noNumber, numbered, numberOf, numberAt}
-use Rattle.pages.specs.Pieces.{addsUp, judged, refusedPages, pagesAnswer, put, tableAfter, pagesAfterwards}
+use Rattle.pages.specs.Piece.{numbered, numberOf, numberAt}
+use Rattle.pages.specs.Pieces.{addsUp, piecesOf, judged, refusedPages, Fits, pagesAnswer, put, tableAfter, pagesAfterwards}
 
 module _ (s : List ℕ) (start at : ℕ) {run : Run} {t : List ℕ} {p : ParsedNumber} (r : run ≡ nextRun AsciiDigit s at) (f : t ≡ part s (run .start .0) (run .end .0)) (q : p ≡ parse 4294967295 t) where
   by-run : numbered start run p ≡ numberAt s start at
@@ -31,25 +33,25 @@ module _ (s : List ℕ) (start at : ℕ) {run : Run} {t : List ℕ} {p : ParsedN
   unfolding numbered
   is-number e = sym (ap (numbered start run) e) ∙ by-run
 
-  pub is-none : {e : Refusal} → p ≡ NoValue → e ≡ noNumber start (run .start .0) (run .end .0) → NoNumber e ≡ numberAt s start at
+  pub is-none : {e : TextRefusal} {f : Refusal} → p ≡ NoValue → e ≡ textRefusal InvalidNumber (run .start .0) (run .end .0) → f ≡ offsetNumber e start → NoNumber f ≡ numberAt s start at
   unfolding numbered
-  is-none e g = ap NoNumber g ∙ sym (ap (numbered start run) e) ∙ by-run
+  is-none e m g = ap NoNumber (g ∙ ap (λ (x : TextRefusal). offsetNumber x start) m) ∙ sym (ap (numbered start run) e) ∙ by-run
 
-abbrev isRanges : Answer → Bool
+abbrev pub isRanges : Answer → Bool
 isRanges (Ranges n) = true
 isRanges (Refused e) = false
 
--- an answer that counts ranges: all adds up, and there is room
-pub says : (b t cs : List ℕ) (room : ℕ) {n : ℕ} → pagesAnswer b t cs room ≡ Ranges n → (addsUp b t cs ≡ true) × (2 * length cs ≤ room)
+-- an answer that counts ranges: there are not too many pieces, all adds up, and there is room
+pub fitting : (b t cs : List ℕ) (room : ℕ) {n : ℕ} → pagesAnswer b t cs room ≡ Ranges n → Fits b t cs room
 unfolding pagesAnswer refusedPages pick
-says b t cs room e =
+fitting b t cs room e =
     of-test (leb (length cs) 64)
     (λ p. of-test (addsUp b t cs)
-    (λ q. of-test (leb (2 * length cs) room) (λ r. (q, leb-true (2 * length cs) room r)) (λ r. absurd (false≢true (ap isRanges (rw (p, q, r) at e)))))
+    (λ q. of-test (leb (2 * length cs) room) (λ r. (leb-true (length cs) 64 p, q, leb-true (2 * length cs) room r)) (λ r. absurd (false≢true (ap isRanges (rw (p, q, r) at e)))))
     (λ q. absurd (false≢true (ap isRanges (rw (p, q) at e)))))
     (λ p. absurd (false≢true (ap isRanges (rw p at e))))
 
-pub leaves : (b t cs out : List ℕ) {n : ℕ} {new : List ℕ} → pagesAnswer b t cs (length out) ≡ Ranges n → new ≡ put 0 b t cs out → new ≡ pagesAfterwards b t cs out
+pub leaves : (b t cs out : List ℕ) {n : ℕ} {new : List ℕ} → pagesAnswer b t cs (length out) ≡ Ranges n → new ≡ put 0 (piecesOf b t cs) out → new ≡ pagesAfterwards b t cs out
 unfolding pagesAfterwards tableAfter
 leaves b t cs out e g = rw e g
 
@@ -72,6 +74,6 @@ module _ (b t cs : List ℕ) (room : ℕ) where
     unfolding pagesAnswer pick
     no-space e g = rw (le-leb (length cs) 64 h, e, lt-leb (2 * length cs) room g)
 
-    pub by-pieces : addsUp b t cs ≡ true → 2 * length cs ≤ room → judged (length cs) b t cs ≡ pagesAnswer b t cs room
+    pub by-pieces : addsUp b t cs ≡ true → 2 * length cs ≤ room → judged (length cs) (piecesOf b t cs) ≡ pagesAnswer b t cs room
     unfolding pagesAnswer pick
     by-pieces e g = rw (le-leb (length cs) 64 h, e, le-leb (2 * length cs) room g)

@@ -6,9 +6,10 @@ use Prim.Native.Nat.{ℕ, zero, suc, _+_, _*_, _/_, _%_, _^_, _≤_, _<_}
 use mathlib.Core.Logic.{⊎-elim}
 use native.Mathlib.Nat.{add-zero, add-sub-cancel-left, eq-zero-or-pos, pow-succ'}
 use native.Mathlib.Omega.{arith}
-use borrow.Author.Tests.{lt-ltb, le-ltb, le-leb, lt-leb, ne-eqb, ltb-true, ltb-false}
+use borrow.Author.Tests.{lt-ltb, le-ltb, le-leb, lt-leb, eq-eqb, ne-eqb, ltb-true, ltb-false}
 use lib.Dec.{lit<, lit≤, ltb}
 use lib.ListN.{length, take, length-append}
+use lib.Seq.{take-length}
 use Rattle.chars.specs.Pick.{pick}
 use Rattle.chars.specs.Ascii.{digitOf}
 use Rattle.chars.specs.Classes.{within, isAsciiDigit}
@@ -24,7 +25,7 @@ use Rattle.numbers.specs.declared.ParsedNumber.the-variants.{Value, NoValue}
 use Rattle.numbers.specs.Parse.{wholeValue, digitsFrom, parse}
 use Rattle.numbers.proofs.Reading.{front-ate, hyphen-hyphen}
 use Rattle.refusals.specs.declared.FileSpan.{FileSpan}
-use Rattle.chunks.specs.Chunks.{chunksOf, spanOf}
+use Rattle.chunks.specs.Chunks.{chunksOf, lengths, spanOf}
 use Rattle.chunks.specs.Format.{formatted, isBreak, oneFlag}
 use Rattle.chunks.specs.Plain.{allAscii, plainByte, plainOut, plainText}
 use Rattle.chunks.proofs.Answers.{plain-as-is}
@@ -35,6 +36,8 @@ use Rattle.pages.specs.declared.ReadNumber.the-variants.{NumberIs}
 use Rattle.pages.specs.declared.ReadRange.the-variants.{Range}
 use Rattle.pages.specs.Piece.{numbered, numberOf, numberAt, orElse, dashAt, onNumber, secondAt, behindDash, onDash, behindFirst, rangeText as readText, onClean, piece}
 use Rattle.pages.specs.Text.{writtenRange}
+use Rattle.pages.specs.declared.Answer.the-variants.{Ranges}
+use Rattle.pages.specs.Pieces.{total, addsUp, sizeOf, firstOf, piecesOf, said, onRange, judged, numbersOf, put, pagesAnswer, tableAfter, pagesAfterwards}
 
 -- bytes from a low one to the digit nine
 abbrev In : ℕ → List ℕ → Type 0
@@ -250,3 +253,26 @@ module _ (a b : ℕ) (ha : a < 4294967296) (hb : b < 4294967296) where
       let p = plainly s t (record { four = refl; normal-kind = refl; whole = refl; small = omega (arith, at-most); ascii = all-ascii s shown }) in
       let e : formatted s t ≡ s = sym (plain-as-is s t {u = false} refl) ∙ p .text false ∙ as-shown false s shown in
       rw (p .clean, e) (text-back (spanOf (chunksOf t)))
+
+  module _ (start end : ℕ) where
+    whole-size : sizeOf 1 (oneChunk s start end) ≡ length s
+    unfolding sizeOf lengths chunksOf
+    whole-size = add-zero (length s)
+
+    said-back : said (firstOf 1 s (oneChunk s start end)) ≡ Range a b
+    unfolding said firstOf
+    said-back = rw (whole-size, take-length s) (range-back start end)
+
+    adds : addsUp s (oneChunk s start end) (1 ∷ []) ≡ true
+    unfolding addsUp total lengths chunksOf
+    adds = rw (add-zero (length s)) (eq-eqb (length s) (length s) refl)
+
+    -- lent as one piece with any span it is answered with one range
+    pub pages-back : (room : ℕ) → 2 ≤ room → pagesAnswer s (oneChunk s start end) (1 ∷ []) room ≡ Ranges 1
+    unfolding pagesAnswer piecesOf judged onRange pick
+    pages-back room h = rw (adds, le-leb 2 room h, said-back) refl
+
+    -- whose two numbers stand at the front of the lent table, and what is behind them stays
+    pub pages-left : (x y : ℕ) (out : List ℕ) → pagesAfterwards s (oneChunk s start end) (1 ∷ []) (x ∷ y ∷ out) ≡ a ∷ b ∷ out
+    unfolding pagesAfterwards tableAfter piecesOf put numbersOf
+    pages-left x y out = rw (pages-back (length (x ∷ y ∷ out)) (omega arith), said-back) refl

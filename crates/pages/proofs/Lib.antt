@@ -4,4 +4,5 @@ pub mod Entries
 pub mod Written
 pub mod Answers
 pub mod Back
+pub mod Several
 pub mod Examples

@@ -1,7 +1,7 @@
 -- The walk over the pieces: where it stands, and what the next piece is. Assumes nothing.
 use mathlib.Core.Path.{_≡_, refl, sym, ap, _∙_}
 use mathlib.Core.Bool.{Bool, true}
-use mathlib.Core.List.{List, _∷_}
+use mathlib.Core.List.{List, [], _∷_}
 use Prim.Native.Nat.{ℕ, suc, _+_, _-_, _*_, _%_, _≤_, _<_}
 use native.Mathlib.Nat.{add-sub-cancel-left}
 use native.Mathlib.Numerals.{add-one}
@@ -18,7 +18,7 @@ use Rattle.pages.specs.declared.ReadRange.{ReadRange}
 use Rattle.pages.specs.declared.ReadRange.the-variants.{Range, NoRange}
 use Rattle.refusals.specs.declared.Refusal.{Refusal}
 use Rattle.pages.specs.Piece.{piece}
-use Rattle.pages.specs.Pieces.{total, addsUp, sizeOf, pieceOf, stepOf, onRange, judged, numbersOf, put}
+use Rattle.pages.specs.Pieces.{total, addsUp, sizeOf, firstOf, piecesOf, said, stepOf, onRange, judged, numbersOf, put}
 use Rattle.pages.proofs.Sums.{total-at, split}
 
 -- what is left of counts, table and bytes adds up
@@ -34,10 +34,6 @@ starts b t cs e =
     let r = eqb-true (4 * total cs) (length t) (p .0) in
     let s = eqb-true (lengths (chunksOf t)) (length b) (p .1) in
     record { rows = omega arith; sizes = omega arith; inside = omega arith }
-
-put-step : (i : ℕ) (b t : List ℕ) (n : ℕ) (ns out : List ℕ) → put i b t (n ∷ ns) out ≡ put (i + 1) (drop (sizeOf n t) b) (drop (4 * n) t) ns (sets out (2 * i) (numbersOf (pieceOf n b t)))
-unfolding put
-put-step i b t n ns out = refl
 
 module _ (b t cs : List ℕ) (at row i : ℕ) (w : At b t cs at row i) (h : i < length cs) where
   -- the piece's numbers of the table are there
@@ -57,26 +53,29 @@ module _ (b t cs : List ℕ) (at row i : ℕ) (w : At b t cs at row i) (h : i < 
   goes-on =
       record { rows = omega (arith, total-at cs i h, w .rows); sizes = omega (arith, here, w .sizes); inside = omega arith }
 
-  pub judged-at : (all : ℕ) → judged all (drop at b) (drop row t) (drop i cs) ≡ onRange (pieceOf (getD cs i 0) (drop at b) (drop row t)) (judged all (drop (at + sizeOf (getD cs i 0) (drop row t)) b) (drop (row + 4 * getD cs i 0) t) (drop (i + 1) cs))
-  unfolding judged
-  judged-at all = rw (add-one, drop-cons cs i 0 h, drop-drop, drop-drop)
+  -- the next piece, and those behind it
+  pub pieces-at : piecesOf (drop at b) (drop row t) (drop i cs) ≡ firstOf (getD cs i 0) (drop at b) (drop row t) ∷ piecesOf (drop (at + sizeOf (getD cs i 0) (drop row t)) b) (drop (row + 4 * getD cs i 0) t) (drop (i + 1) cs)
+  unfolding piecesOf
+  pieces-at = rw (add-one, drop-cons cs i 0 h, drop-drop, drop-drop)
 
-  pub put-at : (out : List ℕ) → put i (drop at b) (drop row t) (drop i cs) out ≡ put (i + 1) (drop (at + sizeOf (getD cs i 0) (drop row t)) b) (drop (row + 4 * getD cs i 0) t) (drop (i + 1) cs) (sets out (2 * i) (numbersOf (pieceOf (getD cs i 0) (drop at b) (drop row t))))
-  put-at out = ap (λ (l : List ℕ). put i (drop at b) (drop row t) l out) (drop-cons cs i 0 h) ∙ put-step i (drop at b) (drop row t) (getD cs i 0) (drop (suc i) cs) out ∙ rw (add-one, drop-drop, drop-drop)
+-- no piece is left
+pub pieces-end : (b t cs : List ℕ) (i : ℕ) → length cs ≤ i → piecesOf b t (drop i cs) ≡ []
+unfolding piecesOf
+pieces-end b t cs i h = rw (drop-of-length-le cs h)
 
-pub judged-end : (all : ℕ) (b t cs : List ℕ) (i : ℕ) → length cs ≤ i → Ranges all ≡ judged all b t (drop i cs)
+pub judged-end : (all : ℕ) (b t cs : List ℕ) (i : ℕ) → length cs ≤ i → Ranges all ≡ judged all (piecesOf b t (drop i cs))
 unfolding judged
-judged-end all b t cs i h = rw (drop-of-length-le cs h)
+judged-end all b t cs i h = rw (pieces-end b t cs i h)
 
-pub put-end : (i : ℕ) (b t cs out : List ℕ) (k : ℕ) → length cs ≤ k → out ≡ put i b t (drop k cs) out
+pub put-end : (i : ℕ) (b t cs out : List ℕ) (k : ℕ) → length cs ≤ k → out ≡ put i (piecesOf b t (drop k cs)) out
 unfolding put
-put-end i b t cs out k h = rw (drop-of-length-le cs h)
+put-end i b t cs out k h = rw (pieces-end b t cs k h)
 
 pub step-len : (n : ℕ) (b t : List ℕ) {k : Taken} → k ≡ stepOf n b t → k .len ≡ sizeOf n t
 unfolding stepOf
 step-len n b t e = ap (λ (x : Taken). x .len) e
 
-pub step-read : (n : ℕ) (b t : List ℕ) {k : Taken} → k ≡ stepOf n b t → k .read ≡ pieceOf n b t
+pub step-read : (n : ℕ) (b t : List ℕ) {k : Taken} → k ≡ stepOf n b t → k .read ≡ said (firstOf n b t)
 unfolding stepOf
 step-read n b t e = ap (λ (x : Taken). x .read) e
 
@@ -88,16 +87,17 @@ module _ (b t cs : List ℕ) (at row i : ℕ) (w : At b t cs at row i) (h : i < 
   pub at-next : At b t cs (at + k .len) (row + 4 * getD cs i 0) (i + 1)
   at-next = rw (step-len (getD cs i 0) (drop at b) (drop row t) e) (goes-on b t cs at row i w h)
 
-  pub refuses : (all : ℕ) {f : Refusal} → k .read ≡ NoRange f → Refused f ≡ judged all (drop at b) (drop row t) (drop i cs)
-  unfolding onRange
-  refuses all g = let q = sym (step-read (getD cs i 0) (drop at b) (drop row t) e) ∙ g in sym (judged-at b t cs at row i w h all ∙ rw q)
+  pub refuses : (all : ℕ) {f : Refusal} → k .read ≡ NoRange f → Refused f ≡ judged all (piecesOf (drop at b) (drop row t) (drop i cs))
+  unfolding judged onRange
+  refuses all g = let q = sym (step-read (getD cs i 0) (drop at b) (drop row t) e) ∙ g in rw (pieces-at b t cs at row i w h, q)
 
-  pub judged-next : (all : ℕ) {x y : ℕ} → k .read ≡ Range x y → judged all (drop (at + k .len) b) (drop (row + 4 * getD cs i 0) t) (drop (i + 1) cs) ≡ judged all (drop at b) (drop row t) (drop i cs)
-  unfolding onRange
-  judged-next all g = let q = sym (step-read (getD cs i 0) (drop at b) (drop row t) e) ∙ g in rw (step-len (getD cs i 0) (drop at b) (drop row t) e) (sym (judged-at b t cs at row i w h all ∙ rw q))
+  pub judged-next : (all : ℕ) {x y : ℕ} → k .read ≡ Range x y → judged all (piecesOf (drop (at + k .len) b) (drop (row + 4 * getD cs i 0) t) (drop (i + 1) cs)) ≡ judged all (piecesOf (drop at b) (drop row t) (drop i cs))
+  unfolding judged onRange
+  judged-next all g = let q = sym (step-read (getD cs i 0) (drop at b) (drop row t) e) ∙ g in rw (step-len (getD cs i 0) (drop at b) (drop row t) e, pieces-at b t cs at row i w h, q)
 
-  pub put-next : (out : List ℕ) {new : List ℕ} → new ≡ sets out (2 * i) (numbersOf (k .read)) → put (i + 1) (drop (at + k .len) b) (drop (row + 4 * getD cs i 0) t) (drop (i + 1) cs) new ≡ put i (drop at b) (drop row t) (drop i cs) out
-  put-next out g = rw (g, step-read (getD cs i 0) (drop at b) (drop row t) e, step-len (getD cs i 0) (drop at b) (drop row t) e) (sym (put-at b t cs at row i w h out))
+  pub put-next : (out : List ℕ) {new : List ℕ} → new ≡ sets out (2 * i) (numbersOf (k .read)) → put (i + 1) (piecesOf (drop (at + k .len) b) (drop (row + 4 * getD cs i 0) t) (drop (i + 1) cs)) new ≡ put i (piecesOf (drop at b) (drop row t) (drop i cs)) out
+  unfolding put
+  put-next out g = rw (g, step-read (getD cs i 0) (drop at b) (drop row t) e, step-len (getD cs i 0) (drop at b) (drop row t) e, pieces-at b t cs at row i w h)
 
 -- the part of the table that is a piece's
 pub rows-size : (t : List ℕ) (row n : ℕ) → lengths (chunksOf (take (row + 4 * n - row) (drop row t))) ≡ sizeOf n (drop row t)
@@ -108,7 +108,7 @@ pub rows-four : (t : List ℕ) (row n : ℕ) → row + 4 * n ≤ length t → le
 rows-four t row n h = rw add-sub-cancel-left (omega (arith, length-take-le (4 * n) (drop row t) (omega (arith, length-drop row t))))
 
 pub step-is : (b t : List ℕ) (at row n : ℕ) {len : ℕ} {r : ReadRange} → len ≡ lengths (chunksOf (take (row + 4 * n - row) (drop row t))) → r ≡ piece (take (at + len - at) (drop at b)) (take (row + 4 * n - row) (drop row t)) → _≡_ {A = Taken} (record { read = r; len = len }) (stepOf n (drop at b) (drop row t))
-unfolding stepOf pieceOf sizeOf
+unfolding stepOf said firstOf sizeOf
 step-is b t at row n {len} {r} e f =
     let g : len ≡ lengths (chunksOf (take (4 * n) (drop row t))) = e ∙ rw add-sub-cancel-left in
     rw (f, add-sub-cancel-left, add-sub-cancel-left, g)

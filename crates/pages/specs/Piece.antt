@@ -1,8 +1,7 @@
 -- One piece as a page range: what its text says, and where it is refused.
 use Prim.Native.Char.{code}
-use Prim.Native.Nat.{ℕ, _+_}
+use Prim.Native.Nat.{ℕ}
 use mathlib.Core.List.{List}
-use lib.Dec.{leb}
 use Rattle.chars.specs.Pick.{pick}
 use Rattle.scanner.specs.declared.Class.the-variants.{Whitespace, AsciiDigit, Is}
 use Rattle.scanner.specs.declared.Cursor.{Cursor}
@@ -15,9 +14,9 @@ use Rattle.numbers.specs.declared.ParsedNumber.the-variants.{Value, NoValue}
 use Rattle.numbers.specs.Parse.{parse}
 use Rattle.refusals.specs.declared.FileSpan.{FileSpan}
 use Rattle.refusals.specs.declared.Refusal.{Refusal}
-use Rattle.refusals.specs.declared.Kind.the-variants.{InvalidNumber, RustPanics}
-use Rattle.refusals.specs.Refusal.{fileSpan, refusal}
-use Rattle.refusals.specs.Offset.{top}
+use Rattle.refusals.specs.declared.Kind.the-variants.{InvalidNumber}
+use Rattle.refusals.specs.Refusal.{refusal}
+use Rattle.refusals.specs.Offset.{textRefusal, offsetNumber, untilSpanEnd}
 use Rattle.chunks.specs.declared.Checked.{Checked}
 use Rattle.chunks.specs.declared.Checked.the-variants.{Clean, Faulty}
 use Rattle.chunks.specs.Chunks.{chunksOf, spanOf}
@@ -28,18 +27,10 @@ use Rattle.pages.specs.declared.ReadNumber.the-variants.{NumberIs, NoNum
 use Rattle.pages.specs.declared.ReadRange.{ReadRange}
 use Rattle.pages.specs.declared.ReadRange.the-variants.{Range, NoRange}
 
--- no number from a place to another: both are moved by the start of the span. The sums are the Rust's own `+`, and where one is too
--- large the Rust panics
-unfoldable pub noNumber : ℕ → ℕ → ℕ → Refusal
-noNumber start a e =
-    pick (leb (e + start) top)
-    (pick (leb (a + start) top) (refusal InvalidNumber (fileSpan (a + start) (e + start))) (refusal RustPanics (fileSpan 0 0)))
-    (refusal RustPanics (fileSpan 0 0))
-
 -- the number of a run of digits and the place behind it; none where there is no digit, or the number is above 32 bits
 unfoldable pub numbered : ℕ → Run → ParsedNumber → ReadNumber
 numbered start run (Value v) = NumberIs v (run .end)
-numbered start run NoValue = NoNumber (noNumber start (run .start .0) (run .end .0))
+numbered start run NoValue = NoNumber (offsetNumber (textRefusal InvalidNumber (run .start .0) (run .end .0)) start)
 
 -- the same, by the text
 unfoldable pub numberOf : List ℕ → ℕ → Run → ReadNumber
@@ -63,11 +54,11 @@ unfoldable pub onNumber : ReadNumber → (ℕ → Cursor → ReadRange) → Read
 onNumber (NumberIs v c) go = go v c
 onNumber (NoNumber e) go = NoRange e
 
--- the second number and the end. Else the place is from before that number, counted in the text, to the end of the span in the file
+-- the second number and the end. Else the place is from before that number to the end of the span
 unfoldable pub secondAt : List ℕ → ℕ → ℕ → FileSpan → ReadRange
 secondAt s a first span =
     onNumber (numberAt s (span .0) a) λ v c.
-    pick (doneAt s (c .0)) (Range first v) (NoRange (refusal InvalidNumber (fileSpan a (span .1))))
+    pick (doneAt s (c .0)) (Range first v) (NoRange (untilSpanEnd InvalidNumber a span))
 
 -- more hyphens and white space come before it
 unfoldable pub behindDash : List ℕ → ℕ → ℕ → FileSpan → ReadRange

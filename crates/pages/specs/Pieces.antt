@@ -1,14 +1,15 @@
 -- All pieces: what is answered, and what the lent table of ranges holds then.
-use Prim.Native.Nat.{ℕ, _+_, _*_}
-use mathlib.Core.Bool.{Bool, _&&_}
+use Prim.Native.Nat.{ℕ, _+_, _*_, _≤_}
+use mathlib.Core.Path.{_≡_}
+use mathlib.Core.Bool.{Bool, true, false, _&&_}
 use mathlib.Core.List.{List, [], _∷_}
 use lib.Dec.{leb, eqb}
-use lib.ListN.{length, take, drop}
+use lib.ListN.{length, getD, take, drop}
 use lib.Seq.{sets}
 use Rattle.chars.specs.Pick.{pick}
 use Rattle.refusals.specs.declared.Kind.{Kind}
 use Rattle.refusals.specs.declared.Kind.the-variants.{TooLong, BadChunks, NoRoom}
-use Rattle.refusals.specs.Refusal.{fileSpan, refusal}
+use Rattle.refusals.specs.Refusal.{nowhere}
 use Rattle.chunks.specs.Chunks.{chunksOf, lengths}
 use Rattle.pages.specs.declared.ReadRange.{ReadRange}
 use Rattle.pages.specs.declared.ReadRange.the-variants.{Range, NoRange}
@@ -30,13 +31,36 @@ addsUp b table counts = eqb (4 * total counts) (length table) && eqb (lengths (c
 unfoldable pub sizeOf : ℕ → List ℕ → ℕ
 sizeOf n table = lengths (chunksOf (take (4 * n) table))
 
--- the piece of the first n chunks, by itself
-unfoldable pub pieceOf : ℕ → List ℕ → List ℕ → ReadRange
-pieceOf n b table = piece (take (sizeOf n table) b) (take (4 * n) table)
+-- a piece: its bytes, and its numbers of the table
+pub record Lent : Type 0 where
+  pub bytes : List ℕ
+  pub table : List ℕ
 
--- the same, with how many bytes it has
+-- the piece of the first n chunks
+unfoldable pub firstOf : ℕ → List ℕ → List ℕ → Lent
+firstOf n b table = record { bytes = take (sizeOf n table) b; table = take (4 * n) table }
+
+-- the pieces, one behind the other: each has the chunks that its count says, and their bytes
+unfoldable pub piecesOf : List ℕ → List ℕ → List ℕ → List Lent
+piecesOf b table [] = []
+piecesOf b table (n ∷ ns) = firstOf n b table ∷ piecesOf (drop (sizeOf n table) b) (drop (4 * n) table) ns
+
+-- the piece of a number, counted from 0; behind the last there is an empty one
+unfoldable pub pieceAt : List ℕ → List ℕ → List ℕ → ℕ → Lent
+pieceAt b table counts i = getD (piecesOf b table counts) i (record { bytes = []; table = [] })
+
+-- what a piece says by itself
+unfoldable pub said : Lent → ReadRange
+said p = piece (p .bytes) (p .table)
+
+-- what the first piece says, with how many bytes it has
 unfoldable pub stepOf : ℕ → List ℕ → List ℕ → Taken
-stepOf n b table = record { read = pieceOf n b table; len = sizeOf n table }
+stepOf n b table = record { read = said (firstOf n b table); len = sizeOf n table }
+
+-- whether what a piece says is a range
+unfoldable pub isRange : ReadRange → Bool
+isRange (Range start end) = true
+isRange (NoRange e) = false
 
 -- a piece that is a range goes on; a refused one decides
 unfoldable pub onRange : ReadRange → Answer → Answer
@@ -44,10 +68,9 @@ onRange (Range start end) rest = rest
 onRange (NoRange e) rest = Refused e
 
 -- so many ranges, or the refusal of the first piece that is refused
-unfoldable pub judged : ℕ → List ℕ → List ℕ → List ℕ → Answer
-judged all b table [] = Ranges all
-judged all b table (n ∷ ns) =
-    onRange (pieceOf n b table) (judged all (drop (sizeOf n table) b) (drop (4 * n) table) ns)
+unfoldable pub judged : ℕ → List Lent → Answer
+judged all [] = Ranges all
+judged all (p ∷ ps) = onRange (said p) (judged all ps)
 
 -- the two numbers of a range
 unfoldable pub numbersOf : ReadRange → List ℕ
@@ -55,21 +78,24 @@ numbersOf (Range start end) = start ∷ end ∷ []
 numbersOf (NoRange e) = []
 
 -- a table of ranges with the numbers of each piece stored in turn, from a piece's place on
-unfoldable pub put : ℕ → List ℕ → List ℕ → List ℕ → List ℕ → List ℕ
-put i b table [] out = out
-put i b table (n ∷ ns) out =
-    put (i + 1) (drop (sizeOf n table) b) (drop (4 * n) table) ns (sets out (2 * i) (numbersOf (pieceOf n b table)))
+unfoldable pub put : ℕ → List Lent → List ℕ → List ℕ
+put i [] out = out
+put i (p ∷ ps) out = put (i + 1) ps (sets out (2 * i) (numbersOf (said p)))
 
 -- a refusal that names no place
 unfoldable pub refusedPages : Kind → Answer
-refusedPages k = Refused (refusal k (fileSpan 0 0))
+refusedPages k = Refused (nowhere k)
+
+-- the limits, the shape and the room, as they must be
+abbrev pub Fits : List ℕ → List ℕ → List ℕ → ℕ → Type 0
+Fits b table counts room = (length counts ≤ 64) × (addsUp b table counts ≡ true) × (2 * length counts ≤ room)
 
 -- the limits, the shape and the room come before the pieces
 unfoldable pub pagesAnswer : List ℕ → List ℕ → List ℕ → ℕ → Answer
 pagesAnswer b table counts room =
     pick (leb (length counts) 64)
     (pick (addsUp b table counts)
-    (pick (leb (2 * length counts) room) (judged (length counts) b table counts) (refusedPages NoRoom))
+    (pick (leb (2 * length counts) room) (judged (length counts) (piecesOf b table counts)) (refusedPages NoRoom))
     (refusedPages BadChunks))
     (refusedPages TooLong)
 
@@ -80,4 +106,4 @@ tableAfter (Refused e) new old = old
 
 -- the lent table afterwards: two numbers a piece at its front; after a refusal nothing has changed
 unfoldable pub pagesAfterwards : List ℕ → List ℕ → List ℕ → List ℕ → List ℕ
-pagesAfterwards b table counts out = tableAfter (pagesAnswer b table counts (length out)) (put 0 b table counts out) out
+pagesAfterwards b table counts out = tableAfter (pagesAnswer b table counts (length out)) (put 0 (piecesOf b table counts) out) out

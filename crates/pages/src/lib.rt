@@ -25,10 +25,10 @@ use refusals::Kind;
 use refusals::Refusal;
 use refusals::nowhere;
 use refusals::refuse;
+use refusals::refuse_text;
 use scanner::Class;
 use scanner::Cursor;
 use scanner::EatIf;
-use scanner::Run;
 
 const HYPHEN: u32 = b'-' as u32;
 
@@ -63,21 +63,6 @@ struct Taken {
 
 // ---- one piece
 
-// The refusal of what stands from a place to another and is no number. Its place is a sum, which the Rust panics at if it is too large.
-fn no_number(start: u64, run: Run) -> Refusal
-    ensures { λ r. ⌜ r ≡ spec.noNumber start (run .start .0) (run .end .0) ⌝ }
-{
-    let a = run.start.0 as u64;
-    let e = run.end.0 as u64;
-    if u64::MAX - start < e {
-        return nowhere(Kind::RustPanics);
-    }
-    if u64::MAX - start < a {
-        return nowhere(Kind::RustPanics);
-    }
-    refuse(Kind::InvalidNumber, FileSpan(a + start, e + start))
-}
-
 // White space, then a number, in a text whose span has a start.
 fn number_at(s: &[u8], at: Cursor, start: u64) -> ReadNumber
     ensures { λ r. ⌜ r ≡ spec.numberAt (now (s .entry)) start (at .0) ⌝ }
@@ -87,7 +72,10 @@ fn number_at(s: &[u8], at: Cursor, start: u64) -> ReadNumber
     let next = run.end;
     match numbers::parse(scanner::from(s, a, next), 4294967295) {
         ParsedNumber::Value(value) => ReadNumber::NumberIs { value, next },
-        ParsedNumber::NoValue => ReadNumber::NoNumber(no_number(start, run)),
+        ParsedNumber::NoValue => {
+            let e = refuse_text(Kind::InvalidNumber, a, next);
+            ReadNumber::NoNumber(refusals::offset_number(e, start))
+        }
     }
 }
 
@@ -104,8 +92,7 @@ fn dash_at(s: &[u8], at: Cursor) -> EatIf
     }
 }
 
-// The second number, behind a dash, more hyphens and white space. What stands behind it is refused from a place in the text on to the
-// end of the span, which is one in the file.
+// The second number, behind a dash, more hyphens and white space.
 fn behind_dash(s: &[u8], at: Cursor, first: u32, span: FileSpan) -> ReadRange
     ensures { λ r. ⌜ r ≡ spec.behindDash (now (s .entry)) (at .0) first span ⌝ }
 {
@@ -118,7 +105,7 @@ fn behind_dash(s: &[u8], at: Cursor, first: u32, span: FileSpan) -> ReadRange
                     end: value,
                 };
             }
-            ReadRange::NoRange(refuse(Kind::InvalidNumber, FileSpan(a.0 as u64, span.1)))
+            ReadRange::NoRange(refusals::until_span_end(Kind::InvalidNumber, a, span))
         }
         ReadNumber::NoNumber(e) => ReadRange::NoRange(e),
     }
@@ -253,7 +240,7 @@ fn step(bytes: &[u8], table: &[u64], at: usize, row: usize, n: usize) -> Taken
 // The first pass: the first refused piece decides, and nothing is stored.
 fn judge(bytes: &[u8], table: &[u64], counts: &[usize]) -> Answer
     requires { ⌜ pieces.addsUp (now bytes) (now table) (now counts) ≡ true ⌝ }
-    ensures { λ r. ⌜ r ≡ pieces.judged (length (now (counts .entry))) (now (bytes .entry)) (now (table .entry)) (now (counts .entry)) ⌝ }
+    ensures { λ r. ⌜ r ≡ pieces.judged (length (now (counts .entry))) (pieces.piecesOf (now (bytes .entry)) (now (table .entry)) (now (counts .entry))) ⌝ }
 {
     let mut at = 0;
     let mut row = 0;
@@ -293,7 +280,7 @@ fn put_range(r: ReadRange, out: &mut [u32], at: usize)
 // The second pass: the numbers of all pieces, at the front of the lent table.
 fn store(bytes: &[u8], table: &[u64], counts: &[usize], out: &mut [u32])
     requires { ⌜ (pieces.addsUp (now bytes) (now table) (now counts) ≡ true) × (2 * length (now counts) ≤ length (now out)) ⌝ }
-    ensures { λ u. ⌜ now (out .exit) ≡ pieces.put 0 (now (bytes .entry)) (now (table .entry)) (now (counts .entry)) (now (out .entry)) ⌝ }
+    ensures { λ u. ⌜ now (out .exit) ≡ pieces.put 0 (pieces.piecesOf (now (bytes .entry)) (now (table .entry)) (now (counts .entry))) (now (out .entry)) ⌝ }
 {
     let mut at = 0;
     let mut row = 0;

@@ -1,13 +1,15 @@
--- How a place in the formatted text of a date becomes one in the file. There is no other way.
+-- How a place in the formatted text becomes one in the file: by the offset rule, and two exceptions. There is no other way.
 use Prim.Native.Nat.{ℕ, _+_}
 use lib.Dec.{leb}
+use mathlib.Core.Bool.{_&&_}
 use Rattle.chars.specs.Pick.{pick}
 use Rattle.refusals.specs.declared.Kind.{Kind}
 use Rattle.refusals.specs.declared.Kind.the-variants.{RustPanics}
+use Rattle.refusals.specs.declared.FileSpan.{FileSpan}
 use Rattle.refusals.specs.declared.Refusal.{Refusal}
 use Rattle.refusals.specs.declared.TextSpan.{TextSpan}
 use Rattle.refusals.specs.declared.TextRefusal.{TextRefusal}
-use Rattle.refusals.specs.Refusal.{fileSpan, refusal}
+use Rattle.refusals.specs.Refusal.{fileSpan, refusal, nowhere}
 
 -- the largest number of 64 bits
 abbrev pub top : ℕ
@@ -36,8 +38,21 @@ offset e amount = refusal (e .kind) (fileSpan (saturatingAdd (e .place .0) amoun
 -- a refusal in the half behind the slash moves by the list's span start, the slash's position and 1. That sum is the Rust's own `+`,
 -- and where it is too large the Rust panics
 unfoldable pub offsetSecond : TextRefusal → ℕ → ℕ → Refusal
-offsetSecond e start slash = pick (leb (start + slash + 1) top) (offset e (start + slash + 1)) (refusal RustPanics (fileSpan 0 0))
+offsetSecond e start slash = pick (leb (start + slash + 1) top) (offset e (start + slash + 1)) (nowhere RustPanics)
 
--- the one exception among dates: the day that the month field holds has its place in the formatted text, whatever the list's span
+-- the own place of a page number moves by the list's span start. Both sums are the Rust's own `+`, and where one is too large the Rust
+-- panics
+unfoldable pub offsetNumber : TextRefusal → ℕ → Refusal
+offsetNumber e start =
+    pick (leb (e .place .1 + start) top && leb (e .place .0 + start) top)
+    (refusal (e .kind) (fileSpan (e .place .0 + start) (e .place .1 + start)))
+    (nowhere RustPanics)
+
+-- the first exception: the day that the month field holds has its place in the formatted text, whatever the list's span
 unfoldable pub unshifted : TextRefusal → Refusal
 unshifted e = refusal (e .kind) (fileSpan (e .place .0) (e .place .1))
+
+-- the second exception: what stands behind the second number of a page range has a place that starts in the formatted text, whatever
+-- the list's span, and ends where that span ends in the file
+unfoldable pub untilSpanEnd : Kind → ℕ → FileSpan → Refusal
+untilSpanEnd k start span = refusal k (fileSpan start (span .1))

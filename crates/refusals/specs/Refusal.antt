@@ -67,7 +67,7 @@ hasPlace BadChronology = false
 
 -- a place in the file, from a byte to another
 abbrev pub fileSpan : ℕ → ℕ → FileSpan
-fileSpan start end = record { 0 = start; 1 = end }
+fileSpan start end = record { 0 = start; 1 = end; 2 = tt }
 
 -- the refusal of a kind at a place in the file
 unfoldable pub refusal : Kind → FileSpan → Refusal
@@ -76,3 +76,7 @@ refusal k place = record { kind = k; place = pick (hasPlace k) place (fileSpan 0
 -- a refusal that names no place
 abbrev pub nowhere : Kind → Refusal
 nowhere k = refusal k (fileSpan 0 0)
+
+-- a refusal at a place of the lent bytes, from a byte to another: it is no place of the formatted text, and no span moves it
+abbrev pub bytesAt : Kind → ℕ → ℕ → Refusal
+bytesAt k start end = refusal k (fileSpan start end)

@@ -1,5 +1,5 @@
-// Refusals: why a call refuses, and where. A place in the formatted text and a place in the file are two types. Of a date only the functions
-// here make one of the other; the places of page ranges are made in `pages`.
+// Refusals: why a call refuses, and where. A place in the formatted text and a place in the file are two types. Only the functions here
+// make one of the other.
 ghost use mathlib.Core.Path.{_≡_};
 ghost use Rattle.refusals.specs.Refusal as spec;
 ghost use Rattle.refusals.specs.Offset as move_;
@@ -62,8 +62,9 @@ pub enum Kind {
     BadChronology,
 }
 
-// A place in the file, from a byte to another.
-pub struct FileSpan(pub u64, pub u64);
+// A place in the file, from a byte to another. The last field is private: everyone reads the two numbers, and only the functions here
+// make a place.
+pub struct FileSpan(pub u64, pub u64, ());
 
 // A place in the formatted text, from a byte to another.
 pub struct TextSpan(pub usize, pub usize);
@@ -157,7 +158,7 @@ pub fn refuse(kind: Kind, place: FileSpan) -> Refusal
     }
     Refusal {
         kind,
-        place: FileSpan(0, 0),
+        place: FileSpan(0, 0, ()),
     }
 }
 
@@ -165,7 +166,21 @@ pub fn refuse(kind: Kind, place: FileSpan) -> Refusal
 pub fn nowhere(kind: Kind) -> Refusal
     ensures { λ r. ⌜ r ≡ spec.nowhere kind ⌝ }
 {
-    refuse(kind, FileSpan(0, 0))
+    refuse(kind, FileSpan(0, 0, ()))
+}
+
+// The span that a chunk table names: it is in the file by the caller's word.
+pub fn lent_span(start: u64, end: u64) -> FileSpan
+    ensures { λ r. ⌜ r ≡ spec.fileSpan start end ⌝ }
+{
+    FileSpan(start, end, ())
+}
+
+// The refusal of a kind at a place of the lent bytes, which no span moves.
+pub fn bytes_at(kind: Kind, start: usize, end: usize) -> Refusal
+    ensures { λ r. ⌜ r ≡ spec.bytesAt kind start end ⌝ }
+{
+    refuse(kind, FileSpan(start as u64, end as u64, ()))
 }
 
 // The sum, or the largest number where it would be above that.
@@ -183,7 +198,7 @@ pub fn offset(e: TextRefusal, amount: u64) -> Refusal
     let kind = e.kind;
     let start = saturating_add(e.place.0, amount);
     let end = saturating_add(e.place.1, amount);
-    refuse(kind, FileSpan(start, end))
+    refuse(kind, FileSpan(start, end, ()))
 }
 
 // A refusal in the half behind a slash at a position, in a list whose span has a start.
@@ -197,6 +212,22 @@ pub fn offset_second(e: TextRefusal, start: u64, slash: usize) -> Refusal
     offset(e, start + pos + 1)
 }
 
+// A refusal of a page number at its own place, in a list whose span has a start.
+pub fn offset_number(e: TextRefusal, start: u64) -> Refusal
+    ensures { λ r. ⌜ r ≡ move_.offsetNumber e start ⌝ }
+{
+    let kind = e.kind;
+    let a = e.place.0 as u64;
+    let b = e.place.1 as u64;
+    if u64::MAX - start < b {
+        return nowhere(Kind::RustPanics);
+    }
+    if u64::MAX - start < a {
+        return nowhere(Kind::RustPanics);
+    }
+    refuse(kind, FileSpan(a + start, b + start, ()))
+}
+
 // A refusal of the day that the month field holds: its place is left as it is in the text.
 pub fn unshifted(e: TextRefusal) -> Refusal
     ensures { λ r. ⌜ r ≡ move_.unshifted e ⌝ }
@@ -204,5 +235,12 @@ pub fn unshifted(e: TextRefusal) -> Refusal
     let kind = e.kind;
     let start = e.place.0 as u64;
     let end = e.place.1 as u64;
-    refuse(kind, FileSpan(start, end))
+    refuse(kind, FileSpan(start, end, ()))
+}
+
+// A refusal behind the second number of a page range: from a place in the text, which is left as it is, to the end of the list's span.
+pub fn until_span_end(kind: Kind, start: Cursor, span: FileSpan) -> Refusal
+    ensures { λ r. ⌜ r ≡ move_.untilSpanEnd kind (start .0) span ⌝ }
+{
+    refuse(kind, FileSpan(start.0 as u64, span.1, ()))
 }

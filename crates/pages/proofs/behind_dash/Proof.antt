@@ -23,7 +23,7 @@ returns-2 c =
     let b6 = b4 .before .before in
     let b7 = b6 .before in
     let b8 = b7 .before in
-    simp (← b8 .eat-while .ensures, ← b7 .eat-whitespace .ensures, ← b6 .number-at .ensures, b4 .value .given .1, ← b2 .done .ensures, b1 .if1 .left, ← c .refuse .ensures)
+    simp (← b8 .eat-while .ensures, ← b7 .eat-whitespace .ensures, ← b6 .number-at .ensures, b4 .value .given .1, ← b2 .done .ensures, b1 .if1 .left, ← c .until-span-end .ensures)
 
 returns-3 : tie.Need-returns-3
 unfolding behindDash secondAt onNumber pick

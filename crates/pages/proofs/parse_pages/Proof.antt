@@ -1,4 +1,4 @@
-use Rattle.pages.proofs.Answers.{says, leaves, keeps}
+use Rattle.pages.proofs.Answers.{fitting, leaves, keeps}
 use mathlib.Core.Path.{sym, _∙_}
 use lib.ListN.{length}
 use borrow.Author.Needs.{needs}
@@ -6,7 +6,7 @@ use Rattle.pages.proofs.parse_pages.Statement.{statement}
 use Rattle.pages.proofs.parse_pages.Tie as tie
 
 store-requires : tie.Need-store-requires
-store-requires c κs = says (c .before .before .before .before .before .before .before .before .before .args .bytes .now) (c .before .before .before .before .before .before .before .before .before .args .table .now) (c .before .before .before .before .before .before .before .before .before .args .counts .now) (length (c .before .before .before .before .before .before .before .before .before .args .out .now)) (sym (c .before .before .before .before .decide .ensures) ∙ c .before .before .n .given .1)
+store-requires c κs = let f = fitting (c .before .before .before .before .before .before .before .before .before .args .bytes .now) (c .before .before .before .before .before .before .before .before .before .args .table .now) (c .before .before .before .before .before .before .before .before .before .args .counts .now) (length (c .before .before .before .before .before .before .before .before .before .args .out .now)) (sym (c .before .before .before .before .decide .ensures) ∙ c .before .before .n .given .1) in (f .1, f .2)
 
 returns : tie.Need-returns
 returns c = let q = sym (c .before .before .before .before .before .before .before .decide .ensures) ∙ c .before .before .before .before .before .n .given .1 in (sym q, leaves (c .before .before .before .before .before .before .before .before .before .before .before .before .args .bytes .now) (c .before .before .before .before .before .before .before .before .before .before .before .before .args .table .now) (c .before .before .before .before .before .before .before .before .before .before .before .before .args .counts .now) (c .before .before .before .before .before .before .before .before .before .before .before .before .args .out .now) q (c .before .before .store .ensures))

@@ -1,4 +1,4 @@
-use Rattle.pages.specs.Pieces.{numbersOf, put}
+use Rattle.pages.specs.Pieces.{piecesOf, numbersOf, put}
 use Rattle.pages.proofs.Walk.{At, starts, row-fits, size-fits, len-fits, at-next, put-next, put-end}
 use lib.ListN.{length, drop}
 use Prim.Native.Nat.{_-_, _*_}
@@ -9,7 +9,7 @@ use Rattle.pages.proofs.store.Statement.{statement}
 use Rattle.pages.proofs.store.Tie as tie
 
 abbrev Inv-loop : tie.InvT-loop
-Inv-loop bytes table counts out₀ at₀ row₀ i₀ out at row i = At bytes table counts at row i × (put i (drop at bytes) (drop row table) (drop i counts) out ≡ put 0 bytes table counts out₀) × (length out ≡ length out₀)
+Inv-loop bytes table counts out₀ at₀ row₀ i₀ out at row i = At bytes table counts at row i × (put i (piecesOf (drop at bytes) (drop row table) (drop i counts)) out ≡ put 0 (piecesOf bytes table counts) out₀) × (length out ≡ length out₀)
 
 abbrev μ-loop : tie.MeasureT-loop
 μ-loop bytes table counts out₀ at₀ row₀ i₀ out at row i = length counts - i
