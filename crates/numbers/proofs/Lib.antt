@@ -1,5 +1,5 @@
 pub mod Sums
+pub mod Whole
 pub mod Laws
 pub mod Reading
-pub mod Whole
 pub mod Trims

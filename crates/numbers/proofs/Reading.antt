@@ -3,10 +3,10 @@
 use mathlib.Core.Path.{_≡_, refl, sym, ap, _∙_}
 use mathlib.Core.Bool.{true, false}
 use mathlib.Core.List.{List, [], _∷_, _++_}
-use Prim.Native.Nat.{ℕ, suc, _+_, _*_, _<_}
-use native.Mathlib.Nat.{add-zero, add-sub-cancel-left}
+use Prim.Native.Nat.{ℕ, suc, _+_, _*_, _^_, _≤_, _<_}
+use native.Mathlib.Nat.{add-zero, add-sub-cancel-left, pow-le-pow-right}
 use native.Mathlib.Omega.{arith}
-use borrow.Author.Tests.{lt-ltb, le-leb, ne-eqb}
+use borrow.Author.Tests.{le-ltb, le-leb, lt-leb, ne-eqb}
 use lib.Dec.{lit<}
 use lib.IntN.{pos, negℤ}
 use lib.ListN.{length, take}
@@ -15,7 +15,6 @@ use Rattle.chars.proofs.Laws.{digit-is}
 use Rattle.chars.specs.Classes.{within, isWhitespace, isAsciiDigit, isNumeric}
 use Rattle.scanner.specs.declared.Class.{Class}
 use Rattle.scanner.specs.declared.Class.the-variants.{Whitespace, Numeric, Sign, Is}
-use Rattle.scanner.specs.declared.Cursor.{Cursor}
 use Rattle.scanner.specs.declared.EatIf.the-variants.{Past, Kept}
 use Rattle.scanner.specs.Class.{inClass}
 use Rattle.scanner.specs.Scan.{matchLen, eatWhile, eatIf, standsAt, part}
@@ -25,6 +24,10 @@ use Rattle.numbers.specs.Number.{admits, cursor, runValue, runOf, runAt,
 use Rattle.chars.specs.Signs.{signed}
 use Rattle.numbers.specs.declared.Digits.{Digits}
 use Rattle.numbers.specs.declared.Parsed.the-variants.{Number, Wrong}
+use Rattle.numbers.specs.declared.ParsedNumber.the-variants.{Value}
+use Rattle.numbers.specs.Parse.{wholeValue, digitsFrom}
+use Rattle.numbers.proofs.Whole.{ten}
+use Rattle.numbers.proofs.Laws.{admitted-most, admitted-some, most-four}
 use Rattle.numbers.specs.declared.ReadInt.the-variants.{Int, NoInt}
 
 -- digits, by what they say: their bytes, and the number that they are
@@ -86,10 +89,24 @@ run-digits [] {s} {t} {i} h b f = behind-numeric b f ∙ sym (add-zero i)
 run-digits (d ∷ ds) {s} {t} {i} h b f =
     front-go f Numeric (omega (arith, h .0)) (digit-numeric d (h .0)) ∙ run-digits ds (h .1) b (front-rest f) ∙ omega arith
 
-value-digits : (ds : List ℕ) (c : Cursor) (acc : ℕ) → AreDigits ds → runValue c acc (bytes ds) ≡ Number (value acc ds) c
-unfolding runValue pick
-value-digits [] c acc h = refl
-value-digits (d ∷ ds) c acc h = simp (digit-is d (h .0), lt-ltb d 10 (h .0)) (value-digits ds c (acc * 10 + d) (h .1))
+-- the number that they are: no less than that of the first of them
+value-grows : (acc : ℕ) (ds : List ℕ) → acc ≤ value acc ds
+value-grows acc [] = omega arith
+value-grows acc (d ∷ ds) = let g = value-grows (acc * 10 + d) ds in omega arith
+
+-- it is read where it is not above the largest
+pub value-is : (ds : List ℕ) (top acc : ℕ) → AreDigits ds → value acc ds ≤ top → wholeValue top acc (bytes ds) ≡ Value (value acc ds)
+unfolding wholeValue pick
+value-is [] top acc h l = refl
+value-is (d ∷ ds) top acc h l =
+    let g = value-grows (acc * 10 + d) ds in
+    rw (digit-is d (h .0), le-ltb 9 d (omega (arith, h .0)), le-ltb top (acc * 10 + d) (omega arith)) (value-is ds top (acc * 10 + d) (h .1) l)
+
+-- and it has no more digits than they are
+value-small : (ds : List ℕ) (acc m : ℕ) → AreDigits ds → acc < m → value acc ds < m * 10 ^ length ds
+value-small [] acc m h l = omega arith
+value-small (d ∷ ds) acc m h l =
+    rw (← ten m (length ds)) (value-small ds (acc * 10 + d) (m * 10) (h .1) (omega (arith, h .0)))
 
 pub length-bytes : (ds : List ℕ) → length (bytes ds) ≡ length ds
 length-bytes [] = refl
@@ -106,10 +123,19 @@ module _ (ds : List ℕ) {s t : List ℕ} {i : ℕ} (h : AreDigits ds) (b : Behi
       rw (add-sub-cancel-left, f .is)
       (ap (λ (n : ℕ). take n (bytes ds ++ t)) (sym (length-bytes ds)) ∙ take-front (bytes ds) t)
 
+  digits-read : (g : Digits) → admits g (length ds) ≡ true → digitsFrom 9999 (bytes ds) 0 ≡ Value (value 0 ds)
+  unfolding digitsFrom pick
+  digits-read g l =
+      let n = length-bytes ds in
+      let small : value 0 ds ≤ 9999 =
+      omega (arith, value-small ds 0 1 h (lit< tt), pow-le-pow-right {n = 10} (lit< tt) (admitted-most g (length ds) l), most-four g)
+      in
+      rw (lt-leb (length (bytes ds)) 0 (omega (arith, admitted-some g (length ds) l))) (value-is ds 9999 0 h small)
+
   -- as many digits as are admitted
   pub run-read : (g : Digits) → admits g (length ds) ≡ true → runAt s i g ≡ Number (value 0 ds) (cursor (i + length ds))
-  unfolding runAt runOf pick
-  run-read g l = rw (run-digits ds h b f, run-part, length-bytes ds, l) (value-digits ds (cursor (i + length ds)) 0 h)
+  unfolding runAt runOf runValue pick
+  run-read g l = rw (run-digits ds h b f, run-part, length-bytes ds, l, digits-read g l)
 
   -- another number of them
   pub run-wrong : (g : Digits) → admits g (length ds) ≡ false → runAt s i g ≡ Wrong (cursor (i + length ds))
