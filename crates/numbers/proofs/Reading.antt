@@ -4,21 +4,21 @@ use mathlib.Core.Path.{_≡_, refl, sym, ap, _∙_}
 use mathlib.Core.Bool.{true, false}
 use mathlib.Core.List.{List, [], _∷_, _++_}
 use Prim.Native.Nat.{ℕ, suc, _+_, _*_, _^_, _≤_, _<_}
-use native.Mathlib.Nat.{add-zero, add-sub-cancel-left, pow-le-pow-right}
+use native.Mathlib.Nat.{add-zero, pow-le-pow-right}
 use native.Mathlib.Omega.{arith}
-use borrow.Author.Tests.{le-ltb, le-leb, lt-leb, ne-eqb}
+use borrow.Author.Tests.{le-ltb, lt-leb, ne-eqb}
 use lib.Dec.{lit<}
 use lib.IntN.{pos, negℤ}
-use lib.ListN.{length, take}
+use lib.ListN.{length}
 use Rattle.chars.specs.Pick.{pick}
 use Rattle.chars.proofs.Laws.{digit-is}
-use Rattle.chars.specs.Classes.{within, isWhitespace, isAsciiDigit, isNumeric}
 use Rattle.scanner.specs.declared.Class.{Class}
-use Rattle.scanner.specs.declared.Class.the-variants.{Whitespace, Numeric, Sign, Is}
+use Rattle.scanner.specs.declared.Class.the-variants.{Whitespace, Numeric, AsciiDigit, Sign, Is}
 use Rattle.scanner.specs.declared.EatIf.the-variants.{Past, Kept}
 use Rattle.scanner.specs.Class.{inClass}
 use Rattle.scanner.specs.Scan.{matchLen, eatWhile, eatIf, standsAt, part}
-use Rattle.scanner.proofs.Front.{From, front-rest, front-match, front-go, front-stop, front-end}
+use Rattle.scanner.proofs.Front.{From, front-part, front-rest, front-match, front-go, front-stop, front-end}
+use Rattle.scanner.proofs.Digits.{digit-numeric, below-digits, no-numeric, is-it, is-other}
 use Rattle.scanner.proofs.Laws.{not-white}
 use Rattle.numbers.specs.Number.{admits, cursor, runValue, runOf, runAt, parseUnsignedInt, orKept, behindSign, withSign, intAt, parseInt}
 use Rattle.chars.specs.Signs.{signed}
@@ -48,27 +48,24 @@ pub data Behind : List ℕ → Type 0 where
   end : Behind []
   stop : {c : ℕ} {t : List ℕ} → c < 128 → inClass Whitespace c ≡ false → inClass Numeric c ≡ false → Behind (c ∷ t)
 
--- the classes of a digit
-pub digit-numeric : (d : ℕ) → d < 10 → inClass Numeric (48 + d) ≡ true
-unfolding inClass isNumeric isAsciiDigit within
-digit-numeric d h = simp (le-leb 0x30 (48 + d) (omega arith), le-leb (48 + d) 0x39 (omega arith))
+-- such a character
+pub printing : {c : ℕ} {t : List ℕ} → 0x20 < c → c < 0x80 → inClass AsciiDigit c ≡ false → Behind (c ∷ t)
+printing {c} l h n = stop h (not-white c l h) (no-numeric c h n)
 
+-- a digit is no sign and no hyphen
 pub digit-sign : (d : ℕ) → d < 10 → inClass Sign (48 + d) ≡ false
 unfolding inClass
 digit-sign d h = simp (ne-eqb (48 + d) 0x2B (λ e. omega arith), ne-eqb (48 + d) 0x2D (λ e. omega arith))
 
 pub digit-hyphen : (d : ℕ) → d < 10 → inClass (Is 0x2D) (48 + d) ≡ false
-unfolding inClass
-digit-hyphen d h = ne-eqb (48 + d) 0x2D (λ e. omega arith)
+digit-hyphen d h = is-other 0x2D (48 + d) (λ (e : 48 + d ≡ 0x2D). omega arith)
 
--- and of a hyphen
+-- a hyphen is both
 pub hyphen : {t : List ℕ} → Behind (0x2D ∷ t)
-unfolding inClass isWhitespace isNumeric isAsciiDigit within
-hyphen = stop (lit< tt) refl refl
+hyphen = printing (lit< tt) (lit< tt) (below-digits 0x2D (lit< tt))
 
 pub hyphen-hyphen : inClass (Is 0x2D) 0x2D ≡ true
-unfolding inClass
-hyphen-hyphen = refl
+hyphen-hyphen = is-it 0x2D
 
 pub hyphen-sign : inClass Sign 0x2D ≡ true
 unfolding inClass
@@ -87,7 +84,7 @@ behind-numeric (stop l w n) f = front-stop f Numeric l n
 pub run-digits : (ds : List ℕ) {s t : List ℕ} {i : ℕ} → AreDigits ds → Behind t → From s i (bytes ds ++ t) → eatWhile Numeric s i ≡ i + length ds
 run-digits [] {s} {t} {i} h b f = behind-numeric b f ∙ sym (add-zero i)
 run-digits (d ∷ ds) {s} {t} {i} h b f =
-    front-go f Numeric (omega (arith, h .0)) (digit-numeric d (h .0)) ∙ run-digits ds (h .1) b (front-rest f) ∙ omega arith
+    front-go f Numeric (omega (arith, h .0)) (digit-numeric (48 + d) (omega arith) (omega (arith, h .0))) ∙ run-digits ds (h .1) b (front-rest f) ∙ omega arith
 
 -- the number that they are: no less than that of the first of them
 value-grows : (acc : ℕ) (ds : List ℕ) → acc ≤ value acc ds
@@ -112,17 +109,11 @@ pub length-bytes : (ds : List ℕ) → length (bytes ds) ≡ length ds
 length-bytes [] = refl
 length-bytes (d ∷ ds) = ap suc (length-bytes ds)
 
-take-front : (u t : List ℕ) → take (length u) (u ++ t) ≡ u
-take-front [] t = refl
-take-front (x ∷ u) t = ap (λ (l : List ℕ). x ∷ l) (take-front u t)
+-- the part of the text that they are
+pub digits-part : (ds t : List ℕ) {s : List ℕ} {i : ℕ} → From s i (bytes ds ++ t) → part s i (i + length ds) ≡ bytes ds
+digits-part ds t {s} {i} f = ap (λ (n : ℕ). part s i (i + n)) (sym (length-bytes ds)) ∙ front-part (bytes ds) t f
 
 module _ (ds : List ℕ) {s t : List ℕ} {i : ℕ} (h : AreDigits ds) (b : Behind t) (f : From s i (bytes ds ++ t)) where
-  run-part : part s i (i + length ds) ≡ bytes ds
-  unfolding part
-  run-part =
-      rw (add-sub-cancel-left, f .is)
-      (ap (λ (n : ℕ). take n (bytes ds ++ t)) (sym (length-bytes ds)) ∙ take-front (bytes ds) t)
-
   digits-read : (g : Digits) → admits g (length ds) ≡ true → digitsFrom 9999 (bytes ds) 0 ≡ Value (value 0 ds)
   unfolding digitsFrom pick
   digits-read g l =
@@ -135,12 +126,12 @@ module _ (ds : List ℕ) {s t : List ℕ} {i : ℕ} (h : AreDigits ds) (b : Behi
   -- as many digits as are admitted
   pub run-read : (g : Digits) → admits g (length ds) ≡ true → runAt s i g ≡ Number (value 0 ds) (cursor (i + length ds))
   unfolding runAt runOf runValue pick
-  run-read g l = rw (run-digits ds h b f, run-part, length-bytes ds, l, digits-read g l)
+  run-read g l = rw (run-digits ds h b f, digits-part ds t f, length-bytes ds, l, digits-read g l)
 
   -- another number of them
   pub run-wrong : (g : Digits) → admits g (length ds) ≡ false → runAt s i g ≡ Wrong (cursor (i + length ds))
   unfolding runAt runOf pick
-  run-wrong g l = rw (run-digits ds h b f, run-part, length-bytes ds, l)
+  run-wrong g l = rw (run-digits ds h b f, digits-part ds t f, length-bytes ds, l)
 
 -- what eating one character does, by what stands there
 module _ {s t : List ℕ} {i c : ℕ} (f : From s i (c ∷ t)) (k : Class) (l : c < 128) where
