@@ -4,3 +4,4 @@ pub mod Laws
 pub mod Decimal
 pub mod Reading
 pub mod Trims
+pub mod Examples

@@ -6,3 +6,4 @@ pub mod Quicks
 pub mod Parts
 pub mod Front
 pub mod Runs
+pub mod Examples
