@@ -11,3 +11,5 @@ pub mod Proper
 pub mod Answers
 pub mod Reached
 pub mod Buffers
+pub mod Empty
+pub mod Examples

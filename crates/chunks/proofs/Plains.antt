@@ -17,14 +17,14 @@ use Rattle.chars.proofs.Classes.{ascii-admitted, printing-not-white}
 use Rattle.chars.specs.Upper.{loses32, upperOf, codesOf as upperCodes}
 use Rattle.chars.specs.declared.Decoded.the-variants.{Char}
 use Rattle.chars.specs.declared.Upper.the-variants.{One}
-use Rattle.chars.proofs.Cases.{by-test, and-true}
+use Rattle.chars.proofs.Cases.{by-test, of-test, and-true}
 use Rattle.chars.proofs.Encode.{encode-one}
 use Rattle.chars.proofs.Laws.{first-ascii}
 use Rattle.chunks.specs.declared.Checked.the-variants.{Clean}
 use Rattle.chunks.specs.Characters.{andThen, upTo, characters, codesOf, codes}
 use Rattle.chunks.specs.Chunks.{chunksOf, kindsKnown, lengths, fits, isShort}
 use Rattle.chunks.specs.Check.{faultIn, orElse, faultOf, checked}
-use Rattle.chunks.specs.Format.{isBreak, oneOut, oneFlag, normal, chunkOut, chunksOut, formatted}
+use Rattle.chunks.specs.Format.{isBreak, oneOut, normal, chunkOut, chunksOut, formatted}
 use Rattle.chunks.specs.Upper.{upperOut, uppers, uppercase}
 use Rattle.chunks.specs.Plain.{allAscii, isPlain, plainByte, plainOut, plainText}
 use Rattle.chunks.specs.Answer.{textOf, roomOf}
@@ -64,7 +64,7 @@ ascii-clean p (b ∷ t) e = rw (ascii-characters b t e, ascii-admitted b (front-
 normal-plain : (w : Bool) (t : List ℕ) → allAscii t ≡ true → normal w t ≡ plainText false w t
 unfolding normal plainText oneOut plainOut plainByte pick
 normal-plain w [] e = refl
-normal-plain w (b ∷ t) e = rw (encode-one b (front-low b t e), normal-plain (oneFlag b) t (rest-ascii b t e))
+normal-plain w (b ∷ t) e = rw (encode-one b (front-low b t e), normal-plain (isWhitespace b) t (rest-ascii b t e))
 
 -- in upper case
 upper-ascii : (b : ℕ) → b < 0x80 → upperOut b ≡ plainByte true b ∷ []
@@ -102,7 +102,7 @@ out-ascii w b h = by-test P (isBreak b) (λ _. by-test P w (λ _. refl) (λ _. r
 text-ascii : (w : Bool) (t : List ℕ) → allAscii t ≡ true → allAscii (plainText false w t) ≡ true
 unfolding plainText allAscii
 text-ascii w [] e = refl
-text-ascii w (b ∷ t) e = all-append (plainOut false w b) (plainText false (oneFlag b) t) (out-ascii w b (front-low b t e)) (text-ascii (oneFlag b) t (rest-ascii b t e))
+text-ascii w (b ∷ t) e = all-append (plainOut false w b) (plainText false (isWhitespace b) t) (out-ascii w b (front-low b t e)) (text-ascii (isWhitespace b) t (rest-ascii b t e))
 
 uppers-append : (s t : List ℕ) → uppers (s ++ t) ≡ uppers s ++ uppers t
 unfolding uppers
@@ -124,9 +124,9 @@ unfolding plainText uppers
 uppers-plain w [] e = refl
 uppers-plain w (b ∷ t) e =
     rw (
-      uppers-append (plainOut false w b) (plainText false (oneFlag b) t),
+      uppers-append (plainOut false w b) (plainText false (isWhitespace b) t),
       out-upper w b (front-low b t e),
-      uppers-plain (oneFlag b) t (rest-ascii b t e),
+      uppers-plain (isWhitespace b) t (rest-ascii b t e),
     )
 
 -- a byte puts out at most one
@@ -138,8 +138,8 @@ plain-short u w b = by-test P (isBreak b) (λ _. by-test P w (λ _. zero-le) (λ
     P l = length l ≤ 1
 
 -- a byte above the space: no line break and no white space
-pub plain-high : (u w : Bool) (b : ℕ) → 0x20 < b → b < 0x80 → (plainOut u w b ≡ plainByte u b ∷ []) × (oneFlag b ≡ false)
-unfolding plainOut oneFlag isBreak pick
+pub plain-high : (u w : Bool) (b : ℕ) → 0x20 < b → b < 0x80 → (plainOut u w b ≡ plainByte u b ∷ []) × (isWhitespace b ≡ false)
+unfolding plainOut isBreak pick
 plain-high u w b l h =
     rw (
       ne-eqb b 0x0A (λ (e : b ≡ 0x0A). omega arith),
@@ -165,13 +165,11 @@ module _ (u w : Bool) (b : ℕ) where
   unfolding plainOut pick
   other-out e = rw e
 
-pub break-flag : (b : ℕ) → isBreak b ≡ true → oneFlag b ≡ true
-unfolding oneFlag pick
-break-flag b e = rw e
-
-pub other-flag : (b : ℕ) → isBreak b ≡ false → oneFlag b ≡ isWhitespace b
-unfolding oneFlag pick
-other-flag b e = rw e
+-- a line break is white space
+pub break-white : (b : ℕ) → isBreak b ≡ true → isWhitespace b ≡ true
+unfolding isBreak isWhitespace within
+break-white b e =
+    of-test (eqb b 0x0A) (λ t. rw (eqb-true b 0x0A t)) (λ t. let u : eqb b 0x0D ≡ true = rw t at e in rw (eqb-true b 0x0D u))
 
 -- what a plain list is
 pub record IsPlain (b t : List ℕ) : Type 0 where
@@ -197,7 +195,7 @@ of-plain b t e =
     }
 
 -- one Normal chunk with all of the bytes
-chunk-plain : (b : List ℕ) (k n s e : ℕ) → k ≡ 0 → n ≡ length b → length b ≤ 4096 → allAscii b ≡ true → (checked b (k ∷ n ∷ s ∷ e ∷ []) ≡ Clean) × (formatted b (k ∷ n ∷ s ∷ e ∷ []) ≡ plainText false false b)
+pub chunk-plain : (b : List ℕ) (k n s e : ℕ) → k ≡ 0 → n ≡ length b → length b ≤ 4096 → allAscii b ≡ true → (checked b (k ∷ n ∷ s ∷ e ∷ []) ≡ Clean) × (formatted b (k ∷ n ∷ s ∷ e ∷ []) ≡ plainText false false b)
 unfolding checked fits isShort chunksOf kindsKnown lengths faultOf orElse formatted chunksOut chunkOut pick
 chunk-plain b k n s e z w h a =
     rw (z, w, add-zero (length b), eq-eqb (length b) (length b) refl, le-leb (length b) 4096 h, take-all (length b) b (omega arith), ascii-clean 0 b a, ascii-codes b a)

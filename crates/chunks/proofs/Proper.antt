@@ -10,7 +10,7 @@ use lib.ListN.{length, take, drop, length-append, length-drop, take-append-drop}
 use lib.Seq.{drop-append-seam, length-take-le}
 use Rattle.chars.specs.Pick.{pick}
 use Rattle.chars.specs.Utf8.{first, encode, encodeAll}
-use Rattle.chars.specs.Classes.{isAdmitted}
+use Rattle.chars.specs.Classes.{isAdmitted, isWhitespace}
 use Rattle.chars.specs.declared.Decoded.{Decoded}
 use Rattle.chars.specs.declared.Decoded.the-variants.{Char, Bad}
 use Rattle.chars.proofs.Cases.{by-test}
@@ -23,7 +23,7 @@ use Rattle.chunks.specs.declared.Checked.the-variants.{Clean, Faulty}
 use Rattle.chunks.specs.Characters.{andThen, characters, codesOf, codes}
 use Rattle.chunks.specs.Chunks.{Chunk, chunksOf}
 use Rattle.chunks.specs.Check.{faultIn, orElse, faultOf}
-use Rattle.chunks.specs.Format.{isBreak, oneOut, oneFlag, normal, chunkOut, chunkFlag, chunksOut, formatted}
+use Rattle.chunks.specs.Format.{isBreak, oneOut, normal, chunkOut, chunkFlag, chunksOut, formatted}
 use Rattle.chunks.specs.Upper.{upperOut, uppers, uppercase}
 use Rattle.chunks.proofs.Walk.{characters-are}
 use Rattle.chunks.proofs.Room.{upper-long}
@@ -122,7 +122,7 @@ proper-out w c s =
 proper-normal : (w : Bool) {cs : List ℕ} → Spells cs → Proper (normal w cs)
 unfolding normal
 proper-normal w spells-none = proper-nil
-proper-normal w (spells-more {c} s r) = proper-append (proper-out w c s) (proper-normal (oneFlag c) r)
+proper-normal w (spells-more {c} s r) = proper-append (proper-out w c s) (proper-normal (isWhitespace c) r)
 
 -- a text without a fault
 pub faulty-not : {e : Refusal} → Faulty e ≡ Clean → ⊥

@@ -10,6 +10,7 @@ use borrow.Author.Tests.{leb-true}
 use lib.Dec.{leb, eqb}
 use lib.ListN.{length, take, drop, length-append, length-take, length-drop}
 use Rattle.chars.specs.Utf8.{encode}
+use Rattle.chars.specs.Classes.{isWhitespace}
 use Rattle.chars.specs.declared.Decoded.{Decoded}
 use Rattle.chars.proofs.Cases.{by-test, and-true}
 use Rattle.chars.proofs.Laws.{Sound, first-sound}
@@ -17,7 +18,7 @@ use Rattle.chars.proofs.Laws.Sound.{char, bad, end}
 use Rattle.chars.proofs.Uppers.{upper-length}
 use Rattle.chunks.specs.Characters.{andThen, upTo, characters, codesOf, codes}
 use Rattle.chunks.specs.Chunks.{Chunk, chunksOf, isShort}
-use Rattle.chunks.specs.Format.{isBreak, oneOut, oneFlag, normal, chunkOut, chunkFlag, chunksOut, formatted}
+use Rattle.chunks.specs.Format.{isBreak, oneOut, normal, chunkOut, chunkFlag, chunksOut, formatted}
 use Rattle.chunks.specs.Upper.{upperOut}
 use Rattle.chunks.specs.Answer.{roomOf}
 
@@ -34,7 +35,7 @@ after-short : {t : List ℕ} {d : Decoded} → Sound t d → (r : ℕ → List D
 unfolding andThen codesOf normal
 after-short {t} (char {k} {code} a b m e) r h w =
     let long : length (encode code) ≡ k = omega (arith, ap length e, length-take k t) in
-    simp length-append (omega (arith, a, b, h (oneFlag code) k, one-short w code k a long))
+    simp length-append (omega (arith, a, b, h (isWhitespace code) k, one-short w code k a long))
 after-short bad r h w = zero-le
 after-short end r h w = zero-le
 

@@ -1,7 +1,7 @@
 -- The formatted text of a chunk list. The flag says whether the previous character was white space; it is clear at first.
 use Prim.Native.Char.{code}
 use Prim.Native.Nat.{ℕ}
-use mathlib.Core.Bool.{Bool, true, false, _||_}
+use mathlib.Core.Bool.{Bool, false, _||_}
 use mathlib.Core.List.{List, [], _∷_, _++_}
 use lib.Dec.{eqb}
 use lib.ListN.{take, drop}
@@ -19,19 +19,10 @@ isBreak c = eqb c 0x0A || eqb c 0x0D
 unfoldable pub oneOut : Bool → ℕ → List ℕ
 oneOut white c = pick (isBreak c) (pick white [] (code " " ∷ [])) (encode c)
 
--- the flag behind it: each character put out sets it anew, and behind a dropped line break it is still set
-unfoldable pub oneFlag : ℕ → Bool
-oneFlag c = pick (isBreak c) true (isWhitespace c)
-
--- what the characters of a Normal chunk put out
+-- what the characters of a Normal chunk put out: each sets the flag anew, and a line break, which is white space, sets it even if dropped
 unfoldable pub normal : Bool → List ℕ → List ℕ
 normal white [] = []
-normal white (c ∷ cs) = oneOut white c ++ normal (oneFlag c) cs
-
--- the flag behind them
-unfoldable pub normalFlag : Bool → List ℕ → Bool
-normalFlag white [] = white
-normalFlag white (c ∷ cs) = normalFlag (oneFlag c) cs
+normal white (c ∷ cs) = oneOut white c ++ normal (isWhitespace c) cs
 
 -- whether the last character is white space; with no character, what was said before
 unfoldable pub lastWhite : Bool → List ℕ → Bool
@@ -42,9 +33,9 @@ lastWhite white (c ∷ cs) = lastWhite (isWhitespace c) cs
 unfoldable pub chunkOut : Bool → ℕ → List ℕ → List ℕ
 chunkOut white kind t = pick (eqb kind 0) (normal white (codes t)) (pick (eqb kind 1) t (code "$" ∷ (t ++ code "$" ∷ [])))
 
--- the flag behind it: of Verbatim that of its last character, false if it is empty; Math leaves it
+-- the flag behind it: of Normal that of its last character, left if it is empty; of Verbatim the same, false if it is empty; Math leaves it
 unfoldable pub chunkFlag : Bool → ℕ → List ℕ → Bool
-chunkFlag white kind t = pick (eqb kind 0) (normalFlag white (codes t)) (pick (eqb kind 1) (lastWhite false (codes t)) white)
+chunkFlag white kind t = pick (eqb kind 0) (lastWhite white (codes t)) (pick (eqb kind 1) (lastWhite false (codes t)) white)
 
 -- what chunks put out, one behind the other
 unfoldable pub chunksOut : Bool → List ℕ → List Chunk → List ℕ

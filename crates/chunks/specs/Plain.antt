@@ -7,7 +7,8 @@ use mathlib.Core.List.{List, [], _∷_, _++_}
 use lib.Dec.{ltb, leb, eqb}
 use lib.ListN.{length, getD}
 use Rattle.chars.specs.Pick.{pick}
-use Rattle.chunks.specs.Format.{isBreak, oneFlag}
+use Rattle.chars.specs.Classes.{isWhitespace}
+use Rattle.chunks.specs.Format.{isBreak}
 
 -- each byte is then a character by itself, and one that is read
 unfoldable pub allAscii : List ℕ → Bool
@@ -30,4 +31,4 @@ plainOut upper white b = pick (isBreak b) (pick white [] (code " " ∷ [])) (pla
 -- what the bytes put out
 unfoldable pub plainText : Bool → Bool → List ℕ → List ℕ
 plainText upper white [] = []
-plainText upper white (b ∷ t) = plainOut upper white b ++ plainText upper (oneFlag b) t
+plainText upper white (b ∷ t) = plainOut upper white b ++ plainText upper (isWhitespace b) t

@@ -7,6 +7,7 @@ ghost use lib.Dec.{eqb};
 ghost use lib.ListN.{length};
 ghost use lib.Seq.{sets};
 ghost use Rattle.chars.specs.Utf8.{encode};
+ghost use Rattle.chars.specs.Classes.{isWhitespace};
 ghost use Rattle.refusals.specs.Refusal.{bytesAt};
 ghost use Rattle.chunks.specs.declared.Checked.the-variants.{Faulty};
 ghost use Rattle.chunks.specs.Characters.{codes};
@@ -201,7 +202,7 @@ fn is_break(code: u32) -> bool
 // Puts one character of a Normal chunk: a line break as a space, or not at all behind white space.
 fn put_one(buf: &mut [u8], n: usize, white: bool, code: u32) -> Put
     requires { ⌜ (code < 0x110000) × (n + length (format_.oneOut white code) ≤ length (now buf)) ⌝ }
-    ensures { λ r. ⌜ (r .n ≡ n + length (format_.oneOut white code)) × (r .«prev_was_whitespace» ≡ format_.oneFlag code) × (now (buf .exit) ≡ sets (now (buf .entry)) n (format_.oneOut white code)) ⌝ }
+    ensures { λ r. ⌜ (r .n ≡ n + length (format_.oneOut white code)) × (r .«prev_was_whitespace» ≡ isWhitespace code) × (now (buf .exit) ≡ sets (now (buf .entry)) n (format_.oneOut white code)) ⌝ }
 {
     if is_break(code) {
         if white {
@@ -227,7 +228,7 @@ fn put_one(buf: &mut [u8], n: usize, white: bool, code: u32) -> Put
 // Puts a Normal chunk, a character at a time, as a line break goes by what came before it.
 fn put_normal(buf: &mut [u8], n: usize, t: &[u8], white: bool) -> Put
     requires { ⌜ n + length (now t) ≤ length (now buf) ⌝ }
-    ensures { λ r. ⌜ (r .n ≡ n + length (format_.normal white (codes (now (t .entry))))) × (r .«prev_was_whitespace» ≡ format_.normalFlag white (codes (now (t .entry)))) × (now (buf .exit) ≡ sets (now (buf .entry)) n (format_.normal white (codes (now (t .entry))))) ⌝ }
+    ensures { λ r. ⌜ (r .n ≡ n + length (format_.normal white (codes (now (t .entry))))) × (r .«prev_was_whitespace» ≡ format_.lastWhite white (codes (now (t .entry)))) × (now (buf .exit) ≡ sets (now (buf .entry)) n (format_.normal white (codes (now (t .entry))))) ⌝ }
 {
     let mut m = n;
     let mut w = white;
@@ -421,7 +422,7 @@ fn plain_byte(upper: bool, b: u8) -> u8
 // Puts one byte of a plain list. A byte above the space is no white space and no line break, and is looked at first.
 fn put_plain_byte(buf: &mut [u8], n: usize, upper: bool, white: bool, b: u8) -> Put
     requires { ⌜ (n < length (now buf)) × (b < 0x80) ⌝ }
-    ensures { λ r. ⌜ (r .n ≡ n + length (plain_.plainOut upper white b)) × (r .«prev_was_whitespace» ≡ format_.oneFlag b) × (now (buf .exit) ≡ sets (now (buf .entry)) n (plain_.plainOut upper white b)) ⌝ }
+    ensures { λ r. ⌜ (r .n ≡ n + length (plain_.plainOut upper white b)) × (r .«prev_was_whitespace» ≡ isWhitespace b) × (now (buf .exit) ≡ sets (now (buf .entry)) n (plain_.plainOut upper white b)) ⌝ }
 {
     let u = plain_byte(upper, b);
     if b' ' < b {

@@ -13,7 +13,7 @@ use Rattle.scanner.specs.Scan.{lenIn, matchLen, walk, eatWhile, eatIf, begins, 
 use Rattle.refusals.specs.declared.Kind.the-variants.{DayOutOfRange, InvalidNumber, MissingNumber, WrongNumberOfDigits, InvalidFormat, YearZeroCE}
 use Rattle.refusals.specs.declared.FileSpan.{FileSpan}
 use Rattle.refusals.specs.Refusal.{fileSpan, refusal}
-use Rattle.numbers.specs.Number.{admits, runOf, runAt, parseUnsignedInt, runValue as valueIn}
+use Rattle.numbers.specs.Number.{admits, runOf, runAt, parseUnsignedInt, runValue}
 use Rattle.dates.specs.declared.OptionMonth.{OptionMonth}
 use Rattle.dates.specs.declared.OptionMonth.the-variants.{NoMonth}
 use Rattle.dates.specs.declared.OptionDay.the-variants.{NoDay}
@@ -98,7 +98,7 @@ months =
     ∷ []
 
 pub month-examples : map (λ (e : MonthExample). monthField (e .text)) months ≡ map (λ (e : MonthExample). MonthRead (e .month) (record { 0 = e .next })) months
-unfolding pick within isWhitespace isAsciiDigit isNumeric isAsciiAlphabetic lenOf isCont two decode first decodeAt inClass lenIn matchLen walk eatWhile part admits runOf runAt parseUnsignedInt digitOf valueIn lower sameLetters monthIn getMonthForName getMonthForAbbr orElse monthFor named monthOf monthField
+unfolding pick within isWhitespace isAsciiDigit isNumeric isAsciiAlphabetic lenOf isCont two decode first decodeAt inClass lenIn matchLen walk eatWhile part admits runOf runAt parseUnsignedInt digitOf wholeValue digitsFrom runValue lower sameLetters monthIn getMonthForName getMonthForAbbr orElse monthFor named monthOf monthField
 month-examples = refl
 
 pub day-examples : map (λ (e : MonthExample). dayInMonthField (e .text) (e .next)) months ≡ map (λ (e : MonthExample). e .holds) months
@@ -110,7 +110,7 @@ abbrev pub panicking : List (List ℕ)
 panicking = ascii "0" ∷ ascii " 00" ∷ (0xC2 ∷ 0xBD ∷ []) ∷ []
 
 pub panic-examples : map monthField panicking ≡ map (λ (t : List ℕ). NoMonthRead panics) panicking
-unfolding pick within isWhitespace isAsciiDigit isNumeric lenOf isCont two decode first decodeAt inClass lenIn matchLen walk eatWhile part admits runOf runAt parseUnsignedInt digitOf valueIn monthOf monthField
+unfolding pick within isWhitespace isAsciiDigit isNumeric lenOf isCont two decode first decodeAt inClass lenIn matchLen walk eatWhile part admits runOf runAt parseUnsignedInt digitOf wholeValue digitsFrom runValue monthOf monthField
 panic-examples = refl
 
 -- a day field with the span of its list, and what it is read as

@@ -1,27 +1,30 @@
 -- What callers use of a number that was read: it is below the power of ten that its run's length says.
 -- Assumes nothing.
 use mathlib.Core.Path.{_≡_, refl, subst}
-use mathlib.Core.Bool.{Bool, true, false, _||_}
-use mathlib.Core.List.{List, [], _∷_}
-use Prim.Native.Nat.{ℕ, zero, suc, _+_, _*_, _^_, _≤_, _<_}
-use native.Mathlib.Nat.{pow-succ', pow-le-pow-right, mul-assoc, lt-of-lt-of-le}
+use mathlib.Core.Bool.{Bool, true, false, false≢true, _||_}
+use mathlib.Core.List.{List}
+use Prim.Native.Nat.{ℕ, zero, suc, _+_, _^_, _≤_, _<_}
+use native.Mathlib.Nat.{pow-le-pow-right}
 use native.Mathlib.Omega.{arith}
-use borrow.Author.Tests.{ltb-true, eqb-true}
+use borrow.Author.Tests.{eqb-true}
 use lib.Dec.{lit<, lit≤, eqb}
 use lib.IntN.{ℤ, pos, negsuc, natAbs}
 use lib.ListN.{length}
 use lib.Signed.{mag}
-use Rattle.chars.specs.Ascii.{digitOf}
 use Rattle.chars.proofs.Cases.{by-test}
 use Rattle.scanner.specs.declared.Class.the-variants.{Whitespace, Numeric, Is}
 use Rattle.scanner.specs.declared.Cursor.{Cursor}
 use Rattle.scanner.specs.Scan.{eatWhile, standsAt, part}
-use Rattle.numbers.specs.Number.{admits, cursor, runValue, runOf, runAt, parseUnsignedInt, behindSign, withSign, intAt, parseInt}
+use Rattle.numbers.specs.Parse.{digitsFrom}
+use Rattle.numbers.proofs.Whole.{digits-below}
+use Rattle.numbers.specs.Number.{admits, runValue, runOf, runAt, parseUnsignedInt, behindSign, withSign, intAt, parseInt}
 use Rattle.chars.specs.Signs.{signed}
 use Rattle.numbers.specs.declared.Digits.{Digits}
 use Rattle.numbers.specs.declared.Digits.the-variants.{OneOrTwo, Two, Four}
 use Rattle.numbers.specs.declared.Parsed.{Parsed}
 use Rattle.numbers.specs.declared.Parsed.the-variants.{Number, Wrong, Panics}
+use Rattle.numbers.specs.declared.ParsedNumber.{ParsedNumber}
+use Rattle.numbers.specs.declared.ParsedNumber.the-variants.{Value, NoValue}
 use Rattle.numbers.specs.declared.ReadInt.{ReadInt}
 use Rattle.numbers.specs.declared.ReadInt.the-variants.{Int, NoInt, IntPanics}
 
@@ -50,37 +53,31 @@ admitted-most OneOrTwo n e = first (eqb n 1) (λ t. omega (arith, eqb-true n 1 t
 admitted-most Two n e = omega (arith, eqb-true n 2 e)
 admitted-most Four n e = omega (arith, eqb-true n 4 e)
 
+-- and it is some
+pub admitted-some : (g : Digits) (n : ℕ) → admits g n ≡ true → 0 < n
+unfolding admits
+admitted-some OneOrTwo zero e = absurd (false≢true e)
+admitted-some Two zero e = absurd (false≢true e)
+admitted-some Four zero e = absurd (false≢true e)
+admitted-some g (suc n) e = omega arith
+
 -- a number that was read is below n
 pub data Below (n : ℕ) : Parsed → Type 0 where
   number : {v : ℕ} {c : Cursor} → v < n → Below n (Number v c)
   wrong : {c : Cursor} → Below n (Wrong c)
   panics : Below n Panics
 
-more : {n m : ℕ} {r : Parsed} → n ≤ m → Below n r → Below m r
-more h (number l) = number (lt-of-lt-of-le l h)
-more h wrong = wrong
-more h panics = panics
-
-ten : (m i : ℕ) → m * 10 * 10 ^ i ≡ m * 10 ^ suc i
-ten m i = rw (pow-succ' 10 i, mul-assoc)
-
-value-below : (next : Cursor) (acc m : ℕ) (t : List ℕ) → acc < m → Below (m * 10 ^ length t) (runValue next acc t)
+value-below : (n end : ℕ) (r : ParsedNumber) → ((v : ℕ) → r ≡ Value v → v < n) → Below n (runValue r end)
 unfolding runValue
-value-below next acc m [] h = number {v = acc} (omega arith)
-value-below next acc m (b ∷ t) h =
-    by-test (Below (m * 10 ^ suc (length t))) _
-    (λ e. rw (← ten m (length t)) (value-below next (acc * 10 + digitOf b) (m * 10) t (omega (arith, ltb-true (digitOf b) 10 e))))
-    (λ _. panics)
+value-below n end (Value v) h = number (h v refl)
+value-below n end NoValue h = panics
 
 run-below : (num : List ℕ) (end : ℕ) (g : Digits) → Below (10 ^ most g) (runOf num end g)
 unfolding runOf
 run-below num end g =
     by-test (Below (10 ^ most g)) _
-    (λ t. more (short (admitted-most g (length num) t)) (value-below (cursor end) 0 1 num (lit< tt)))
+    (λ t. value-below (10 ^ most g) end (digitsFrom 9999 num 0) (λ v. digits-below 9999 num 0 (most g) (admitted-most g (length num) t)))
     (λ _. wrong)
-  where
-    short : length num ≤ most g → 1 * 10 ^ length num ≤ 10 ^ most g
-    short h = omega (arith, pow-le-pow-right {n = 10} (lit< tt) h)
 
 of-number : {n v : ℕ} {c : Cursor} → Below n (Number v c) → v < n
 of-number (number h) = h

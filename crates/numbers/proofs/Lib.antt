@@ -1,5 +1,7 @@
 pub mod Sums
-pub mod Laws
-pub mod Reading
 pub mod Whole
+pub mod Laws
+pub mod Decimal
+pub mod Reading
 pub mod Trims
+pub mod Examples

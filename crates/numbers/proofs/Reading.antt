@@ -3,28 +3,31 @@
 use mathlib.Core.Path.{_≡_, refl, sym, ap, _∙_}
 use mathlib.Core.Bool.{true, false}
 use mathlib.Core.List.{List, [], _∷_, _++_}
-use Prim.Native.Nat.{ℕ, suc, _+_, _*_, _<_}
-use native.Mathlib.Nat.{add-zero, add-sub-cancel-left}
+use Prim.Native.Nat.{ℕ, suc, _+_, _*_, _^_, _≤_, _<_}
+use native.Mathlib.Nat.{add-zero, pow-le-pow-right}
 use native.Mathlib.Omega.{arith}
-use borrow.Author.Tests.{lt-ltb, le-leb, ne-eqb}
+use borrow.Author.Tests.{le-ltb, lt-leb, ne-eqb}
 use lib.Dec.{lit<}
 use lib.IntN.{pos, negℤ}
-use lib.ListN.{length, take}
+use lib.ListN.{length}
 use Rattle.chars.specs.Pick.{pick}
 use Rattle.chars.proofs.Laws.{digit-is}
-use Rattle.chars.specs.Classes.{within, isWhitespace, isAsciiDigit, isNumeric}
 use Rattle.scanner.specs.declared.Class.{Class}
-use Rattle.scanner.specs.declared.Class.the-variants.{Whitespace, Numeric, Sign, Is}
-use Rattle.scanner.specs.declared.Cursor.{Cursor}
+use Rattle.scanner.specs.declared.Class.the-variants.{Whitespace, Numeric, AsciiDigit, Sign, Is}
 use Rattle.scanner.specs.declared.EatIf.the-variants.{Past, Kept}
 use Rattle.scanner.specs.Class.{inClass}
 use Rattle.scanner.specs.Scan.{matchLen, eatWhile, eatIf, standsAt, part}
-use Rattle.scanner.proofs.Front.{From, front-rest, front-match, front-go, front-stop, front-end}
+use Rattle.scanner.proofs.Front.{From, front-part, front-rest, front-match, front-go, front-stop, front-end}
+use Rattle.scanner.proofs.Digits.{digit-numeric, below-digits, no-numeric, is-it, is-other}
 use Rattle.scanner.proofs.Laws.{not-white}
 use Rattle.numbers.specs.Number.{admits, cursor, runValue, runOf, runAt, parseUnsignedInt, orKept, behindSign, withSign, intAt, parseInt}
 use Rattle.chars.specs.Signs.{signed}
 use Rattle.numbers.specs.declared.Digits.{Digits}
 use Rattle.numbers.specs.declared.Parsed.the-variants.{Number, Wrong}
+use Rattle.numbers.specs.declared.ParsedNumber.the-variants.{Value}
+use Rattle.numbers.specs.Parse.{wholeValue, digitsFrom}
+use Rattle.numbers.proofs.Whole.{ten}
+use Rattle.numbers.proofs.Laws.{admitted-most, admitted-some, most-four}
 use Rattle.numbers.specs.declared.ReadInt.the-variants.{Int, NoInt}
 
 -- digits, by what they say: their bytes, and the number that they are
@@ -45,27 +48,24 @@ pub data Behind : List ℕ → Type 0 where
   end : Behind []
   stop : {c : ℕ} {t : List ℕ} → c < 128 → inClass Whitespace c ≡ false → inClass Numeric c ≡ false → Behind (c ∷ t)
 
--- the classes of a digit
-pub digit-numeric : (d : ℕ) → d < 10 → inClass Numeric (48 + d) ≡ true
-unfolding inClass isNumeric isAsciiDigit within
-digit-numeric d h = simp (le-leb 0x30 (48 + d) (omega arith), le-leb (48 + d) 0x39 (omega arith))
+-- such a character
+pub printing : {c : ℕ} {t : List ℕ} → 0x20 < c → c < 0x80 → inClass AsciiDigit c ≡ false → Behind (c ∷ t)
+printing {c} l h n = stop h (not-white c l h) (no-numeric c h n)
 
+-- a digit is no sign and no hyphen
 pub digit-sign : (d : ℕ) → d < 10 → inClass Sign (48 + d) ≡ false
 unfolding inClass
 digit-sign d h = simp (ne-eqb (48 + d) 0x2B (λ e. omega arith), ne-eqb (48 + d) 0x2D (λ e. omega arith))
 
 pub digit-hyphen : (d : ℕ) → d < 10 → inClass (Is 0x2D) (48 + d) ≡ false
-unfolding inClass
-digit-hyphen d h = ne-eqb (48 + d) 0x2D (λ e. omega arith)
+digit-hyphen d h = is-other 0x2D (48 + d) (λ (e : 48 + d ≡ 0x2D). omega arith)
 
--- and of a hyphen
+-- a hyphen is both
 pub hyphen : {t : List ℕ} → Behind (0x2D ∷ t)
-unfolding inClass isWhitespace isNumeric isAsciiDigit within
-hyphen = stop (lit< tt) refl refl
+hyphen = printing (lit< tt) (lit< tt) (below-digits 0x2D (lit< tt))
 
 pub hyphen-hyphen : inClass (Is 0x2D) 0x2D ≡ true
-unfolding inClass
-hyphen-hyphen = refl
+hyphen-hyphen = is-it 0x2D
 
 pub hyphen-sign : inClass Sign 0x2D ≡ true
 unfolding inClass
@@ -84,37 +84,54 @@ behind-numeric (stop l w n) f = front-stop f Numeric l n
 pub run-digits : (ds : List ℕ) {s t : List ℕ} {i : ℕ} → AreDigits ds → Behind t → From s i (bytes ds ++ t) → eatWhile Numeric s i ≡ i + length ds
 run-digits [] {s} {t} {i} h b f = behind-numeric b f ∙ sym (add-zero i)
 run-digits (d ∷ ds) {s} {t} {i} h b f =
-    front-go f Numeric (omega (arith, h .0)) (digit-numeric d (h .0)) ∙ run-digits ds (h .1) b (front-rest f) ∙ omega arith
+    front-go f Numeric (omega (arith, h .0)) (digit-numeric (48 + d) (omega arith) (omega (arith, h .0))) ∙ run-digits ds (h .1) b (front-rest f) ∙ omega arith
 
-value-digits : (ds : List ℕ) (c : Cursor) (acc : ℕ) → AreDigits ds → runValue c acc (bytes ds) ≡ Number (value acc ds) c
-unfolding runValue pick
-value-digits [] c acc h = refl
-value-digits (d ∷ ds) c acc h = simp (digit-is d (h .0), lt-ltb d 10 (h .0)) (value-digits ds c (acc * 10 + d) (h .1))
+-- the number that they are: no less than that of the first of them
+value-grows : (acc : ℕ) (ds : List ℕ) → acc ≤ value acc ds
+value-grows acc [] = omega arith
+value-grows acc (d ∷ ds) = let g = value-grows (acc * 10 + d) ds in omega arith
+
+-- it is read where it is not above the largest
+pub value-is : (ds : List ℕ) (top acc : ℕ) → AreDigits ds → value acc ds ≤ top → wholeValue top acc (bytes ds) ≡ Value (value acc ds)
+unfolding wholeValue pick
+value-is [] top acc h l = refl
+value-is (d ∷ ds) top acc h l =
+    let g = value-grows (acc * 10 + d) ds in
+    rw (digit-is d (h .0), le-ltb 9 d (omega (arith, h .0)), le-ltb top (acc * 10 + d) (omega arith)) (value-is ds top (acc * 10 + d) (h .1) l)
+
+-- and it has no more digits than they are
+value-small : (ds : List ℕ) (acc m : ℕ) → AreDigits ds → acc < m → value acc ds < m * 10 ^ length ds
+value-small [] acc m h l = omega arith
+value-small (d ∷ ds) acc m h l =
+    rw (← ten m (length ds)) (value-small ds (acc * 10 + d) (m * 10) (h .1) (omega (arith, h .0)))
 
 pub length-bytes : (ds : List ℕ) → length (bytes ds) ≡ length ds
 length-bytes [] = refl
 length-bytes (d ∷ ds) = ap suc (length-bytes ds)
 
-take-front : (u t : List ℕ) → take (length u) (u ++ t) ≡ u
-take-front [] t = refl
-take-front (x ∷ u) t = ap (λ (l : List ℕ). x ∷ l) (take-front u t)
+-- the part of the text that they are
+pub digits-part : (ds t : List ℕ) {s : List ℕ} {i : ℕ} → From s i (bytes ds ++ t) → part s i (i + length ds) ≡ bytes ds
+digits-part ds t {s} {i} f = ap (λ (n : ℕ). part s i (i + n)) (sym (length-bytes ds)) ∙ front-part (bytes ds) t f
 
 module _ (ds : List ℕ) {s t : List ℕ} {i : ℕ} (h : AreDigits ds) (b : Behind t) (f : From s i (bytes ds ++ t)) where
-  run-part : part s i (i + length ds) ≡ bytes ds
-  unfolding part
-  run-part =
-      rw (add-sub-cancel-left, f .is)
-      (ap (λ (n : ℕ). take n (bytes ds ++ t)) (sym (length-bytes ds)) ∙ take-front (bytes ds) t)
+  digits-read : (g : Digits) → admits g (length ds) ≡ true → digitsFrom 9999 (bytes ds) 0 ≡ Value (value 0 ds)
+  unfolding digitsFrom pick
+  digits-read g l =
+      let n = length-bytes ds in
+      let small : value 0 ds ≤ 9999 =
+      omega (arith, value-small ds 0 1 h (lit< tt), pow-le-pow-right {n = 10} (lit< tt) (admitted-most g (length ds) l), most-four g)
+      in
+      rw (lt-leb (length (bytes ds)) 0 (omega (arith, admitted-some g (length ds) l))) (value-is ds 9999 0 h small)
 
   -- as many digits as are admitted
   pub run-read : (g : Digits) → admits g (length ds) ≡ true → runAt s i g ≡ Number (value 0 ds) (cursor (i + length ds))
-  unfolding runAt runOf pick
-  run-read g l = rw (run-digits ds h b f, run-part, length-bytes ds, l) (value-digits ds (cursor (i + length ds)) 0 h)
+  unfolding runAt runOf runValue pick
+  run-read g l = rw (run-digits ds h b f, digits-part ds t f, length-bytes ds, l, digits-read g l)
 
   -- another number of them
   pub run-wrong : (g : Digits) → admits g (length ds) ≡ false → runAt s i g ≡ Wrong (cursor (i + length ds))
   unfolding runAt runOf pick
-  run-wrong g l = rw (run-digits ds h b f, run-part, length-bytes ds, l)
+  run-wrong g l = rw (run-digits ds h b f, digits-part ds t f, length-bytes ds, l)
 
 -- what eating one character does, by what stands there
 module _ {s t : List ℕ} {i c : ℕ} (f : From s i (c ∷ t)) (k : Class) (l : c < 128) where

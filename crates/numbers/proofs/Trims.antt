@@ -1,20 +1,25 @@
 -- What callers use of the trimming.
 -- Assumes nothing.
-use mathlib.Core.Path.{_≡_, sym, ap, _∙_}
+use mathlib.Core.Path.{_≡_, refl, sym, ap, subst, _∙_}
 use mathlib.Core.Bool.{false}
 use mathlib.Core.List.{List, [], _∷_}
 use Prim.Native.Nat.{ℕ, _+_, _-_, _≤_, _<_}
-use native.Mathlib.Nat.{add-zero}
+use native.Mathlib.Nat.{add-zero, le-refl, lt-irrefl}
 use native.Mathlib.Omega.{arith}
-use lib.ListN.{length, drop, length-drop}
+use lib.ListN.{length, take, drop, length-drop}
+use Rattle.chars.specs.Pick.{pick}
+use Rattle.chars.specs.Utf8.{decodeAt}
 use Rattle.chars.specs.declared.Decoded.{Decoded}
-use Rattle.chars.proofs.Laws.{Sound, char, bad, end, sound, past-end}
+use Rattle.chars.specs.declared.Decoded.the-variants.{Char, Bad, End}
+use Rattle.chars.proofs.Cases.{of-test}
+use Rattle.chars.proofs.Laws.{Sound, char, bad, end, sound, found, first-end, past-end}
 use Rattle.scanner.specs.declared.Class.the-variants.{Whitespace}
 use Rattle.scanner.specs.Class.{inClass}
-use Rattle.scanner.specs.Scan.{eatWhile}
-use Rattle.scanner.proofs.Walk.{walk-stop, walk-go, walk-inside}
+use Rattle.scanner.specs.Scan.{lenIn, matchLen, eatWhile, part}
+use Rattle.scanner.proofs.Walk.{walk-stop, walk-go, walk-kept, walk-ended, walk-inside}
+use Rattle.scanner.proofs.Laws.{at-least, stopped, all-eaten}
 use Rattle.scanner.proofs.Front.{From, from-start, front-rest, front-stop, front-char, front-end, front-past}
-use Rattle.numbers.specs.Trim.{stepBy, stepOver, trimStep, trimFrom, trimEnd}
+use Rattle.numbers.specs.Trim.{stepBy, stepOver, trimStep, trimFrom, trimEnd, trim, Over, past, ill, Solid, Ended, empty, both, Trimmed}
 
 by-fits : (s : List ℕ) (i a : ℕ) {r : Decoded} → Sound (drop a s) r → stepBy i a r ≤ length s - i
 unfolding stepBy
@@ -65,3 +70,77 @@ plain-trim s p = plain-from s p (from-start s) ∙ omega arith
 pub trim-inside : (s : List ℕ) → trimEnd s ≤ length s
 unfolding trimEnd trimFrom
 trim-inside s = walk-inside (trimStep s) (length s) (step-fits s) 0 (omega arith)
+
+-- behind the last character there is white space alone
+no-char : (s : List ℕ) (i a : ℕ) (d : Decoded) → i ≤ a → decodeAt s a ≡ d → stepBy i a d ≡ 0 → Over s a
+unfolding stepBy decodeAt
+no-char s i a (Char code len) l e h = absurd (lt-irrefl 0 (let f = found s a e in omega (arith, f .some)))
+no-char s i a Bad l e h = ill e
+no-char s i a End l e h = past (omega (arith, length-drop a s, ap length (first-end (drop a s) e)))
+
+no-more : (s : List ℕ) (i : ℕ) → trimStep s i ≡ 0 → Over s (eatWhile Whitespace s i)
+unfolding trimStep stepOver
+no-more s i h = let a = eatWhile Whitespace s i in no-char s i a (decodeAt s a) (at-least Whitespace s i) refl h
+
+-- a step ends behind a character that is no white space
+not-white : (s : List ℕ) (a code len : ℕ) → decodeAt s a ≡ Char code len → matchLen Whitespace s a ≡ 0 → inClass Whitespace code ≡ false
+unfolding matchLen lenIn pick
+not-white s a code len e h =
+    of-test (inClass Whitespace code)
+    (λ t. let z : len ≡ 0 = rw (e, t) at h in let f = found s a e in absurd (lt-irrefl 0 (omega (arith, f .some))))
+    (λ t. t)
+
+step-char : (s : List ℕ) (i a : ℕ) (d : Decoded) → i ≤ a → decodeAt s a ≡ d → matchLen Whitespace s a ≡ 0 → 0 < stepBy i a d → Solid s a (i + stepBy i a d)
+unfolding stepBy
+step-char s i a (Char code len) l e m h = record { code = code; len = len; stands = e; solid = not-white s a code len e m; ends = omega arith }
+step-char s i a Bad l e m h = absurd (lt-irrefl 0 h)
+step-char s i a End l e m h = absurd (lt-irrefl 0 h)
+
+step-solid : (s : List ℕ) (i : ℕ) → 0 < trimStep s i → Solid s (eatWhile Whitespace s i) (i + trimStep s i)
+unfolding trimStep stepOver
+step-solid s i h =
+    let a = eatWhile Whitespace s i in
+    step-char s i a (decodeAt s a) (at-least Whitespace s i) refl (stopped Whitespace s i) h
+
+ended : (s : List ℕ) → trimStep s (trimEnd s) ≡ 0
+unfolding trimEnd trimFrom
+ended s = walk-ended (trimStep s) (length s) (step-fits s) 0
+
+-- what the walk to the end keeps: it is at the start, or behind such a character, with such a one at the first place that is no white space
+data Walked (s : List ℕ) (e : ℕ) : Type 0 where
+  at-start : e ≡ 0 → Walked s e
+  behind-some : {behind last : ℕ} → Solid s (eatWhile Whitespace s 0) behind → behind ≤ e → eatWhile Whitespace s 0 ≤ last → Solid s last e → Walked s e
+
+walk-on : (s : List ℕ) (i : ℕ) → 0 < trimStep s i → Walked s i → Walked s (i + trimStep s i)
+walk-on s i h (at-start z) =
+    let c = subst (λ (n : ℕ). Solid s (eatWhile Whitespace s n) (i + trimStep s i)) z (step-solid s i h) in
+    behind-some c (le-refl (i + trimStep s i)) (le-refl (eatWhile Whitespace s 0)) c
+walk-on s i h (behind-some p b l q) =
+    let further : eatWhile Whitespace s 0 ≤ eatWhile Whitespace s i = omega (arith, q .ends, at-least Whitespace s i) in
+    behind-some p (omega arith) further (step-solid s i h)
+
+walked : (s : List ℕ) → Walked s (trimEnd s)
+unfolding trimEnd trimFrom
+walked s = walk-kept (trimStep s) (length s) (step-fits s) (Walked s) (walk-on s) (length s) 0 (at-start refl)
+
+to-ends : (s : List ℕ) (e : ℕ) → Walked s e → Ended s (eatWhile Whitespace s 0) e
+unfolding part
+to-ends s e (at-start z) =
+    let n : e - eatWhile Whitespace s 0 ≡ 0 = omega arith in
+    empty (ap (λ (m : ℕ). take m (drop (eatWhile Whitespace s 0) s)) n)
+to-ends s e (behind-some p b l q) = both p b l q
+
+-- trimming takes off white space alone, and all that there is at the ends
+pub trimmed : (s : List ℕ) → Trimmed s (trim s)
+unfolding trim
+trimmed s =
+    record {
+      start = eatWhile Whitespace s 0;
+      end = trimEnd s;
+      rest = eatWhile Whitespace s (trimEnd s);
+      left = refl;
+      before = all-eaten Whitespace s 0;
+      behind = all-eaten Whitespace s (trimEnd s);
+      over = no-more s (trimEnd s) (ended s);
+      ends = to-ends s (trimEnd s) (walked s);
+    }

@@ -72,7 +72,8 @@ data Below (n : ℕ) : ParsedNumber → Type 0 where
   below : {v : ℕ} → v < n → Below n (Value v)
   none-below : Below n NoValue
 
-ten : (m i : ℕ) → m * 10 * 10 ^ i ≡ m * 10 ^ suc i
+-- ten times as much, for one digit more
+pub ten : (m i : ℕ) → m * 10 * 10 ^ i ≡ m * 10 ^ suc i
 ten m i = rw (pow-succ' 10 i, mul-assoc)
 
 value-below : (top acc m : ℕ) (t : List ℕ) → acc < m → Below (m * 10 ^ length t) (wholeValue top acc t)
@@ -101,6 +102,10 @@ parse-below top s n h = by-test (Below (10 ^ n)) _ (λ _. from-below top s 1 n h
 
 of-below : {n v : ℕ} → Below n (Value v) → v < n
 of-below (below h) = h
+
+-- digits of at most n bytes say a number of at most n digits
+pub digits-below : (top : ℕ) (s : List ℕ) (at n : ℕ) {v : ℕ} → length s ≤ n → digitsFrom top s at ≡ Value v → v < 10 ^ n
+digits-below top s at n h e = of-below (subst (Below (10 ^ n)) e (from-below top s at n h))
 
 -- a number of at most n bytes has no more than n digits
 pub value-digits : (top : ℕ) (s : List ℕ) (n : ℕ) {v : ℕ} → length s ≤ n → parse top s ≡ Value v → v < 10 ^ n

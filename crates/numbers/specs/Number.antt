@@ -1,11 +1,10 @@
 -- The number that a run of numeric characters is, and how white space and a sign stand before it.
 use Prim.Native.Char.{code}
-use Prim.Native.Nat.{ℕ, _+_, _*_}
+use Prim.Native.Nat.{ℕ}
 use mathlib.Core.Bool.{Bool, _||_}
-use mathlib.Core.List.{List, [], _∷_}
-use lib.Dec.{ltb, eqb}
+use mathlib.Core.List.{List}
+use lib.Dec.{eqb}
 use lib.ListN.{length}
-use Rattle.chars.specs.Ascii.{digitOf}
 use Rattle.chars.specs.Pick.{pick}
 use Rattle.scanner.specs.declared.Class.the-variants.{Whitespace, Numeric, Sign, Is}
 use Rattle.scanner.specs.declared.Cursor.{Cursor}
@@ -16,9 +15,12 @@ use Rattle.numbers.specs.declared.Digits.{Digits}
 use Rattle.numbers.specs.declared.Digits.the-variants.{OneOrTwo, Two, Four}
 use Rattle.numbers.specs.declared.Parsed.{Parsed}
 use Rattle.numbers.specs.declared.Parsed.the-variants.{Number, Wrong, Panics}
+use Rattle.numbers.specs.declared.ParsedNumber.{ParsedNumber}
+use Rattle.numbers.specs.declared.ParsedNumber.the-variants.{Value, NoValue}
 use Rattle.numbers.specs.declared.ReadInt.{ReadInt}
 use Rattle.numbers.specs.declared.ReadInt.the-variants.{Int, NoInt, IntPanics}
 use Rattle.chars.specs.Signs.{signed}
+use Rattle.numbers.specs.Parse.{digitsFrom}
 
 -- the byte lengths that are admitted
 unfoldable pub admits : Digits → ℕ → Bool
@@ -30,14 +32,15 @@ admits Four n = eqb n 4
 abbrev pub cursor : ℕ → Cursor
 cursor at = record { 0 = at }
 
--- the decimal number that bytes are, behind the digits read so far; a byte that is no ASCII digit panics
-unfoldable pub runValue : Cursor → ℕ → List ℕ → Parsed
-runValue next acc [] = Number acc next
-runValue next acc (b ∷ t) = pick (ltb (digitOf b) 10) (runValue next (acc * 10 + digitOf b) t) Panics
+-- the number that the digits of a run are, and the run's end; where they are no number the ported code panics
+unfoldable pub runValue : ParsedNumber → ℕ → Parsed
+runValue (Value n) end = Number n (cursor end)
+runValue NoValue end = Panics
 
--- a run, given by its bytes, that ends at a place: its byte length decides first
+-- a run, given by its bytes, that ends at a place: its byte length decides first. No number of at most four digits is above 9999, so it
+-- is none just where a byte is no ASCII digit
 unfoldable pub runOf : List ℕ → ℕ → Digits → Parsed
-runOf num end digits = pick (admits digits (length num)) (runValue (cursor end) 0 num) (Wrong (cursor end))
+runOf num end digits = pick (admits digits (length num)) (runValue (digitsFrom 9999 num 0) end) (Wrong (cursor end))
 
 -- the run of numeric characters at a place
 unfoldable pub runAt : List ℕ → ℕ → Digits → Parsed

@@ -52,25 +52,6 @@ fn contains(digits: Digits, n: usize) -> bool
     }
 }
 
-// The number that the bytes of a run are. At most four bytes are asked for, so it fits.
-fn parse_digits(num: &[u8], next: Cursor) -> Parsed
-    requires { ⌜ length (now num) ≤ 4 ⌝ }
-    ensures { λ r. ⌜ r ≡ spec.runValue next 0 (now (num .entry)) ⌝ }
-{
-    let mut value: u32 = 0;
-    let mut i = 0;
-    while i < num.len() {
-        let d = digit(num[i]);
-        if d < 10 {
-            value = value * 10 + d;
-            i = i + 1;
-        } else {
-            return Parsed::Panics;
-        }
-    }
-    Parsed::Number { value, next }
-}
-
 // White space, then a run of numeric characters. Its length is counted in bytes, before its characters are looked at.
 pub fn parse_unsigned_int(s: &[u8], c: Cursor, digits: Digits) -> Parsed
     ensures { λ r. ⌜ r ≡ spec.parseUnsignedInt (now (s .entry)) (c .0) digits ⌝ }
@@ -79,7 +60,11 @@ pub fn parse_unsigned_int(s: &[u8], c: Cursor, digits: Digits) -> Parsed
     let next = run.end;
     let num = scanner::from(s, run.start, next);
     if contains(digits, num.len()) {
-        return parse_digits(num, next);
+        // At most four bytes are admitted: no number of theirs is above 9999.
+        return match digits_from(num, 0, 9999) {
+            ParsedNumber::Value(value) => Parsed::Number { value, next },
+            ParsedNumber::NoValue => Parsed::Panics,
+        };
     }
     Parsed::Wrong { next }
 }

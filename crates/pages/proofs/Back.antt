@@ -4,22 +4,23 @@ use mathlib.Core.Bool.{Bool, true, false, false≢true}
 use mathlib.Core.List.{List, [], _∷_, _++_, append-nil}
 use Prim.Native.Nat.{ℕ, zero, suc, _+_, _*_, _/_, _%_, _^_, _≤_, _<_}
 use mathlib.Core.Logic.{⊎-elim}
-use native.Mathlib.Nat.{add-zero, add-sub-cancel-left, eq-zero-or-pos, pow-succ'}
+use native.Mathlib.Nat.{add-zero, eq-zero-or-pos, pow-succ'}
 use native.Mathlib.Omega.{arith}
 use borrow.Author.Tests.{lt-ltb, le-ltb, le-leb, lt-leb, eq-eqb, ne-eqb, ltb-true, ltb-false}
 use lib.Dec.{lit<, lit≤, ltb}
 use lib.ListN.{length, take, length-append}
 use lib.Seq.{take-length}
+use lib.ListN.{length, length-append}
 use Rattle.chars.specs.Pick.{pick}
 use Rattle.chars.specs.Ascii.{digitOf}
-use Rattle.chars.specs.Classes.{within, isAsciiDigit}
 use Rattle.chars.proofs.Laws.{digit-is}
 use Rattle.chars.proofs.Cases.{of-test}
 use Rattle.scanner.specs.declared.Class.the-variants.{Whitespace, AsciiDigit, Is}
 use Rattle.scanner.specs.Class.{inClass}
-use Rattle.scanner.specs.Scan.{eatWhile, doneAt, part, runAt, nextRun}
-use Rattle.scanner.proofs.Front.{From, from-behind, front-rest, front-go, front-stop, front-end, front-past}
+use Rattle.scanner.specs.Scan.{eatWhile, doneAt, runAt, nextRun}
+use Rattle.scanner.proofs.Front.{From, from-behind, front-part, front-rest, front-go, front-stop, front-end, front-past}
 use Rattle.scanner.proofs.Laws.{not-white}
+use Rattle.scanner.proofs.Digits.{digit-ascii, below-digits, is-other}
 use Rattle.numbers.specs.declared.ParsedNumber.{ParsedNumber}
 use Rattle.numbers.specs.declared.ParsedNumber.the-variants.{Value, NoValue}
 use Rattle.numbers.specs.Parse.{wholeValue, digitsFrom, parse}
@@ -27,6 +28,9 @@ use Rattle.numbers.proofs.Reading.{front-ate, hyphen-hyphen}
 use Rattle.refusals.specs.declared.FileSpan.{FileSpan}
 use Rattle.chunks.specs.Chunks.{chunksOf, lengths, spanOf}
 use Rattle.chunks.specs.Format.{formatted, isBreak, oneFlag}
+use Rattle.chunks.specs.Chunks.{chunksOf, spanOf}
+use Rattle.chars.specs.Classes.{isWhitespace}
+use Rattle.chunks.specs.Format.{formatted, isBreak}
 use Rattle.chunks.specs.Plain.{allAscii, plainByte, plainOut, plainText}
 use Rattle.chunks.proofs.Answers.{plain-as-is}
 use Rattle.chunks.proofs.Plains.{plainly}
@@ -97,29 +101,19 @@ stops-white no-more f = front-end f Whitespace
 stops-white a-hyphen f = front-stop f Whitespace (lit< tt) (not-white 0x2D (lit< tt) (lit< tt))
 
 hyphen-digit : inClass AsciiDigit 0x2D ≡ false
-unfolding inClass isAsciiDigit within
-hyphen-digit = refl
+hyphen-digit = below-digits 0x2D (lit< tt)
 
 stops-digit : {s t : List ℕ} {i : ℕ} → Stops t → From s i t → eatWhile AsciiDigit s i ≡ i
 stops-digit no-more f = front-end f AsciiDigit
 stops-digit a-hyphen f = front-stop f AsciiDigit (lit< tt) hyphen-digit
 
 in-class : (c : ℕ) → 48 ≤ c → c < 58 → inClass AsciiDigit c ≡ true
-unfolding inClass isAsciiDigit within
-in-class c l h = simp (le-leb 0x30 c (omega arith), le-leb c 0x39 (omega arith))
+in-class c l h = digit-ascii c l (omega arith)
 
 run : (u : List ℕ) {s t : List ℕ} {i : ℕ} → In 48 u → Stops t → From s i (u ++ t) → eatWhile AsciiDigit s i ≡ i + length u
 run [] {s} {t} {i} p b f = stops-digit b f ∙ sym (add-zero i)
 run (c ∷ u) {s} {t} {i} p b f =
     front-go f AsciiDigit (omega (arith, p .0 .1)) (in-class c (p .0 .0) (p .0 .1)) ∙ run u (p .1) b (front-rest f) ∙ omega arith
-
-take-front : (u t : List ℕ) → take (length u) (u ++ t) ≡ u
-take-front [] t = refl
-take-front (c ∷ u) t = ap (λ (l : List ℕ). c ∷ l) (take-front u t)
-
-run-part : (u t : List ℕ) {s : List ℕ} {i : ℕ} → From s i (u ++ t) → part s i (i + length u) ≡ u
-unfolding part
-run-part u t {s} {i} f = rw (add-sub-cancel-left, f .is) (take-front u t)
 
 -- no white space, and no hyphen, before digits
 first-white : (u t : List ℕ) {s : List ℕ} {i : ℕ} → 0 < length u → In 48 u → From s i (u ++ t) → eatWhile Whitespace s i ≡ i
@@ -127,8 +121,7 @@ first-white [] t l p f = absurd (omega arith)
 first-white (c ∷ u) t l p f = front-stop f Whitespace (omega (arith, p .0 .1)) (not-white c (omega (arith, p .0 .0)) (omega (arith, p .0 .1)))
 
 no-hyphen : (c : ℕ) → 48 ≤ c → inClass (Is 0x2D) c ≡ false
-unfolding inClass
-no-hyphen c l = ne-eqb c 0x2D (λ (e : c ≡ 0x2D). omega arith)
+no-hyphen c l = is-other 0x2D c (λ (e : c ≡ 0x2D). omega arith)
 
 first-hyphen : (u t : List ℕ) {s : List ℕ} {i : ℕ} → 0 < length u → In 48 u → From s i (u ++ t) → eatWhile (Is 0x2D) s i ≡ i
 first-hyphen [] t l p f = absurd (omega arith)
@@ -137,7 +130,7 @@ first-hyphen (c ∷ u) t l p f = front-stop f (Is 0x2D) (omega (arith, p .0 .1))
 -- digits that are a number, at a place
 number-read : (u t : List ℕ) (n start : ℕ) {s : List ℕ} {i : ℕ} → 0 < length u → In 48 u → parse 4294967295 u ≡ Value n → Stops t → From s i (u ++ t) → numberAt s start i ≡ NumberIs n (record { 0 = i + length u })
 unfolding numberAt numberOf numbered nextRun runAt
-number-read u t n start l p v b f = rw (first-white u t l p f, run u p b f, run-part u t f, v)
+number-read u t n start l p v b f = rw (first-white u t l p f, run u p b f, front-part u t f, v)
 
 -- the digits of a number
 digits-parse : (u : List ℕ) (top n : ℕ) → 0 < length u → In 48 u → wholeValue top 0 u ≡ Value n → parse top u ≡ Value n
@@ -197,7 +190,7 @@ unfolding plainText plainOut plainByte isBreak pick
 as-shown white [] p = refl
 as-shown white (c ∷ u) p =
     rw (ne-eqb c 0x0A (λ (e : c ≡ 0x0A). omega (arith, p .0 .0)), ne-eqb c 0x0D (λ (e : c ≡ 0x0D). omega (arith, p .0 .0)))
-    (ap (λ (l : List ℕ). c ∷ l) (as-shown (oneFlag c) u (p .1)))
+    (ap (λ (l : List ℕ). c ∷ l) (as-shown (isWhitespace c) u (p .1)))
 
 -- the table of one Normal chunk with a span in the file
 abbrev pub oneChunk : List ℕ → ℕ → ℕ → List ℕ

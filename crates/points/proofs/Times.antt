@@ -1,6 +1,6 @@
 -- A time of the strict form behind a date, read: `Thh:mm:ss`, then nothing, `Z`, or a sign and `hh:mm`.
 -- Assumes nothing.
-use mathlib.Core.Path.{_≡_, refl}
+use mathlib.Core.Path.{_≡_}
 use mathlib.Core.Bool.{Bool, true, false}
 use mathlib.Core.List.{List, [], _∷_, _++_}
 use Prim.Native.Nat.{ℕ, _+_, _<_}
@@ -9,14 +9,13 @@ use native.Mathlib.Omega.{arith}
 use lib.Dec.{lit<}
 use lib.IntN.{ℤ}
 use Rattle.chars.specs.Pick.{pick}
-use Rattle.chars.specs.Classes.{within, isWhitespace, isAsciiDigit, isNumeric}
 use Rattle.scanner.specs.declared.Class.the-variants.{Is}
-use Rattle.scanner.specs.Class.{inClass}
 use Rattle.scanner.specs.Scan.{eaten, eatAt}
 use Rattle.scanner.proofs.Front.{From, from-behind, front-rest, front-char}
+use Rattle.scanner.proofs.Digits.{below-digits, above-digits, is-it}
 use Rattle.refusals.specs.declared.Kind.the-variants.{InvalidNumber}
 use Rattle.numbers.specs.Number.{cursor}
-use Rattle.numbers.proofs.Reading.{bytes, Behind, end, stop, hyphen, behind-white, front-ate}
+use Rattle.numbers.proofs.Reading.{bytes, Behind, end, printing, hyphen, behind-white, front-ate}
 use Rattle.dates.specs.declared.TimeOffset.the-variants.{Utc, Offset}
 use Rattle.dates.specs.declared.OptionOffset.the-variants.{SomeOffset}
 use Rattle.dates.specs.declared.OptionMonth.{OptionMonth}
@@ -36,24 +35,20 @@ use Rattle.points.proofs.Back.{two, part-read, or-end, or-more}
 
 -- what stands behind digits: a colon, a T, a Z, a plus
 pub colon : {t : List ℕ} → Behind (0x3A ∷ t)
-unfolding inClass isWhitespace isNumeric isAsciiDigit within
-colon = stop (lit< tt) refl refl
+colon = printing (lit< tt) (lit< tt) (above-digits 0x3A (lit< tt))
 
 pub tee : {t : List ℕ} → Behind (0x54 ∷ t)
-unfolding inClass isWhitespace isNumeric isAsciiDigit within
-tee = stop (lit< tt) refl refl
+tee = printing (lit< tt) (lit< tt) (above-digits 0x54 (lit< tt))
 
 pub zed : {t : List ℕ} → Behind (0x5A ∷ t)
-unfolding inClass isWhitespace isNumeric isAsciiDigit within
-zed = stop (lit< tt) refl refl
+zed = printing (lit< tt) (lit< tt) (above-digits 0x5A (lit< tt))
 
 pub plus : {t : List ℕ} → Behind (0x2B ∷ t)
-unfolding inClass isWhitespace isNumeric isAsciiDigit within
-plus = stop (lit< tt) refl refl
+plus = printing (lit< tt) (lit< tt) (below-digits 0x2B (lit< tt))
 
 colon-read : {s t : List ℕ} {i : ℕ} → From s i (0x3A ∷ t) → colonAt s i ≡ Passed (cursor (i + 1))
-unfolding colonAt colonFrom colonOr inClass
-colon-read f = rw (behind-white colon f, front-ate f (Is 0x3A) (lit< tt) refl)
+unfolding colonAt colonFrom colonOr
+colon-read f = rw (behind-white colon f, front-ate f (Is 0x3A) (lit< tt) (is-it 0x3A))
 
 hour-at : (h : ℕ) {s t : List ℕ} {i : ℕ} → h < 24 → Behind t → From s i (bytes (two h) ++ t) → hourAt s i ≡ Stored h (cursor (i + 2))
 unfolding hourAt
@@ -77,14 +72,14 @@ second-read h m sec l b f = rw (or-more (Clock (local h m 0)) _ colon f, colon-r
 
 -- the T and the time, whatever may stand behind the seconds
 pub time-read : (y : ℤ) (mo : OptionMonth) (d : OptionDay) (h m sec : ℕ) {s t : List ℕ} {i : ℕ} → h < 24 → m < 60 → sec < 60 → Behind t → From s i (0x54 ∷ bytes (two h) ++ (0x3A ∷ bytes (two m) ++ (0x3A ∷ bytes (two sec) ++ t))) → behindDay s i y mo d ≡ withTime y mo d (behindSecond s (i + 1 + 2 + 1 + 2 + 1 + 2) h m sec)
-unfolding behindDay timeOr inClass
+unfolding behindDay timeOr
 time-read y mo d h m sec hh hm hs b f =
     let e = front-rest f in
     let g = from-behind (bytes (two h)) e in
     let k = from-behind (bytes (two m)) (front-rest g) in
     rw (
       or-more (Point (datetime y mo d NoTime)) _ tee f,
-      front-ate f (Is 0x54) (lit< tt) refl,
+      front-ate f (Is 0x54) (lit< tt) (is-it 0x54),
       hour-read h hh colon e,
       minute-read h m hm colon g,
       second-read h m sec hs b k,

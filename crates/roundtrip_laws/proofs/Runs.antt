@@ -1,25 +1,24 @@
 -- Runs of characters in a text that is known, and the number that a run of digits is.
 -- Assumes nothing.
-use mathlib.Core.Path.{_≡_, refl, sym, _∙_}
+use mathlib.Core.Path.{_≡_, sym, _∙_}
 use mathlib.Core.Bool.{true, false}
 use mathlib.Core.List.{List, [], _∷_, _++_}
-use Prim.Native.Nat.{ℕ, _+_, _*_, _≤_, _<_}
+use Prim.Native.Nat.{ℕ, _+_, _≤_, _<_}
 use native.Mathlib.Nat.{add-zero, add-sub-cancel-left}
 use native.Mathlib.Omega.{arith}
-use borrow.Author.Tests.{ne-eqb, le-ltb, lt-leb, le-leb}
+use borrow.Author.Tests.{ne-eqb, lt-leb, le-leb}
 use lib.ListN.{length}
 use lib.Seq.{take-at}
 use Rattle.chars.specs.Pick.{pick}
-use Rattle.chars.proofs.Laws.{digit-is}
 use Rattle.chars.specs.Classes.{isAsciiDigit, within}
 use Rattle.scanner.specs.declared.Class.{Class}
 use Rattle.scanner.specs.declared.Class.the-variants.{AsciiDigit}
 use Rattle.scanner.specs.Class.{inClass}
 use Rattle.scanner.specs.Scan.{eatWhile, part}
 use Rattle.scanner.proofs.Front.{From, front-rest, front-go, front-stop, front-end}
-use Rattle.numbers.proofs.Reading.{bytes, value, AreDigits, length-bytes}
+use Rattle.numbers.proofs.Reading.{bytes, value, AreDigits, length-bytes, value-is}
 use Rattle.numbers.specs.declared.ParsedNumber.the-variants.{Value}
-use Rattle.numbers.specs.Parse.{wholeValue, digitsFrom, parse}
+use Rattle.numbers.specs.Parse.{digitsFrom, parse}
 
 -- what may stand behind a run of a class: nothing, or an ASCII character that is not of it
 pub data Stops (k : Class) : List ℕ → Type 0 where
@@ -44,17 +43,6 @@ unfolding part
 ascii-part ds t f = rw (add-sub-cancel-left, f .is) (take-at (bytes ds) t (length ds) (length-bytes ds))
 
 -- the number that they are
-value-grows : (acc : ℕ) (ds : List ℕ) → acc ≤ value acc ds
-value-grows acc [] = omega arith
-value-grows acc (d ∷ ds) = let g = value-grows (acc * 10 + d) ds in omega arith
-
-value-is : (ds : List ℕ) (top acc : ℕ) → AreDigits ds → value acc ds ≤ top → wholeValue top acc (bytes ds) ≡ Value (value acc ds)
-unfolding wholeValue pick
-value-is [] top acc h l = refl
-value-is (d ∷ ds) top acc h l =
-    let g = value-grows (acc * 10 + d) ds in
-    rw (digit-is d (h .0), le-ltb 9 d (omega (arith, h .0)), le-ltb top (acc * 10 + d) (omega arith)) (value-is ds top (acc * 10 + d) (h .1) l)
-
 pub parse-is : (d : ℕ) (ds : List ℕ) (top : ℕ) → AreDigits (d ∷ ds) → value 0 (d ∷ ds) ≤ top → parse top (bytes (d ∷ ds)) ≡ Value (value 0 (d ∷ ds))
 unfolding parse digitsFrom pick
 parse-is d ds top h l =

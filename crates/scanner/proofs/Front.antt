@@ -4,17 +4,18 @@ use mathlib.Core.Path.{_≡_, refl, sym, ap, _∙_}
 use mathlib.Core.Bool.{true, false}
 use mathlib.Core.List.{List, [], _∷_, _++_}
 use Prim.Native.Nat.{ℕ, _+_, _≤_, _<_}
-use native.Mathlib.Nat.{add-zero}
+use native.Mathlib.Nat.{add-zero, add-sub-cancel-left}
 use native.Mathlib.Omega.{arith}
+use borrow.Author.Tests.{le-leb}
 use lib.ListN.{length, getD, drop, length-drop}
-use lib.Seq.{getD-drop, drop-drop, drop-append-seam}
+use lib.Seq.{getD-drop, drop-drop, drop-append-seam, take-append-seam}
 use Rattle.chars.specs.Pick.{pick}
 use Rattle.chars.specs.Utf8.{first, decodeAt}
 use Rattle.chars.specs.declared.Decoded.the-variants.{Char}
 use Rattle.chars.proofs.Laws.{first-ascii}
 use Rattle.scanner.specs.declared.Class.{Class}
 use Rattle.scanner.specs.Class.{inClass}
-use Rattle.scanner.specs.Scan.{lenIn, matchLen, eatWhile}
+use Rattle.scanner.specs.Scan.{lenIn, matchLen, eatWhile, doneAt, part}
 use Rattle.scanner.proofs.Laws.{match-end, stop, go}
 
 -- from place i on, the text s is t. A record, so that s, i and t are read off a fact of it
@@ -27,6 +28,11 @@ from-start s = record { is = refl }
 -- behind a part of it
 pub from-behind : {s t : List ℕ} {i : ℕ} (u : List ℕ) → From s i (u ++ t) → From s (i + length u) t
 from-behind {s} {t} {i} u f = record { is = sym (drop-drop (length u) i s) ∙ ap (drop (length u)) (f .is) ∙ drop-append-seam u t }
+
+-- that part
+pub front-part : (u t : List ℕ) {s : List ℕ} {i : ℕ} → From s i (u ++ t) → part s i (i + length u) ≡ u
+unfolding part
+front-part u t f = rw (add-sub-cancel-left, f .is) (take-append-seam u t)
 
 module _ {s t : List ℕ} {i c : ℕ} (f : From s i (c ∷ t)) where
   -- a byte stands there
@@ -61,6 +67,10 @@ module _ {s t : List ℕ} {i c : ℕ} (f : From s i (c ∷ t)) where
 module _ {s : List ℕ} {i : ℕ} (f : From s i []) where
   pub front-past : length s ≤ i
   front-past = omega (arith, length-drop i s, ap length (f .is))
+
+  pub front-done : doneAt s i ≡ true
+  unfolding doneAt
+  front-done = le-leb (length s) i front-past
 
   pub front-end : (k : Class) → eatWhile k s i ≡ i
   front-end k = stop k s i (match-end k s i front-past)

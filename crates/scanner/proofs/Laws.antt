@@ -1,6 +1,6 @@
 -- What callers use of what is eaten, instead of the definitions' text.
 -- Assumes nothing.
-use mathlib.Core.Path.{_≡_, ap, _∙_}
+use mathlib.Core.Path.{_≡_, refl, ap, _∙_}
 use mathlib.Core.Bool.{true, false}
 use mathlib.Core.List.{List}
 use Prim.Native.Nat.{ℕ, _+_, _-_, _≤_, _<_, zero-le}
@@ -13,12 +13,12 @@ use Rattle.chars.proofs.Classes.{printing-not-white}
 use Rattle.chars.specs.Utf8.{decodeAt, lenD}
 use Rattle.chars.specs.declared.Decoded.{Decoded}
 use Rattle.chars.specs.declared.Decoded.the-variants.{Char, Bad, End}
-use Rattle.chars.proofs.Cases.{by-test}
+use Rattle.chars.proofs.Cases.{by-test, of-test}
 use Rattle.chars.proofs.Laws.{fits, ascii, past-end, decode-same}
 use Rattle.scanner.specs.declared.Class.{Class}
 use Rattle.scanner.specs.declared.Class.the-variants.{Whitespace}
 use Rattle.scanner.specs.Class.{inClass}
-use Rattle.scanner.specs.Scan.{lenIn, matchLen, eatWhile}
+use Rattle.scanner.specs.Scan.{lenIn, matchLen, eatWhile, AllOf, none, more}
 use Rattle.scanner.proofs.Walk.{walk-stop, walk-go, walk-kept, walk-ended, walk-least, walk-inside}
 
 lenIn-le : (k : Class) (d : Decoded) → lenIn k d ≤ lenD d
@@ -86,6 +86,18 @@ module _ (k : Class) (s : List ℕ) where
   pub stopped : (at : ℕ) → matchLen k s (eatWhile k s at) ≡ 0
   unfolding eatWhile
   stopped at = walk-ended (matchLen k s) (length s) match-fits at
+
+  of-class : (d : Decoded) (i j : ℕ) → decodeAt s j ≡ d → 0 < lenIn k d → AllOf k s i j → AllOf k s i (j + lenIn k d)
+  unfolding lenIn pick
+  of-class (Char code len) i j e h a =
+      of-test (inClass k code) (λ t. rw t (more a e t)) (λ t. absurd (lt-irrefl 0 (rw t at h)))
+  of-class Bad i j e h a = absurd (lt-irrefl 0 h)
+  of-class End i j e h a = absurd (lt-irrefl 0 h)
+
+  -- what was eaten is characters of the class alone
+  pub all-eaten : (at : ℕ) → AllOf k s at (eatWhile k s at)
+  unfolding matchLen
+  all-eaten at = kept (AllOf k s at) (λ i h a. of-class (decodeAt s i) at i refl h a) at none
 
   -- what was eaten is not eaten again
   pub again : (at : ℕ) → eatWhile k s (eatWhile k s at) ≡ eatWhile k s at

@@ -1,10 +1,11 @@
 -- The part of a text from a place to another, where the places lie past the text's end or in the wrong order.
 -- Assumes nothing.
 use mathlib.Core.Path.{_≡_, sym, ap, _∙_}
-use mathlib.Core.List.{List}
+use mathlib.Core.List.{List, []}
 use Prim.Native.Nat.{ℕ, _-_, _≤_}
+use native.Mathlib.Nat.{min-le-left}
 use native.Mathlib.Omega.{arith}
-use lib.ListN.{length, take, drop, drop-of-length-le, length-drop}
+use lib.ListN.{length, take, drop, drop-of-length-le, length-take, length-drop}
 use lib.Seq.{take-nil, take-all}
 use Rattle.scanner.specs.Scan.{part}
 
@@ -12,7 +13,17 @@ use Rattle.scanner.specs.Scan.{part}
 pub rest : (s : List ℕ) (n : ℕ) → take (length s - n) (drop n s) ≡ drop n s
 rest s n = take-all (length s - n) (drop n s) (omega (arith, length-drop n s))
 
+-- from a place to itself there is nothing
+pub part-empty : (s : List ℕ) (i : ℕ) → part s i i ≡ []
+unfolding part
+part-empty s i = let z : i - i ≡ 0 = omega arith in ap (λ (n : ℕ). take n (drop i s)) z
+
 module _ (s : List ℕ) (a e : ℕ) where
+  -- it is no longer than the places say
+  pub part-short : length (part s a e) ≤ e - a
+  unfolding part
+  part-short = rw (length-take (e - a) (drop a s)) (min-le-left (e - a) (length (drop a s)))
+
   -- the first place is past the end
   pub part-past : (n m : ℕ) → length s ≤ n → length s ≤ a → take m (drop n s) ≡ part s a e
   unfolding part

@@ -4,23 +4,22 @@ use Prim.Native.Nat.{ℕ, _≤_, _<_}
 use native.Mathlib.Omega.{arith}
 use borrow.Author.Tests.{le-leb, eq-eqb, lt-leb}
 use lib.Dec.{lit<}
-use Rattle.chars.specs.Classes.{within, isAsciiDigit, isNumeric, isAsciiAlphabetic}
+use Rattle.chars.specs.Classes.{within, isAsciiAlphabetic}
 use Rattle.scanner.specs.declared.Class.{Class}
 use Rattle.scanner.specs.declared.Class.the-variants.{Numeric, AsciiDigit, AsciiAlphabetic, Separator, Is}
 use Rattle.scanner.specs.Class.{inClass}
 use Rattle.scanner.specs.Quick.{Quick}
+use Rattle.scanner.proofs.Digits.{digit-ascii, digit-numeric}
 
 -- no bytes at all
 pub quick-none : (k : Class) → Quick k 1 0
 quick-none k = record { ascii = lit< tt; each = λ (b : ℕ) (l : 1 ≤ b) (h : b ≤ 0). absurd (omega arith) }
 
 pub quick-digits : Quick AsciiDigit 0x30 0x39
-unfolding inClass isAsciiDigit within
-quick-digits = record { ascii = lit< tt; each = λ b l h. rw (le-leb 0x30 b l, le-leb b 0x39 h) }
+quick-digits = record { ascii = lit< tt; each = digit-ascii }
 
 pub quick-numeric : Quick Numeric 0x30 0x39
-unfolding inClass isNumeric isAsciiDigit within
-quick-numeric = record { ascii = lit< tt; each = λ b l h. rw (le-leb 0x30 b l, le-leb b 0x39 h) }
+quick-numeric = record { ascii = lit< tt; each = digit-numeric }
 
 pub quick-letters : Quick AsciiAlphabetic 0x61 0x7A
 unfolding inClass isAsciiAlphabetic within

@@ -1,5 +1,6 @@
 -- What the scanner's functions find from a place of a text on. A place is a count of bytes from the text's start.
 use Prim.Native.Nat.{ℕ, zero, suc, _+_, _-_}
+use mathlib.Core.Path.{_≡_}
 use mathlib.Core.List.{List, [], _∷_}
 use mathlib.Core.Bool.{Bool, true, false, not, _&&_}
 use lib.Dec.{leb, eqb}
@@ -79,3 +80,8 @@ runAt k s at = record { start = record { 0 = at }; end = record { 0 = eatWhile k
 -- such a run behind white space
 unfoldable pub nextRun : Class → List ℕ → ℕ → Run
 nextRun k s at = runAt k s (eatWhile Whitespace s at)
+
+-- from place i to a place there are characters of the class, one behind the other, and nothing else
+pub data AllOf (k : Class) (s : List ℕ) (i : ℕ) : ℕ → Type 0 where
+  none : AllOf k s i i
+  more : {j code len : ℕ} → AllOf k s i j → decodeAt s j ≡ Char code len → inClass k code ≡ true → AllOf k s i (j + len)

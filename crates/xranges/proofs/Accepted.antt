@@ -3,14 +3,13 @@
 use mathlib.Core.Path.{_≡_, refl, subst}
 use mathlib.Core.List.{List}
 use Prim.Native.Nat.{ℕ, zero, suc, _+_, _-_, _*_, _^_, _≤_, _<_}
-use native.Mathlib.Nat.{min-le-left}
 use native.Mathlib.Omega.{arith}
 use borrow.Author.Tests.{ltb-false, eqb-false}
 use lib.IntN.{pos}
-use lib.ListN.{length, drop, length-take}
 use Rattle.chars.proofs.Cases.{by-test}
 use Rattle.scanner.specs.declared.Class.the-variants.{Whitespace, AsciiDigit, Is}
 use Rattle.scanner.specs.Scan.{eatWhile, part}
+use Rattle.scanner.proofs.Parts.{part-short}
 use Rattle.refusals.specs.declared.TextRefusal.{TextRefusal}
 use Rattle.dates.specs.declared.OptionMonth.the-variants.{NoMonth}
 use Rattle.dates.specs.declared.OptionDay.the-variants.{NoDay}
@@ -99,10 +98,6 @@ years-good : (n digits : ℕ) → 2 ≤ n → n ≤ 4 → digits < 10 ^ n → Go
 unfolding years
 years-good n digits h l d = let t = last-year n digits h l d in good (some-years {y = digits * 10 ^ (4 - n)} (omega arith) t)
 
-short : (s : List ℕ) (a c : ℕ) → length (part s a c) ≤ c - a
-unfolding part
-short s a c = rw (length-take (c - a) (drop a s)) (min-le-left (c - a) (length (drop a s)))
-
 range-good : (s : List ℕ) → Good (rangeDates s)
 unfolding rangeDates rangeFrom digitRun yearRun
 range-good s =
@@ -113,7 +108,7 @@ range-good s =
     by-test Good _
     (λ _. on-value (parse 9999 (part s a c)) λ v e.
     by-test Good _ (λ _. behind-year s (eatWhile (Is 0x58) s c) v (omega (arith, value-in 9999 _ e)))
-    λ _. years-good (c - a) v (ltb-false _ _ h) (ltb-false _ _ l) (value-digits 9999 (part s a c) (c - a) (short s a c) e))
+    λ _. years-good (c - a) v (ltb-false _ _ h) (ltb-false _ _ l) (value-digits 9999 (part s a c) (c - a) (part-short s a c) e))
     (λ _. refused)
 
 of-good : {a b : Datetime} → Good (Range a b) → XRange a b

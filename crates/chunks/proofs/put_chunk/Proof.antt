@@ -2,7 +2,7 @@ use Rattle.chars.specs.Utf8.{encode}
 use Rattle.chunks.specs.Characters.{codes}
 use Rattle.chars.specs.Pick.{pick}
 use Rattle.chunks.proofs.Fill.{Filling, fill-start, fill-end, fill-put}
-use Rattle.chunks.specs.Format.{chunkOut, lastWhite, normal, normalFlag, chunkFlag}
+use Rattle.chunks.specs.Format.{chunkOut, lastWhite, normal, chunkFlag}
 use borrow.Author.Tests.{eq-eqb, ne-eqb}
 use native.Mathlib.Omega.{arith}
 use Prim.Native.Nat.{ℕ}
@@ -18,7 +18,7 @@ out0 : (kind : ℕ) (w : Bool) (t : List ℕ) → kind ≡ 0 → chunkOut w kind
 unfolding chunkOut pick
 out0 kind w t e = simp (eq-eqb _ _ e)
 
-flag0 : (kind : ℕ) (w : Bool) (t : List ℕ) → kind ≡ 0 → chunkFlag w kind t ≡ normalFlag w (codes t)
+flag0 : (kind : ℕ) (w : Bool) (t : List ℕ) → kind ≡ 0 → chunkFlag w kind t ≡ lastWhite w (codes t)
 unfolding chunkFlag pick
 flag0 kind w t e = simp (eq-eqb _ _ e)
 

@@ -4,7 +4,7 @@ use Rattle.chunks.proofs.Fill.{fill-start, fill-end, Filling, fill-put}
 use Rattle.chunks.proofs.Walk.{code-bad, code-char, code-end}
 use Rattle.chunks.proofs.Room.{one-short}
 use Rattle.chars.proofs.Laws.{OfChar, found}
-use Rattle.chunks.specs.Format.{normalFlag, normal, oneOut}
+use Rattle.chunks.specs.Format.{lastWhite, normal, oneOut}
 use Rattle.chars.specs.Utf8.{decodeAt}
 -- `chunks::put_normal` meets its contract. The invariant: what is still to be put, put from here on, gives what all of it gives from the start.
 -- The measure is what is left of the text. Assumes nothing.
@@ -20,7 +20,7 @@ use Rattle.chunks.proofs.put_normal.Tie as tie
 abbrev Inv-loop : tie.InvT-loop
 Inv-loop buf₀ n t white m₀ w₀ i₀ buf m w i =
     Filling buf₀ n (normal white (codes t)) buf m (normal w (codes (drop i t)))
-    × (normalFlag w (codes (drop i t)) ≡ normalFlag white (codes t))
+    × (lastWhite w (codes (drop i t)) ≡ lastWhite white (codes t))
     × (m + (length t - i) ≤ length buf)
 
 abbrev μ-loop : tie.MeasureT-loop
@@ -68,7 +68,7 @@ loop-less : tie.Need-loop-less Inv-loop μ-loop
 loop-less c = let p = c .before .before .before .before .before in omega (arith, sees p .inside, sees p .some)
 
 loop-again : tie.Need-loop-again Inv-loop μ-loop
-unfolding normal normalFlag
+unfolding normal lastWhite
 loop-again c =
     let p = c .before .before .before .before .before in
     let v = p .before .before .before .loop .inv in
@@ -85,7 +85,7 @@ same-length : tie.Need-same-length Inv-loop μ-loop
 same-length c = c .before .before .before .loop .inv .0 .long
 
 returns : tie.Need-returns Inv-loop μ-loop
-unfolding normal normalFlag
+unfolding normal lastWhite
 returns c =
     let v = c .before .before .before .loop .inv in
     let e = code-bad _ _ (sym (c .before .before .decode-at .ensures) ∙ c .enum-told .given .1) in
@@ -98,7 +98,7 @@ same-length-2 : tie.Need-same-length-2 Inv-loop μ-loop
 same-length-2 c = c .before .before .before .loop .inv .0 .long
 
 returns-2 : tie.Need-returns-2 Inv-loop μ-loop
-unfolding normal normalFlag
+unfolding normal lastWhite
 returns-2 c =
     let v = c .before .before .before .loop .inv in
     let e = code-end _ _ (sym (c .before .before .decode-at .ensures) ∙ c .enum-told2 .given .1) in

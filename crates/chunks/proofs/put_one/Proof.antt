@@ -1,5 +1,6 @@
 use Rattle.chars.specs.Classes.{isWhitespace}
-use Rattle.chunks.specs.Format.{oneOut, oneFlag}
+use Rattle.chunks.specs.Format.{oneOut}
+use Rattle.chunks.proofs.Plains.{break-white}
 use Rattle.chars.specs.Utf8.{encode}
 use Rattle.chars.specs.Pick.{pick}
 use lib.ListN.{length}
@@ -7,15 +8,14 @@ use native.Mathlib.Nat.{add-zero}
 use native.Mathlib.Omega.{arith}
 use mathlib.Core.List.{[], _∷_}
 use mathlib.Core.Bool.{true}
-use mathlib.Core.Path.{_≡_, refl, sym, ap}
+use mathlib.Core.Path.{_≡_, refl, sym, ap, _∙_}
 use borrow.Author.Needs.{needs}
 use Rattle.chunks.proofs.put_one.Statement.{statement}
 use Rattle.chunks.proofs.put_one.Tie as tie
 
 -- what is put out, and the flag, in each case
-flagged : (c : tie.Then1) → oneFlag (c .before .before .before .args .code) ≡ true
-unfolding oneFlag pick
-flagged c = simp (← c .before .is-break .ensures, c .if1 .taken)
+flagged : (c : tie.Then1) → isWhitespace (c .before .before .before .args .code) ≡ true
+flagged c = break-white _ (sym (c .before .is-break .ensures) ∙ c .if1 .taken)
 
 dropped : (c : tie.Then2) → let a = c .before .before .before .before .args in oneOut (a .white) (a .code) ≡ []
 unfolding oneOut pick
@@ -28,10 +28,6 @@ spaced c = simp (← c .before .before .is-break .ensures, c .before .if1 .taken
 plain : (c : tie.Else1) → let a = c .before .before .before .args in oneOut (a .white) (a .code) ≡ encode (a .code)
 unfolding oneOut pick
 plain c = simp (← c .before .is-break .ensures, c .if1 .left)
-
-flag-plain : (c : tie.Else1) → let a = c .before .before .before .args in oneFlag (a .code) ≡ isWhitespace (a .code)
-unfolding oneFlag pick
-flag-plain c = simp (← c .before .is-break .ensures, c .if1 .left)
 
 returns : tie.Need-returns
 returns c = rw (dropped c) (sym (add-zero _), sym (flagged (c .before)), refl)
@@ -48,7 +44,7 @@ put-char-requires-2 : tie.Need-put-char-requires-2
 put-char-requires-2 c κs = (c .before .before .before .before .pre .0, omega (arith, ap length (plain (c .before))))
 
 returns-3 : tie.Need-returns-3
-returns-3 c = let e = c .before .before .before .put-char2 .ensures in let p = c .before .before .before .before .before in rw (plain p, flag-plain p) (e .0, c .is-whitespace .ensures, e .1)
+returns-3 c = let e = c .before .before .before .put-char2 .ensures in let p = c .before .before .before .before .before in rw (plain p) (e .0, c .is-whitespace .ensures, e .1)
 
 pub put-one-spec : {M : Type 1} → statement M
 put-one-spec =

@@ -1,7 +1,7 @@
 use Rattle.chunks.proofs.Lengths.{ascii-on}
 use Rattle.chunks.specs.Plain.{plainOut, allAscii, plainText}
 use Rattle.chunks.proofs.Fill.{Filling, fill-start, fill-put, fill-end}
-use Rattle.chunks.specs.Format.{oneFlag}
+use Rattle.chars.specs.Classes.{isWhitespace}
 use Rattle.chunks.proofs.Plains.{front-low, plain-short}
 use mathlib.Core.Bool.{false, Bool}
 use mathlib.Core.List.{List, _++_}
@@ -40,7 +40,7 @@ module _ (c : tie.In-loop Inv-loop μ-loop) where
       front-low (getD t i 0) (drop (suc i) t)
       (ap allAscii (sym (drop-cons t i 0 (c .loop-test .taken))) ∙ c .before .loop .inv .1 ∙ c .before .before .before .before .pre .1)
 
-  on : (w : Bool) → plainText u w (drop i t) ≡ plainOut u w (getD t i 0) ++ plainText u (oneFlag (getD t i 0)) (drop (i + 1) t)
+  on : (w : Bool) → plainText u w (drop i t) ≡ plainOut u w (getD t i 0) ++ plainText u (isWhitespace (getD t i 0)) (drop (i + 1) t)
   unfolding plainText
   on w = rw (add-one, drop-cons t i 0 (c .loop-test .taken))
 

@@ -1,5 +1,5 @@
 use native.Mathlib.Omega.{arith}
-use Rattle.chunks.proofs.Plains.{other-flag, other-out, plain-high, break-space, break-dropped, is-break-of, break-flag}
+use Rattle.chunks.proofs.Plains.{other-out, plain-high, break-space, break-dropped, is-break-of, break-white}
 use native.Mathlib.Nat.{add-zero}
 use mathlib.Core.Path.{sym, ap, _∙_, refl}
 use Rattle.chars.specs.Classes.{isWhitespace}
@@ -17,19 +17,19 @@ returns-2 : tie.Need-returns-2
 returns-2 c =
     let a = c .before .before .before .before .before .before .before .args in
     let k = is-break-of (a .b) (c .before .before .before .wide .ensures) (c .before .before .is-break .ensures) (c .before .if2 .taken) in
-    rw (break-dropped (a .upper) (a .white) (a .b) k (c .if3 .taken), break-flag (a .b) k) (sym (add-zero _), refl, refl)
+    rw (break-dropped (a .upper) (a .white) (a .b) k (c .if3 .taken), break-white (a .b) k) (sym (add-zero _), refl, refl)
 
 returns-3 : tie.Need-returns-3
 returns-3 c =
     let a = c .before .before .before .before .before .before .before .args in
     let k = is-break-of (a .b) (c .before .before .before .wide .ensures) (c .before .before .is-break .ensures) (c .before .if2 .taken) in
-    rw (break-space (a .upper) (a .white) (a .b) k (c .if3 .left), break-flag (a .b) k) (refl, refl, refl)
+    rw (break-space (a .upper) (a .white) (a .b) k (c .if3 .left), break-white (a .b) k) (refl, refl, refl)
 
 returns-4 : tie.Need-returns-4
 returns-4 c =
     let a = c .before .before .before .before .before .before .before .args in
     let k = is-break-of (a .b) (c .before .before .before .wide .ensures) (c .before .before .is-break .ensures) (c .before .if2 .left) in
-    rw (other-out (a .upper) (a .white) (a .b) k, other-flag (a .b) k)
+    rw (other-out (a .upper) (a .white) (a .b) k)
     (refl, c .is-whitespace .ensures ∙ ap isWhitespace (c .before .before .before .wide .ensures), rw (c .before .before .before .before .before .plain-byte .ensures) refl)
 
 pub put-plain-byte-spec : {M : Type 1} → statement M
