@@ -1,4 +1,4 @@
--- What functions inside compute. No public contract cites this file, and none of it need be believed.
+-- What functions inside compute. No public contract rests on it.
 use mathlib.Core.Path.{_≡_}
 use Prim.Native.Nat.{ℕ, suc, _+_, _%_}
 use mathlib.Core.Bool.{Bool, true, false}

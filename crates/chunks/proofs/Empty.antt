@@ -39,6 +39,6 @@ unfolding bufferAfter
 empty-stored upper buf = rw (empty-answer upper buf, empty-text upper)
 
 -- its span is 0, 0
-pub empty-span : spanOf (chunksOf []) ≡ record { 0 = 0; 1 = 0 }
+pub empty-span : spanOf (chunksOf []) ≡ fileSpan 0 0
 unfolding spanOf chunksOf
 empty-span = refl

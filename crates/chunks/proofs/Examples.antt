@@ -14,8 +14,7 @@ use Rattle.chars.specs.Upper.{loses32, upperOf, codesOf as upperCodes}
 use Rattle.chars.specs.Utf8.{lenOf, isCont, isSurrogate, two, three, four, decode, first, encode, encodeAll}
 use Rattle.refusals.specs.declared.Kind.{Kind}
 use Rattle.refusals.specs.declared.Kind.the-variants.{BadUtf8, UnsupportedChar, NoRoom, BadChunks, TooLong}
-use Rattle.refusals.specs.declared.FileSpan.{FileSpan}
-use Rattle.refusals.specs.Refusal.{refusal}
+use Rattle.refusals.specs.Refusal.{fileSpan, refusal}
 use Rattle.chunks.specs.declared.Checked.{Checked}
 use Rattle.chunks.specs.declared.Checked.the-variants.{Clean, Faulty}
 use Rattle.chunks.specs.declared.Formatted.{Formatted}
@@ -31,7 +30,7 @@ use Rattle.chunks.proofs.Plains.{chunk-plain}
 
 -- a fault at a place, written out
 abbrev fault : Kind → ℕ → ℕ → Checked
-fault kind start end = Faulty (record { kind = kind; place = record { 0 = start; 1 = end } })
+fault kind start end = Faulty (record { kind = kind; place = fileSpan start end })
 
 -- so many Normal chunks without a text
 abbrev blanks : ℕ → List ℕ
@@ -157,11 +156,11 @@ answers =
     -- the room is that of the bytes and two for each chunk, whatever the text needs; what stands behind the text stays
     record { bytes = ascii "ab"; table = 0 ∷ 2 ∷ 0 ∷ 2 ∷ []; buffer = 1 ∷ 2 ∷ 3 ∷ 4 ∷ 5 ∷ []; says = Text 2; holds = 0x61 ∷ 0x62 ∷ 3 ∷ 4 ∷ 5 ∷ [] }
     ∷ record { bytes = ascii "ab"; table = 0 ∷ 2 ∷ 0 ∷ 2 ∷ []; buffer = 1 ∷ 2 ∷ 3 ∷ 4 ∷ []; says = Text 2; holds = 0x61 ∷ 0x62 ∷ 3 ∷ 4 ∷ [] }
-    ∷ record { bytes = ascii "ab"; table = 0 ∷ 2 ∷ 0 ∷ 2 ∷ []; buffer = 1 ∷ 2 ∷ 3 ∷ []; says = Refused (record { kind = NoRoom; place = record { 0 = 0; 1 = 0 } }); holds = 1 ∷ 2 ∷ 3 ∷ [] }
+    ∷ record { bytes = ascii "ab"; table = 0 ∷ 2 ∷ 0 ∷ 2 ∷ []; buffer = 1 ∷ 2 ∷ 3 ∷ []; says = Refused (record { kind = NoRoom; place = fileSpan 0 0 }); holds = 1 ∷ 2 ∷ 3 ∷ [] }
     ∷ record { bytes = ascii "x"; table = 2 ∷ 1 ∷ 0 ∷ 1 ∷ []; buffer = 1 ∷ 2 ∷ 3 ∷ []; says = Text 3; holds = 0x24 ∷ 0x78 ∷ 0x24 ∷ [] }
     -- a fault comes before NoRoom, and stores nothing
-    ∷ record { bytes = 0x61 ∷ 0xFF ∷ []; table = 0 ∷ 2 ∷ 0 ∷ 2 ∷ []; buffer = 1 ∷ []; says = Refused (record { kind = BadUtf8; place = record { 0 = 1; 1 = 2 } }); holds = 1 ∷ [] }
-    ∷ record { bytes = 0x61 ∷ 0xFF ∷ []; table = 0 ∷ 2 ∷ 0 ∷ 2 ∷ []; buffer = 1 ∷ 2 ∷ 3 ∷ 4 ∷ []; says = Refused (record { kind = BadUtf8; place = record { 0 = 1; 1 = 2 } }); holds = 1 ∷ 2 ∷ 3 ∷ 4 ∷ [] }
+    ∷ record { bytes = 0x61 ∷ 0xFF ∷ []; table = 0 ∷ 2 ∷ 0 ∷ 2 ∷ []; buffer = 1 ∷ []; says = Refused (record { kind = BadUtf8; place = fileSpan 1 2 }); holds = 1 ∷ [] }
+    ∷ record { bytes = 0x61 ∷ 0xFF ∷ []; table = 0 ∷ 2 ∷ 0 ∷ 2 ∷ []; buffer = 1 ∷ 2 ∷ 3 ∷ 4 ∷ []; says = Refused (record { kind = BadUtf8; place = fileSpan 1 2 }); holds = 1 ∷ 2 ∷ 3 ∷ 4 ∷ [] }
     ∷ []
 
 pub answer-examples : map (λ (e : AnswerExample). formatAnswer false (e .bytes) (e .table) (e .buffer)) answers ≡ map (λ (e : AnswerExample). e .says) answers
@@ -173,10 +172,10 @@ unfolding bufferAfter textOf formatted chunksOut chunkOut chunkFlag chunksOf nor
 buffer-examples = refl
 
 -- a list's span: its first chunk's start and its last one's end
-pub span-one : spanOf (chunksOf (0 ∷ 4 ∷ 10 ∷ 14 ∷ [])) ≡ record { 0 = 10; 1 = 14 }
+pub span-one : spanOf (chunksOf (0 ∷ 4 ∷ 10 ∷ 14 ∷ [])) ≡ fileSpan 10 14
 unfolding spanOf lastEnd chunksOf
 span-one = refl
 
-pub span-three : spanOf (chunksOf (0 ∷ 1 ∷ 5 ∷ 6 ∷ 1 ∷ 1 ∷ 20 ∷ 21 ∷ 2 ∷ 1 ∷ 9 ∷ 12 ∷ [])) ≡ record { 0 = 5; 1 = 12 }
+pub span-three : spanOf (chunksOf (0 ∷ 1 ∷ 5 ∷ 6 ∷ 1 ∷ 1 ∷ 20 ∷ 21 ∷ 2 ∷ 1 ∷ 9 ∷ 12 ∷ [])) ≡ fileSpan 5 12
 unfolding spanOf lastEnd chunksOf
 span-three = refl

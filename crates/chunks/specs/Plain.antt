@@ -1,5 +1,5 @@
 -- The usual list, one Normal chunk of ASCII, in one pass. What this gives is proved to be what the definitions of `Format` and `Upper`
--- give; no other crate's contract rests on it.
+-- give. No public contract rests on it.
 use Prim.Native.Char.{code}
 use Prim.Native.Nat.{ℕ, _-_}
 use mathlib.Core.Bool.{Bool, true, _&&_}

@@ -144,7 +144,7 @@ fn day_point(s: &[u8]) -> UsualPoint
 }
 
 // A point: dddd, dddd-mm or dddd-mm-dd.
-pub fn point(s: &[u8]) -> UsualPoint
+fn point(s: &[u8]) -> UsualPoint
     ensures { λ r. ⌜ r ≡ spec.pointOf (now (s .entry)) ⌝ }
 {
     let n = s.len();

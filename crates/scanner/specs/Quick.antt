@@ -1,4 +1,4 @@
--- What the quick part of `eat_while` knows of a class. No other crate's contract rests on it.
+-- What the quick part of `eat_while` knows of a class. No public contract rests on it.
 use Prim.Native.Nat.{ℕ, _≤_, _<_}
 use mathlib.Core.Path.{_≡_}
 use mathlib.Core.Bool.{true}
