@@ -10,7 +10,6 @@ use borrow.Author.Tests.{lt-ltb, le-ltb, le-leb, lt-leb, eq-eqb, ne-eqb, ltb-tru
 use lib.Dec.{lit<, lit≤, ltb}
 use lib.ListN.{length, take, length-append}
 use lib.Seq.{take-length}
-use lib.ListN.{length, length-append}
 use Rattle.chars.specs.Pick.{pick}
 use Rattle.chars.specs.Ascii.{digitOf}
 use Rattle.chars.proofs.Laws.{digit-is}
@@ -27,10 +26,8 @@ use Rattle.numbers.specs.Parse.{wholeValue, digitsFrom, parse}
 use Rattle.numbers.proofs.Reading.{front-ate, hyphen-hyphen}
 use Rattle.refusals.specs.declared.FileSpan.{FileSpan}
 use Rattle.chunks.specs.Chunks.{chunksOf, lengths, spanOf}
-use Rattle.chunks.specs.Format.{formatted, isBreak, oneFlag}
-use Rattle.chunks.specs.Chunks.{chunksOf, spanOf}
-use Rattle.chars.specs.Classes.{isWhitespace}
 use Rattle.chunks.specs.Format.{formatted, isBreak}
+use Rattle.chars.specs.Classes.{isWhitespace}
 use Rattle.chunks.specs.Plain.{allAscii, plainByte, plainOut, plainText}
 use Rattle.chunks.proofs.Answers.{plain-as-is}
 use Rattle.chunks.proofs.Plains.{plainly}
