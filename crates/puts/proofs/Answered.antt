@@ -16,7 +16,7 @@ use Rattle.puts.specs.declared.Measured.{Measured}
 use Rattle.puts.specs.declared.Measured.the-variants.{Length, NoLength}
 use Rattle.puts.specs.declared.Written.{Written}
 use Rattle.puts.specs.declared.Written.the-variants.{Done, Refused}
-use Rattle.puts.specs.Answers.{measured, decided, answer, afterwards, Put, Foretold}
+use Rattle.puts.specs.Answers.{measured, decided, answer, left, afterwards, Put, Foretold}
 use Rattle.refusals.specs.Refusal.{number, refusal, nowhere}
 use Rattle.puts.proofs.Puts.{at-front}
 
@@ -46,14 +46,12 @@ has-room t room e =
     of-test (leb (length t) room) (λ q. leb-true (length t) room q) (λ q. absurd (false≢true (ap isDone (rw q at e))))
 
 -- a refusal leaves all as it was
-all-left : (b : Bool) (t l : List ℕ) {e : Refusal} → answer b t (length l) ≡ Refused e → l ≡ afterwards b t l
-unfolding answer decided measured afterwards pick
-all-left true t l e = refl
-all-left false t l e =
-    of-test (leb (length t) (length l)) (λ q. absurd (false≢true (sym (ap isDone (rw q at e))))) (λ q. rw q)
+pub all-left : {w : Written} (t l : List ℕ) {e : Refusal} → w ≡ Refused e → l ≡ left w t l
+unfolding left
+all-left t l e = rw e
 
 stored : (t l : List ℕ) {m : List ℕ} {k : ℕ} → length t ≤ length l → Put t l 0 m k → (Done k ≡ answer false t (length l)) × (m ≡ afterwards false t l)
-unfolding answer decided measured afterwards pick
+unfolding answer decided measured afterwards left pick
 stored t l h p = rw (le-leb (length t) (length l) h) (ap Done (p .behind ∙ zero-add (length t)), at-front h p)
 
 -- what a writer has found out before it stores: m is the measure, w the answer
@@ -76,7 +74,8 @@ module _ (b : Bool) (t l : List ℕ) {m : Measured} {w : Written} (em : m ≡ me
 
   -- it refuses
   pub refuses : {e : Refusal} → w ≡ Refused e → (Refused e ≡ answer b t (length l)) × (l ≡ afterwards b t l)
-  refuses e = (sym e ∙ by-measure, all-left b t l (sym by-measure ∙ e))
+  unfolding afterwards
+  refuses e = (sym e ∙ by-measure, all-left t l (sym by-measure ∙ e))
 
 -- ---- what a length call tells of a writer
 

@@ -29,9 +29,14 @@ decided (NoLength e) room = Refused e
 unfoldable pub answer : Bool → List ℕ → ℕ → Written
 answer panics text room = decided (measured panics text) room
 
--- the buffer afterwards: the text at its front and what was behind it, or, after a refusal, all as it was
+-- the buffer after an answer: the text at its front and what was behind it, or, after a refusal, all as it was
+unfoldable pub left : Written → List ℕ → List ℕ → List ℕ
+left (Done n) text out = text ++ drop (length text) out
+left (Refused e) text out = out
+
+-- the buffer after the answer of a writer
 unfoldable pub afterwards : Bool → List ℕ → List ℕ → List ℕ
-afterwards panics text out = pick panics out (pick (leb (length text) (length out)) (text ++ drop (length text) out) out)
+afterwards panics text out = left (answer panics text (length out)) text out
 
 -- a text was put at a place of a buffer: the place behind it is given, and all other bytes are as they were
 pub record Put (text before : List ℕ) (at : ℕ) (after : List ℕ) (next : ℕ) : Type 0 where

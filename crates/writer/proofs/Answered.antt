@@ -17,7 +17,7 @@ use Rattle.puts.specs.declared.Written.{Written}
 use Rattle.puts.specs.declared.Written.the-variants.{Done, Refused}
 use Rattle.puts.specs.Answers.{measured, decided, Put, Foretold}
 use Rattle.refusals.specs.Refusal.{number, refusal, nowhere}
-use Rattle.puts.proofs.Answered.{fits, done, refuses, by-decision, measured-so, answer-foretold}
+use Rattle.puts.proofs.Answered.{all-left, fits, done, by-decision, measured-so, answer-foretold}
 use Rattle.writer.specs.Texts.{panics}
 use Rattle.writer.specs.Answers.{dateMeasured, dateAnswer, dateAfterwards}
 use Rattle.puts.specs.Answers.{answer}
@@ -65,9 +65,8 @@ module _ (d : Date) (t l : List ℕ) {m : Measured} {w : Written} (em : m ≡ da
 
   -- it refuses
   pub date-refuses : {e : Refusal} → w ≡ Refused e → (Refused e ≡ dateAnswer d t (length l)) × (l ≡ dateAfterwards d t l)
-  date-refuses e =
-      of-test (anySeason (d .value)) (λ q. (sym e ∙ by-date, sym (season-refused d t q .2 l)))
-      (λ q. (sym e ∙ by-date, refuses (panics d) t l (former q) ew e .1 ∙ sym (else-as-before d t q .2 l)))
+  unfolding dateAfterwards
+  date-refuses e = (sym e ∙ by-date, all-left t l (sym by-date ∙ e))
 
 -- what has no measure is refused, whatever the room
 pub date-unmeasured : (d : Date) (t l : List ℕ) {m : Measured} {e : Refusal} → m ≡ dateMeasured d t → m ≡ NoLength e → (Refused e ≡ dateAnswer d t (length l)) × (l ≡ dateAfterwards d t l)
