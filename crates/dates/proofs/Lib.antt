@@ -5,3 +5,4 @@ pub mod Lengths
 pub mod Whole
 pub mod Less
 pub mod Ends
+pub mod Examples
