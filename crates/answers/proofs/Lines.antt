@@ -19,13 +19,13 @@ use Rattle.puts.specs.declared.Measured.{Measured}
 use Rattle.puts.specs.declared.Measured.the-variants.{Length, NoLength}
 use Rattle.puts.specs.declared.Written.{Written}
 use Rattle.puts.specs.declared.Written.the-variants.{Done, Refused}
-use Rattle.puts.specs.Answers.{measured, decided, answer, afterwards, Put}
+use Rattle.puts.specs.Answers.{measured, decided, answer, left, afterwards, Put}
 use Rattle.refusals.specs.Refusal.{nowhere}
 use Rattle.writer.specs.Answers.{dateMeasured, dateAnswer, dateAfterwards}
 use Rattle.writer.specs.Texts.{dateText, panics}
 use Rattle.writer.specs.Level.{levelText, levelPanics}
 use Rattle.puts.proofs.Answered.{has-length, done}
-use Rattle.writer.proofs.Bounds.{Ends}
+use Rattle.writer.specs.Sizes.{Ends}
 use Rattle.writer.proofs.Levels.{season-refused, else-as-before, level-most}
 use Rattle.answers.specs.Answer.{endLength, refusedBytes, refusedLine, acceptedLine, measuredLine, answerLine, levelLine}
 use Rattle.answers.proofs.Digits.{length-line, length-refused, accepted-most, end-least}
@@ -48,7 +48,7 @@ refusal-same {e} {f} q = ap (λ (w : Written). refusalOf w e) q
 -- a line of a known length
 module _ (t l : List ℕ) where
   pub no-line : length l < length t → {w : Written} → w ≡ decided (Length 1) 0 → (w ≡ answer false t (length l)) × (l ≡ afterwards false t l)
-  unfolding decided answer measured afterwards pick
+  unfolding decided answer measured afterwards left pick
   no-line h e = rw (lt-leb (length t) (length l) h) (e, refl)
 
   pub line-done : length t ≤ length l → {m : List ℕ} {k : ℕ} → Put t l 0 m k → (Done k ≡ answer false t (length l)) × (m ≡ afterwards false t l)
@@ -97,7 +97,7 @@ module _ (level : Bool) (d : Date) (t : List ℕ) (m : Measured) (room : ℕ) {a
 
 -- what a writer leaves in a buffer that has the room
 whole : (b : Bool) (t text : List ℕ) (room : ℕ) → (b ≡ false → length t ≤ room) → length text ≡ room → {after : List ℕ} → after ≡ afterwards b t text → (n : ℕ) → measured b t ≡ Length n → Whole t after room n
-unfolding measured afterwards pick
+unfolding answer decided measured afterwards left pick
 whole true t text room h size et n e = absurd (false≢true (ap hasLength e))
 whole false t text room h size et n e =
     let k : length t ≡ n = ap lengthOf e in

@@ -4,3 +4,5 @@ pub mod Clock
 pub mod Lengths
 pub mod Whole
 pub mod Less
+pub mod Ends
+pub mod Examples

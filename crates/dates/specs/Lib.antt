@@ -1,4 +1,5 @@
 pub mod Calendar
+pub mod Ends
 pub mod Value
 pub mod Time
 pub mod Domain

@@ -1,6 +1,6 @@
 -- Datetimes and Dates, and what callers say of their parts.
 use Prim.Native.Nat.{ℕ}
-use mathlib.Core.Bool.{Bool, true, false, _||_}
+use mathlib.Core.Bool.{Bool, true, false}
 use lib.IntN.{ℤ}
 use Rattle.dates.specs.declared.OptionMonth.{OptionMonth}
 use Rattle.dates.specs.declared.OptionMonth.the-variants.{NoMonth, SomeMonth}
@@ -12,8 +12,9 @@ use Rattle.dates.specs.declared.OptionSeason.{OptionSeason}
 use Rattle.dates.specs.declared.OptionSeason.the-variants.{NoSeason, Spring, Summer, Autumn, Winter}
 use Rattle.dates.specs.declared.Datetime.{Datetime}
 use Rattle.dates.specs.declared.DateValue.{DateValue}
-use Rattle.dates.specs.declared.DateValue.the-variants.{At, After, Before, Between}
+use Rattle.dates.specs.declared.DateValue.the-variants.{At}
 use Rattle.dates.specs.declared.Date.{Date}
+use Rattle.dates.specs.Ends.{anyEnd}
 
 -- a month as it is stored: counted from zero
 abbrev pub month : ℕ → OptionMonth
@@ -53,10 +54,7 @@ hasSeason d = isSeason (d .season)
 
 -- whether an end of a point or range has one
 abbrev pub anySeason : DateValue → Bool
-anySeason (At d) = hasSeason d
-anySeason (After d) = hasSeason d
-anySeason (Before d) = hasSeason d
-anySeason (Between a b) = hasSeason a || hasSeason b
+anySeason v = anyEnd hasSeason v
 
 -- the Date of a value, with its marks
 abbrev pub date : DateValue → Bool → Bool → Date

@@ -22,6 +22,7 @@ use Rattle.days.specs.declared.Stretch.the-variants.{NoDate, Part}
 use Rattle.days.specs.Days.{yearLength, daysBefore, daysFrom, daysBack, newYear, monthStart}
 use Rattle.days.specs.Covered.{yearIn, partsIn, firstOf, lengthOf, lastOf, isDate, firstDay, lastDay, period, notADate, calendarDays}
 use Rattle.days.specs.Counts.{counted, askedMonth, askedYear, asked, daysTo, numbered, periodFrom}
+use Rattle.days.specs.Ways.{answer}
 use Rattle.days.proofs.Years.{year-most, year-least, from-most, leap-on, leap-back, from-on, from-back}
 use Rattle.days.proofs.Months.{before-first, before-most, before-same}
 use Rattle.days.proofs.Numbers.{counted-pos, counted-neg, year-neg, counted-in, numbered-on, numbered-pos, numbered-neg}
@@ -79,11 +80,6 @@ asked-in d = go (yearIn (d .year)) refl
     go true e = in-year (d .year) e (d .month) (d .day)
     go false e = tt
 
--- the answer, from the days before a month
-abbrev pub answer : (ℕ → ℕ → ℕ) → Stretch → Covered
-answer before NoDate = notADate
-answer before (Part n m p k) = Days (periodFrom (before n m + p) k)
-
 part : (first : ℤ) (a k : ℕ) → first ≡ numbered a → 0 < k → Days (period first (first +ℤ pos (k - 1))) ≡ Days (periodFrom a k)
 unfolding periodFrom
 part first a k e h =
@@ -130,13 +126,13 @@ answered d = go (yearIn (d .year)) refl
     go true e = parts (d .year) e (d .month) (d .day)
     go false e = refl
 
--- as a caller meets it: what was asked is told by the case
-pub not-covered : (d : Datetime) {s : Stretch} → s ≡ asked d → s ≡ NoDate → notADate ≡ calendarDays d
-not-covered d e f = sym (answered d ∙ ap (answer daysTo) (sym e ∙ f))
+-- as a caller meets it: what was asked is told by the case, and the days before a month are counted in one of the ways
+pub not-covered : (before : ℕ → ℕ → ℕ) (d : Datetime) {s : Stretch} → s ≡ asked d → s ≡ NoDate → notADate ≡ answer before (asked d)
+not-covered before d e f = ap (answer before) (sym f ∙ e)
 
 module _ (d : Datetime) {s : Stretch} {n m p k : ℕ} (e : s ≡ asked d) (f : s ≡ Part n m p k) where
   pub bounds : (0 < n) × (n < 20000) × (m < 12) × (p < 31) × (0 < k) × (k < 367)
   bounds = subst In (sym e ∙ f) (asked-in d)
 
-  pub covers : {b : ℕ} → b ≡ daysTo n m → Days (periodFrom (b + p) k) ≡ calendarDays d
-  covers g = rw g (sym (answered d ∙ ap (answer daysTo) (sym e ∙ f)))
+  pub covers : (before : ℕ → ℕ → ℕ) {b : ℕ} → b ≡ before n m → Days (periodFrom (b + p) k) ≡ answer before (asked d)
+  covers before g = rw g (ap (answer before) (sym f ∙ e))

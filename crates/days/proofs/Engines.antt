@@ -10,12 +10,14 @@ use Rattle.dates.specs.declared.Datetime.{Datetime}
 use Rattle.days.specs.declared.Covered.the-variants.{Days}
 use Rattle.days.specs.declared.Stretch.{Stretch}
 use Rattle.days.specs.declared.Stretch.the-variants.{NoDate, Part}
-use Rattle.days.specs.Covered.{calendarDays}
+use Rattle.days.specs.Covered.{calendarDays, covered}
 use Rattle.days.specs.Counts.{asked, daysTo, lengthAt, monthsTo, periodFrom}
-use Rattle.days.proofs.Years.{yearDays, from-is, cycles, leap-cycle}
-use Rattle.days.proofs.Months.{byRule, months-rule, before-next, before-first, before-last, before-same}
-use Rattle.days.proofs.Counts.{In, asked-in, answer, answered}
-use Rattle.days.proofs.Table.{table, entry-is}
+use Rattle.days.specs.Table.{table}
+use Rattle.days.specs.Ways.{byFormula, byTable, answer, daysBy}
+use Rattle.days.proofs.Years.{from-is, cycles, leap-cycle}
+use Rattle.days.proofs.Months.{months-rule, before-next, before-first, before-last, before-same}
+use Rattle.days.proofs.Counts.{In, asked-in, answered}
+use Rattle.days.proofs.Table.{entry-is}
 
 -- months counted on through the years
 months-on : (n m : ℕ) → m < 12 → monthsTo (suc (n * 12 + m)) ≡ monthsTo (n * 12 + m) + monthLength m (pos n)
@@ -56,14 +58,7 @@ from-cycle n m =
     let f : daysFrom n ≡ daysFrom (n % 400) + n / 400 * 146097 = ap daysFrom (sym e) ∙ cycles (n % 400) (n / 400) in
     omega (arith, f, before-same m (pos n) (pos (n % 400)) (leap-cycle n))
 
--- the days before a month, by the formula
-abbrev pub byFormula : ℕ → ℕ → ℕ
-byFormula n m = yearDays n + byRule (leapYear (pos n)) m
-
--- and from the table
-unfoldable pub byTable : ℕ → ℕ → ℕ
-byTable n m = n / 400 * 146097 + getD table (n % 400 * 12 + m) 0
-
+-- each way counts the days before a month
 pub formula-is : (n m : ℕ) → m < 12 → byFormula n m ≡ daysTo n m
 unfolding daysTo daysBefore
 formula-is n m h = omega (arith, from-is n, months-rule (leapYear (pos n)) m h)
@@ -78,13 +73,23 @@ same : (f g : ℕ → ℕ → ℕ) → ((n m : ℕ) → m < 12 → f n m ≡ g n
 same f g e NoDate h = refl
 same f g e (Part n m p k) h = ap (λ (b : ℕ). Days (periodFrom (b + p) k)) (e n m (h .2))
 
--- Both ways of counting answer each Datetime alike,
-pub engines-equal : (d : Datetime) → answer byFormula (asked d) ≡ answer byTable (asked d)
-engines-equal d = same byFormula byTable (λ n m h. formula-is n m h ∙ sym (table-is n m h)) (asked d) (asked-in d)
+-- by each way a Datetime has the days of the calendar
+pub formula-days : (d : Datetime) → calendarDays d ≡ answer byFormula (asked d)
+formula-days d = answered d ∙ same daysTo byFormula (λ n m h. sym (formula-is n m h)) (asked d) (asked-in d)
 
--- and each by what it covers in the calendar
-pub formula-covers : (d : Datetime) → calendarDays d ≡ answer byFormula (asked d)
-formula-covers d = answered d ∙ same daysTo byFormula (λ n m h. sym (formula-is n m h)) (asked d) (asked-in d)
+pub table-days : (d : Datetime) → calendarDays d ≡ answer byTable (asked d)
+table-days d = answered d ∙ same daysTo byTable (λ n m h. sym (table-is n m h)) (asked d) (asked-in d)
 
-pub table-covers : (d : Datetime) → calendarDays d ≡ answer byTable (asked d)
-table-covers d = formula-covers d ∙ engines-equal d
+-- What a Datetime covers is what the formula gives,
+pub formula-covers : (d : Datetime) → covered d ≡ daysBy byFormula d
+unfolding covered daysBy
+formula-covers d = rw (formula-days d)
+
+-- it is what the table gives,
+pub table-covers : (d : Datetime) → covered d ≡ daysBy byTable d
+unfolding covered daysBy
+table-covers d = rw (table-days d)
+
+-- so both ways answer every Datetime alike, refusals included
+pub engines-equal : (d : Datetime) → daysBy byFormula d ≡ daysBy byTable d
+engines-equal d = sym (formula-covers d) ∙ table-covers d

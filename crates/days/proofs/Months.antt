@@ -2,16 +2,16 @@
 use mathlib.Core.Path.{_≡_, refl}
 use mathlib.Core.Bool.{Bool, true, false}
 use mathlib.Core.List.{List, [], _∷_}
-use Prim.Native.Nat.{ℕ, zero, suc, _+_, _-_, _*_, _/_, _≤_, _<_}
+use Prim.Native.Nat.{ℕ, zero, suc, _+_, _-_, _≤_, _<_}
 use native.Mathlib.Omega.{arith}
 use borrow.Author.Tests.{le-ltb, lt-ltb}
-use lib.Dec.{ltb}
 use lib.IntN.{ℤ}
 use lib.ListN.{take, getD}
 use Rattle.chars.specs.Pick.{pick}
 use Rattle.chars.proofs.Below.{agree}
 use Rattle.dates.specs.Calendar.{leapYear, february, monthLengths, monthLength}
 use Rattle.days.specs.Days.{total, yearLength, daysBefore}
+use Rattle.days.specs.Ways.{rough, byRule}
 
 -- one more number of a list
 take-next : (l : List ℕ) (m : ℕ) → total (take (suc m) l) ≡ total (take m l) + getD l m 0
@@ -54,17 +54,7 @@ pub month-same : (m : ℕ) (y z : ℤ) → leapYear y ≡ leapYear z → monthLe
 unfolding monthLength
 month-same m y z e = rw e
 
--- the formula: as if February had 30 days
-abbrev pub rough : ℕ → ℕ
-rough m = (367 * m + 5) / 12
-
-abbrev fix : Bool → ℕ
-fix true = 1
-fix false = 2
-
-abbrev pub byRule : Bool → ℕ → ℕ
-byRule leap m = pick (ltb m 2) (rough m) (rough m - fix leap)
-
+-- the formula is the sum of the lengths
 pub months-rule : (leap : Bool) (m : ℕ) → m < 12 → byRule leap m ≡ total (take m (monthLengths leap))
 unfolding monthLengths february pick total
 months-rule true m h = agree (byRule true) (λ (m : ℕ). total (take m (monthLengths true))) 12 tt m h

@@ -27,6 +27,7 @@ use Rattle.days.specs.declared.Period.{Period}
 use Rattle.days.specs.declared.Covered.the-variants.{Days, Refused}
 use Rattle.days.specs.Days.{yearLength, daysFrom}
 use Rattle.days.specs.Covered.{yearIn, partsIn, firstOf, lengthOf, lastOf, isDate, firstDay, lastDay, period, notADate, calendarDays, seasoned, covered}
+use Rattle.days.specs.Faults.{Fault, year-outside, month-above, lone-day, day-past}
 use Rattle.days.specs.Counts.{counted, daysTo, numbered}
 use Rattle.days.proofs.Years.{year-least, length-same, from-is, from-next}
 use Rattle.days.proofs.Months.{month-same}
@@ -65,17 +66,7 @@ accepted d =
       λ (h : (natAbs (d .year) < 10000) × PartsIn (d .year) (d .month) (d .day)). joined (lt-ltb (natAbs (d .year)) 10000 (h .0)) (p .1 (h .1)),
     )
 
--- Why a Datetime is refused: one of four causes.
-pub data Fault (y : ℤ) : OptionMonth → OptionDay → Type 0 where
-  -- the year is outside
-  year-outside : {mo : OptionMonth} {da : OptionDay} → 9999 < natAbs y → Fault y mo da
-  -- the month is above 11
-  month-above : {m : Month} {da : OptionDay} → 11 < m .0 → Fault y (SomeMonth m) da
-  -- a day has no month
-  lone-day : {d : Day} → Fault y NoMonth (SomeDay d)
-  -- a day is past its month
-  day-past : {m : Month} {d : Day} → monthLength (m .0) y ≤ d .0 → Fault y (SomeMonth m) (SomeDay d)
-
+-- Why it is refused.
 faulty : {y : ℤ} (mo : OptionMonth) (da : OptionDay) → Fault y mo da → yearIn y && partsIn y mo da ≡ false
 unfolding yearIn partsIn
 faulty {y} mo da (year-outside h) = rw (le-ltb (natAbs y) 10000 h)

@@ -9,11 +9,9 @@ use lib.IntN.{ℤ, pos, negsuc}
 use borrow.Author.Tests.{eqb-true, eqb-false, eq-eqb, ne-eqb}
 use Rattle.dates.specs.Calendar.{multiple, leapYear, february, monthLengths}
 use Rattle.days.specs.Days.{total, yearLength, daysFrom, daysBack}
+use Rattle.days.specs.Ways.{yearDays}
 
--- the formula
-abbrev pub yearDays : ℕ → ℕ
-yearDays n = 365 * n + (n + 3) / 4 - (n + 99) / 100 + (n + 399) / 400
-
+-- what a leap year adds
 abbrev pub one-if : Bool → ℕ
 one-if true = 1
 one-if false = 0

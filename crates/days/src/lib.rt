@@ -3,11 +3,13 @@
 ghost use mathlib.Core.Path.{_≡_};
 ghost use mathlib.Core.Bool.{true};
 ghost use Prim.Native.Nat.{_<_};
-ghost use lib.ListN.{take};
+ghost use lib.ListN.{take, getD};
 ghost use Rattle.dates.specs.Calendar.{monthLengths};
 ghost use Rattle.days.specs.Days.{total, yearLength, daysFrom};
 ghost use Rattle.days.specs.Covered as spec;
 ghost use Rattle.days.specs.Counts as counts;
+ghost use Rattle.days.specs.Table.{table};
+ghost use Rattle.days.specs.Ways as ways;
 
 mod cycle;
 
@@ -47,7 +49,7 @@ enum Stretch {
 
 // The days of a Datetime without a season, by a formula.
 fn formula_days(d: Datetime) -> Covered
-    ensures { λ r. ⌜ r ≡ spec.calendarDays d ⌝ }
+    ensures { λ r. ⌜ r ≡ ways.answer ways.byFormula (counts.asked d) ⌝ }
 {
     match asked(d) {
         Stretch::NoDate => refused(),
@@ -65,7 +67,7 @@ fn formula_days(d: Datetime) -> Covered
 
 // The same from the table.
 fn table_days(d: Datetime) -> Covered
-    ensures { λ r. ⌜ r ≡ spec.calendarDays d ⌝ }
+    ensures { λ r. ⌜ r ≡ ways.answer ways.byTable (counts.asked d) ⌝ }
 {
     match asked(d) {
         Stretch::NoDate => refused(),
@@ -205,7 +207,7 @@ fn year_length(year: i32) -> u32
 // The days before a month of a year that is counted from 0: by a formula, those before the year and those of the year before the month.
 fn by_formula(year: u32, month: u8) -> u32
     requires { ⌜ (year < 20000) × (month < 12) ⌝ }
-    ensures { λ r. ⌜ (r ≡ counts.daysTo year month) × (r < 8000000) ⌝ }
+    ensures { λ r. ⌜ (r ≡ ways.byFormula year month) × (r < 8000000) ⌝ }
 {
     let leap = is_leap(year as i32);
     before_year(year) + before_month(leap, month)
@@ -234,7 +236,7 @@ fn before_month(leap: bool, month: u8) -> u32
 // The same as by the formula, from the table: those of whole cycles of 400 years, and those of the cycle before the month.
 fn by_table(year: u32, month: u8) -> u32
     requires { ⌜ (year < 20000) × (month < 12) ⌝ }
-    ensures { λ r. ⌜ (r ≡ counts.daysTo year month) × (r < 8000000) ⌝ }
+    ensures { λ r. ⌜ (r ≡ ways.byTable year month) × (r < 8000000) ⌝ }
 {
     let i = year % 400 * 12 + month as u32;
     year / 400 * 146097 + entry(i as usize)
@@ -243,7 +245,7 @@ fn by_table(year: u32, month: u8) -> u32
 // An entry of the table.
 fn entry(i: usize) -> u32
     requires { ⌜ i < 4800 ⌝ }
-    ensures { λ r. ⌜ r ≡ counts.monthsTo i ⌝ }
+    ensures { λ r. ⌜ r ≡ getD table i 0 ⌝ }
 {
     BEFORE[i]
 }

@@ -28,7 +28,8 @@ use Rattle.writer.specs.Texts.{minus, yearText, monthParts, partsOf, partsText,
 use Rattle.puts.specs.Marks.{markText}
 use Rattle.puts.specs.Answers.{measured}
 use Rattle.writer.specs.Level.{longSign, behindText, levelEnd, levelValue, levelText, levelEndPanics, levelValuePanics, levelPanics}
-use Rattle.writer.proofs.Bounds.{NarrowEnds, text-short}
+use Rattle.writer.specs.Sizes.{NarrowEnds}
+use Rattle.writer.proofs.Bounds.{text-short}
 use Rattle.roundtrip_laws.specs.Level.{InLevel, of-long-year}
 use Rattle.roundtrip_laws.proofs.Narrow.{parsed-narrow, strict-narrow, three-narrow, level-narrow}
 use Rattle.roundtrip_laws.proofs.LevelBack.{level-back}

@@ -1,11 +1,15 @@
 -- Instants: the day's number times 86,400 plus the time's seconds in UTC; and their order.
+use mathlib.Core.Path.{_≡_}
+use mathlib.Core.Bool.{false}
 use lib.IntN.{ℤ, pos, _+ℤ_, _*ℤ_}
 use Rattle.chars.specs.Pick.{pick}
 use Rattle.refusals.specs.declared.Kind.{Kind}
 use Rattle.refusals.specs.declared.Kind.the-variants.{BadTime, NoInstant}
 use Rattle.refusals.specs.Refusal.{fileSpan, refusal}
+use Rattle.dates.specs.declared.Day.{Day}
 use Rattle.dates.specs.declared.OptionDay.{OptionDay}
 use Rattle.dates.specs.declared.OptionDay.the-variants.{NoDay, SomeDay}
+use Rattle.dates.specs.declared.TimeOffset.{TimeOffset}
 use Rattle.dates.specs.declared.OptionOffset.{OptionOffset}
 use Rattle.dates.specs.declared.OptionOffset.the-variants.{NoOffset, SomeOffset}
 use Rattle.dates.specs.declared.Time.{Time}
@@ -13,6 +17,7 @@ use Rattle.dates.specs.declared.OptionTime.{OptionTime}
 use Rattle.dates.specs.declared.OptionTime.the-variants.{NoTime, SomeTime}
 use Rattle.dates.specs.declared.Datetime.{Datetime}
 use Rattle.dates.specs.Time.{utcSeconds}
+use Rattle.days.specs.declared.Period.{Period}
 use Rattle.days.specs.declared.Covered.{Covered}
 use Rattle.days.specs.declared.Covered.the-variants.{Days, Refused as NoDays}
 use Rattle.days.specs.Covered.{covered}
@@ -60,3 +65,32 @@ both (Seconds x) (Seconds y) = Stands (numberOrder x y)
 -- how the first stands to the second
 unfoldable pub compared : Datetime → Datetime → Compared
 compared a b = both (instantOf a) (instantOf b)
+
+-- what has an instant, and that x is it
+pub record Told (a : Datetime) (x : ℤ) : Type 0 where
+  pub p : Period
+  pub d : Day
+  pub t : Time
+  pub o : TimeOffset
+  -- its days are counted: it has no season and is a date of the calendar
+  pub days-are : covered a ≡ Days p
+  -- its time is not bad
+  pub time-good : hasBadTime a ≡ false
+  -- it has a day,
+  pub day-is : a .day ≡ SomeDay d
+  -- a time
+  pub time-is : a .time ≡ SomeTime t
+  -- and an offset
+  pub offset-is : t .offset ≡ SomeOffset o
+  -- the number of its day times 86,400, and the seconds of its time in UTC
+  pub seconds-are : x ≡ p .first *ℤ pos 86400 +ℤ utcSeconds t
+
+-- a day, a time or an offset is absent
+pub data Absent : OptionDay → OptionTime → Type 0 where
+  no-day : {ti : OptionTime} → Absent NoDay ti
+  no-time : {da : OptionDay} → Absent da NoTime
+  no-offset : {da : OptionDay} {t : Time} → t .offset ≡ NoOffset → Absent da (SomeTime t)
+
+-- its days are counted
+abbrev pub HasDays : Datetime → Type 0
+HasDays a = (p : Period) × (covered a ≡ Days p)

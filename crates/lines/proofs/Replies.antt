@@ -15,7 +15,7 @@ use Rattle.chunks.proofs.Fill.{stored-front}
 use Rattle.refusals.specs.declared.Refusal.{Refusal}
 use Rattle.puts.specs.declared.Written.{Written}
 use Rattle.puts.specs.declared.Written.the-variants.{Done, Refused}
-use Rattle.puts.specs.Answers.{measured, decided, answer, afterwards, Put}
+use Rattle.puts.specs.Answers.{measured, decided, answer, left, afterwards, Put}
 use Rattle.puts.proofs.Puts.{lent}
 use Rattle.lines.specs.Steps.{Replied}
 use Rattle.lines.specs.Steps.Replied.{was-put, no-room}
@@ -30,7 +30,7 @@ countOf (Refused e) = 0
 
 module _ (t l : List ℕ) {l' : List ℕ} {w : Written} (ew : w ≡ answer false t (length l)) (el : l' ≡ afterwards false t l) where
   pub was-done : {n : ℕ} → w ≡ Done n → (length t ≤ length l) × Put t l 0 l' n
-  unfolding answer decided measured afterwards pick
+  unfolding answer decided measured afterwards left pick
   was-done {n} e =
       of-test (leb (length t) (length l))
       (λ q.
@@ -41,7 +41,7 @@ module _ (t l : List ℕ) {l' : List ℕ} {w : Written} (ew : w ≡ answer false
       (λ q. absurd (false≢true (sym (ap isDone (sym e ∙ rw q at ew)))))
 
   pub was-refused : {e : Refusal} → w ≡ Refused e → (length l < length t) × (l' ≡ l)
-  unfolding answer decided measured afterwards pick
+  unfolding answer decided measured afterwards left pick
   was-refused {e} g =
       of-test (leb (length t) (length l))
       (λ q. absurd (false≢true (ap isDone (sym g ∙ rw q at ew))))

@@ -15,27 +15,15 @@ use Rattle.dates.specs.Time.{utcSeconds}
 use Rattle.order.specs.declared.Order.{Order}
 use Rattle.order.specs.declared.Order.the-variants.{Less, Equal, Greater, None}
 use Rattle.order.specs.Order.{numberOrder, inTurn, both, monthOf, dayOf, timeOf, alike, timeOrder, fromTime, fromDay, fromMonth, order}
+use Rattle.order.specs.Laws.{mirror, Lawful}
 use Rattle.dates.proofs.Less.{lt-trans}
 use Rattle.order.proofs.Numbers.{Cases, less, equal, greater, cases, number-less, number-greater, number-same}
-
--- the answer with the two operands exchanged
-abbrev pub mirror : Order → Order
-mirror Less = Greater
-mirror Equal = Equal
-mirror Greater = Less
-mirror None = None
 
 mirror-twice : (o : Order) → mirror (mirror o) ≡ o
 mirror-twice Less = refl
 mirror-twice Equal = refl
 mirror-twice Greater = refl
 mirror-twice None = refl
-
--- a comparison that keeps the three laws
-pub record Lawful {A : Type 0} (cmp : A → A → Order) : Type 0 where
-  pub mirrors : (a b : A) → cmp b a ≡ mirror (cmp a b)
-  pub passes : (a b c : A) → cmp a b ≡ Less → cmp b c ≡ Less → cmp a c ≡ Less
-  pub answers : (a b c : A) → cmp a b ≡ Equal → cmp a c ≡ cmp b c
 
 -- which answer it is, to tell two apart
 abbrev isLess : Order → Bool

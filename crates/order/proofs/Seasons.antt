@@ -9,10 +9,10 @@ use Rattle.dates.specs.declared.Datetime.{Datetime}
 use Rattle.dates.specs.Value.{hasSeason}
 use Rattle.order.specs.declared.Order.{Order}
 use Rattle.order.specs.declared.Order.the-variants.{Less, Equal}
-use Rattle.order.specs.declared.Compared.{Compared}
-use Rattle.order.specs.declared.Compared.the-variants.{Stands, Refused}
+use Rattle.order.specs.declared.Compared.the-variants.{Stands}
 use Rattle.order.specs.Order.{order, seasoned, partialCmp}
-use Rattle.order.proofs.Laws.{mirror, order-mirror, order-trans, order-alike}
+use Rattle.order.specs.Laws.{mirror, turned}
+use Rattle.order.proofs.Laws.{order-mirror, order-trans, order-alike}
 
 -- an answer is no refusal
 stands-not : (o : Order) → Stands o ≡ seasoned → ⊥
@@ -52,11 +52,6 @@ told false false o q e = (refl, refl, cc)
 stands : (a b : Datetime) {q : Order} → partialCmp a b ≡ Stands q → (hasSeason a ≡ false) × (hasSeason b ≡ false) × (order a b ≡ q)
 unfolding partialCmp
 stands a b {q} e = told (hasSeason a) (hasSeason b) (order a b) q e
-
--- the answer turned round; a refusal stays
-abbrev pub turned : Compared → Compared
-turned (Stands o) = Stands (mirror o)
-turned (Refused e) = Refused e
 
 turned-by : (s t : Bool) (o : Order) → pick (t || s) seasoned (Stands (mirror o)) ≡ turned (pick (s || t) seasoned (Stands o))
 unfolding pick seasoned

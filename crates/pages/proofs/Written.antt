@@ -12,7 +12,7 @@ use Rattle.refusals.specs.declared.Kind.the-variants.{NoRoom}
 use Rattle.refusals.specs.Refusal.{fileSpan, refusal}
 use Rattle.puts.specs.declared.Written.the-variants.{Done, Refused}
 use Rattle.puts.specs.Numbers.{digits, width, decimal}
-use Rattle.puts.specs.Answers.{measured, decided, answer, afterwards, Put}
+use Rattle.puts.specs.Answers.{measured, decided, answer, left, afterwards, Put}
 use Rattle.puts.proofs.Counts.{length-digits, length-decimal}
 use Rattle.puts.proofs.Puts.{kept, both, as-text, at-front}
 use Rattle.pages.specs.Text.{writtenRange}
@@ -38,9 +38,9 @@ module _ (a b : ℕ) {w v : ℕ} (ew : w ≡ width 1 a) (ev : v ≡ width 1 b) (
       both (as-text (ap (λ (n : ℕ). digits n a) (sym ew)) x) (both y (as-text (ap (λ (n : ℕ). digits n b) (sym ev)) z))
 
 pub done : (t l : List ℕ) {m : List ℕ} {k : ℕ} → length t ≤ length l → Put t l 0 m k → (Done k ≡ answer false t (length l)) × (m ≡ afterwards false t l)
-unfolding answer decided measured afterwards pick
+unfolding answer decided measured afterwards left pick
 done t l h p = rw (le-leb (length t) (length l) h) (ap Done (p .behind ∙ zero-add (length t)), at-front h p)
 
 pub no-room : (t l : List ℕ) → length l < length t → (Refused (refusal NoRoom (fileSpan 0 0)) ≡ answer false t (length l)) × (l ≡ afterwards false t l)
-unfolding answer decided measured afterwards pick
+unfolding answer decided measured afterwards left pick
 no-room t l h = rw (lt-leb (length t) (length l) h) (refl, refl)

@@ -1,3 +1,4 @@
 pub mod Counts
 pub mod Puts
 pub mod Answered
+pub mod Examples

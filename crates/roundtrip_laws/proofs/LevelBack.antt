@@ -44,7 +44,7 @@ use Rattle.writer.specs.Texts.{minus, yearText, dayParts, monthParts, partsOf, 
 use Rattle.puts.specs.Marks.{markText}
 use Rattle.writer.specs.Level.{longSign, behindText, levelEnd, levelValue, levelText, levelEndPanics, levelValuePanics, levelPanics}
 use Rattle.puts.proofs.Counts.{one-more, no-digits, few, padded, unpadded}
-use Rattle.writer.proofs.Bounds.{EachEnd}
+use Rattle.dates.specs.Ends.{EachEnd}
 use Rattle.roundtrip_laws.specs.Domain.{Untimed, oneChunk}
 use Rattle.roundtrip_laws.specs.Level.{LevelIn, of-calendar, of-season, of-long-year, InLevel}
 use Rattle.roundtrip_laws.proofs.Bytes.{InPoint, PointText, ValueText, Clear, Each, each-append, point-digit, minus-in, alone-text, between-text, after-text, before-text, clear-text, clear-ascii}

@@ -40,7 +40,7 @@ use Rattle.strict.specs.LevelMatcher.{level}
 use Rattle.strict.proofs.Runs.{nine-digits}
 use Rattle.strict.proofs.Level.{level-exact, level-refused, strict-level}
 use Rattle.reading_laws.specs.Field.{onClean, leveled, parsedLevelOne, parsedStrict}
-use Rattle.writer.proofs.Bounds.{EachEnd}
+use Rattle.dates.specs.Ends.{EachEnd}
 use Rattle.writer.proofs.Pieces.{first-false, second-false}
 use Rattle.roundtrip_laws.proofs.Accepted.{AllDated}
 use Rattle.roundtrip_laws.proofs.Agrees.{derivation, strict-clean-list, strict-read}

@@ -27,8 +27,8 @@ use Rattle.reading_laws.specs.Field.{parsed, parsedStrict, parsedLevelOne}
 use Rattle.reading_laws.specs.Fields.{threeFields}
 use Rattle.reading_laws.proofs.Stored.{FieldsIn, fields, three-in}
 use Rattle.writer.specs.Level.{levelText}
-use Rattle.writer.proofs.Bounds.{MonthUnder, DayUnder, Narrow, NarrowEnds}
-use Rattle.writer.proofs.Levels.{LevelNarrow, narrow, seasoned, long, level-short}
+use Rattle.writer.specs.Sizes.{MonthUnder, DayUnder, Narrow, NarrowEnds, LevelNarrow, narrow, seasoned, long}
+use Rattle.writer.proofs.Levels.{level-short}
 use Rattle.roundtrip_laws.specs.Domain.{ShortMonthRange, days-xx}
 use Rattle.roundtrip_laws.proofs.Accepted.{AllDated, accepted-known}
 use Rattle.roundtrip_laws.proofs.Strictly.{strict-dated}

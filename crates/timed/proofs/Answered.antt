@@ -1,6 +1,6 @@
 -- The answers of the writer: what each says of the text and of the buffer. Over plain variables. Assumes nothing.
 use mathlib.Core.Path.{_≡_, refl, sym, ap, _∙_}
-use mathlib.Core.Bool.{Bool, true, false, false≢true, _||_}
+use mathlib.Core.Bool.{Bool, true, false, false≢true}
 use mathlib.Core.List.{List, _++_, append-nil}
 use Prim.Native.Nat.{ℕ, _+_, _-_, _≤_}
 use native.Mathlib.Nat.{zero-add}
@@ -12,7 +12,7 @@ use borrow.Author.Tests.{le-leb, leb-true}
 use borrow.Rule.Slice.PartMut.{putMid}
 use Rattle.chars.specs.Pick.{pick}
 use Rattle.chars.proofs.Cases.{of-test}
-use Rattle.refusals.specs.declared.Kind.the-variants.{RustPanics, BadTime, HasSeason}
+use Rattle.refusals.specs.declared.Kind.the-variants.{RustPanics, NoRoom, BadTime, HasSeason}
 use Rattle.refusals.specs.declared.Refusal.{Refusal}
 use Rattle.dates.specs.declared.Datetime.{Datetime}
 use Rattle.dates.specs.declared.Date.{Date}
@@ -21,14 +21,15 @@ use Rattle.puts.specs.declared.Measured.{Measured}
 use Rattle.puts.specs.declared.Measured.the-variants.{Length, NoLength}
 use Rattle.puts.specs.declared.Written.{Written}
 use Rattle.puts.specs.declared.Written.the-variants.{Done, Refused}
-use Rattle.puts.specs.Answers.{decided, Put}
-use Rattle.refusals.specs.Refusal.{nowhere}
+use Rattle.puts.specs.Answers.{decided, left, Put, Foretold}
+use Rattle.refusals.specs.Refusal.{number, refusal, nowhere}
 use Rattle.puts.specs.Answers as writing
 use Rattle.writer.specs.Answers.{dateMeasured, dateAnswer, dateAfterwards}
 use Rattle.writer.specs.Texts.{datetimeText, dateText, endPanics, valuePanics, panics}
 use Rattle.puts.specs.Marks.{markText}
 use Rattle.writer.specs.Texts as untimed
 use Rattle.puts.proofs.Puts.{at-front, lent, lent-room}
+use Rattle.puts.proofs.Answered.{all-left, by-decision}
 use Rattle.writer.proofs.Levels.{else-as-before}
 use Rattle.timed.specs.Texts.{timedText, timesText}
 use Rattle.timed.specs.Answers.{valueBad, plainMeasured, timedMeasured, timedAnswer, timedAfterwards}
@@ -41,6 +42,14 @@ isDone (Refused e) = false
 abbrev isLength : Measured → Bool
 isLength (Length n) = true
 isLength (NoLength e) = false
+
+-- the number of a refusal; 0 if there is none
+abbrev kindOf : Measured → ℕ
+kindOf (Length n) = 0
+kindOf (NoLength e) = number (e .kind)
+
+other-kind : {m n : Measured} → (kindOf m ≡ kindOf n → ⊥) → m ≡ n → ⊥
+other-kind f e = f (ap kindOf e)
 
 -- the measure by the two tests
 abbrev measure : Bool → Bool → List ℕ → Measured
@@ -55,20 +64,20 @@ asked s m = pick s (NoLength (nowhere HasSeason)) m
 module _ (d : Date) where
   -- an end has one: HasSeason, and nothing is stored
   pub seasoned : anySeason (d .value) ≡ true → (timedMeasured d ≡ NoLength (nowhere HasSeason)) × ((room : ℕ) → timedAnswer d room ≡ Refused (nowhere HasSeason)) × ((out : List ℕ) → timedAfterwards d out ≡ out)
-  unfolding timedMeasured timedAnswer timedAfterwards decided pick
+  unfolding timedMeasured timedAnswer timedAfterwards decided left pick
   seasoned e = (
     ap (λ (s : Bool). asked s (plainMeasured d)) e,
     λ (room : ℕ). ap (λ (s : Bool). decided (asked s (plainMeasured d)) room) e,
-    λ (out : List ℕ). ap (λ (s : Bool). pick s out (writing.afterwards (panics d || valueBad (d .value)) (timedText d) out)) e,
+    λ (out : List ℕ). ap (λ (s : Bool). left (decided (asked s (plainMeasured d)) (length out)) (timedText d) out) e,
   )
 
   -- none has: all is as without seasons
-  pub plain : anySeason (d .value) ≡ false → (timedMeasured d ≡ plainMeasured d) × ((room : ℕ) → timedAnswer d room ≡ decided (plainMeasured d) room) × ((out : List ℕ) → timedAfterwards d out ≡ writing.afterwards (panics d || valueBad (d .value)) (timedText d) out)
+  pub plain : anySeason (d .value) ≡ false → (timedMeasured d ≡ plainMeasured d) × ((room : ℕ) → timedAnswer d room ≡ decided (plainMeasured d) room) × ((out : List ℕ) → timedAfterwards d out ≡ left (decided (plainMeasured d) (length out)) (timedText d) out)
   unfolding timedMeasured timedAnswer timedAfterwards pick
   plain e = (
     ap (λ (s : Bool). asked s (plainMeasured d)) e,
     λ (room : ℕ). ap (λ (s : Bool). decided (asked s (plainMeasured d)) room) e,
-    λ (out : List ℕ). ap (λ (s : Bool). pick s out (writing.afterwards (panics d || valueBad (d .value)) (timedText d) out)) e,
+    λ (out : List ℕ). ap (λ (s : Bool). left (decided (asked s (plainMeasured d)) (length out)) (timedText d) out) e,
   )
 
 -- ---- the measure, by that of the text without its times
@@ -126,22 +135,14 @@ told false true b t room e = absurd (false≢true (ap isDone e))
 told false false true t room e = absurd (false≢true (ap isDone e))
 told false false false t room e = (refl, refl, has-room t room e)
 
-stored : (s p b : Bool) (t l : List ℕ) {n : ℕ} → decided (asked s (measure p b t)) (length l) ≡ Done n → {m : List ℕ} {k : ℕ} → Put t l 0 m k → (Done k ≡ decided (asked s (measure p b t)) (length l)) × (m ≡ pick s l (writing.afterwards (p || b) t l))
-unfolding decided writing.afterwards pick
+stored : (s p b : Bool) (t l : List ℕ) {n : ℕ} → decided (asked s (measure p b t)) (length l) ≡ Done n → {m : List ℕ} {k : ℕ} → Put t l 0 m k → (Done k ≡ decided (asked s (measure p b t)) (length l)) × (m ≡ left (decided (asked s (measure p b t)) (length l)) t l)
+unfolding decided left pick
 stored true p b t l e q = absurd (false≢true (ap isDone e))
 stored false true b t l e q = absurd (false≢true (ap isDone e))
 stored false false true t l e q = absurd (false≢true (ap isDone e))
 stored false false false t l e q =
     let h = has-room t (length l) e in
     rw (le-leb (length t) (length l) h) (ap Done (q .behind ∙ zero-add (length t)), at-front h q)
-
--- a refusal leaves all as it was
-all-left : (s p b : Bool) (t l : List ℕ) {e : Refusal} → decided (asked s (measure p b t)) (length l) ≡ Refused e → l ≡ pick s l (writing.afterwards (p || b) t l)
-unfolding decided writing.afterwards pick
-all-left true p b t l e = refl
-all-left false true b t l e = refl
-all-left false false true t l e = refl
-all-left false false false t l e = of-test (leb (length t) (length l)) (λ q. absurd (false≢true (sym (ap isDone (rw q at e))))) (λ q. rw q)
 
 -- what is found out before anything is stored: m is the measure, w the answer
 module _ (d : Date) (l : List ℕ) {m : Measured} {w : Written} (em : m ≡ timedMeasured d) (ew : w ≡ decided m (length l)) where
@@ -162,8 +163,21 @@ module _ (d : Date) (l : List ℕ) {m : Measured} {w : Written} (em : m ≡ time
 
   -- it refuses
   pub refuses : {e : Refusal} → w ≡ Refused e → (Refused e ≡ timedAnswer d (length l)) × (l ≡ timedAfterwards d l)
-  unfolding timedAnswer timedMeasured plainMeasured timedAfterwards
-  refuses e = (sym e ∙ by-measure, all-left (anySeason (d .value)) (panics d) (valueBad (d .value)) (timedText d) l (sym by-measure ∙ e))
+  unfolding timedAfterwards
+  refuses e = (sym e ∙ by-measure, all-left (timedText d) l (sym by-measure ∙ e))
+
+-- HasSeason, RustPanics and BadTime are not NoRoom
+timed-so : (s p b : Bool) (t : List ℕ) → asked s (measure p b t) ≡ NoLength (nowhere NoRoom) → ⊥
+unfolding refusal pick
+timed-so true p b t e = other-kind (λ (z : _≡_ {A = ℕ} 24 13). omega arith) e
+timed-so false true b t e = other-kind (λ (z : _≡_ {A = ℕ} 9 13). omega arith) e
+timed-so false false true t e = other-kind (λ (z : _≡_ {A = ℕ} 22 13). omega arith) e
+timed-so false false false t e = false≢true (sym (ap isLength e))
+
+-- The length call tells what is stored in which room, and refuses what the writer refuses apart from NoRoom.
+pub timed-foretold : (d : Date) → Foretold (timedMeasured d) (timedAnswer d)
+unfolding timedMeasured plainMeasured timedAnswer
+timed-foretold d = by-decision (timedMeasured d) (timed-so (anySeason (d .value)) (panics d) (valueBad (d .value)) (timedText d))
 
 -- ---- one end without its time, by the writer of dates in the rest of the buffer
 
@@ -176,13 +190,13 @@ alone-panics : (d : Datetime) → panics (fromDatetime d) ≡ endPanics d
 unfolding panics valuePanics
 alone-panics d = refl
 
--- where there is room nothing is nowhere
+-- where there is room nothing is refused
 has-done : (t l : List ℕ) {w : Written} → length t ≤ length l → w ≡ writing.answer false t (length l) → w ≡ Done (length t)
 unfolding writing.answer writing.measured decided pick
 has-done t l h e = e ∙ rw (le-leb (length t) (length l) h)
 
 has-stored : (t l : List ℕ) {m : List ℕ} → length t ≤ length l → m ≡ writing.afterwards false t l → Put t l 0 m (length t)
-unfolding writing.afterwards pick
+unfolding writing.afterwards writing.answer writing.measured decided left pick
 has-stored t l h e =
     record {
       behind = sym (zero-add (length t));

@@ -25,13 +25,13 @@ use Rattle.dates.specs.declared.Date.{Date}
 use Rattle.dates.specs.Time.{time, inRange}
 use Rattle.dates.specs.Value.{month, day, datetime, seasonOf, date, fromDatetime}
 use Rattle.puts.specs.declared.Written.the-variants.{Done, Refused}
-use Rattle.puts.specs.Answers.{decided}
+use Rattle.puts.specs.Answers.{decided, left}
 use Rattle.puts.specs.Numbers.{count, digitCount, width, decimal}
 use Rattle.writer.specs.Texts.{minus, yearText, writtenMonth, writtenDay, dayParts, monthParts, partsOf, partText, hyphenPart, partsText, datetimeText, tooLarge, endPanics, valuePanics, panics}
 use Rattle.puts.specs.Marks.{markText}
 use Rattle.timed.specs.Texts.{field, sign, offsetText, zoneText, clockText, timeText, endText, valueText, timedText}
 use Rattle.dates.specs.Clocks.{offsetIn, zoneIn, clockIn, dayBesideMonth, badTime, hasBadTime}
-use Rattle.timed.specs.Answers.{valueBad, plainMeasured, timedMeasured, timedAnswer}
+use Rattle.timed.specs.Answers.{valueBad, plainMeasured, timedMeasured, timedAnswer, timedAfterwards}
 
 -- a date, and what is written
 pub record Example : Type 0 where
@@ -64,6 +64,26 @@ texts =
     ∷ record { of = fromDatetime (datetime (negsuc 43) (month 2) (day 14) (SomeTime (time 9 0 0 NoOffset))); text = "-0044-03-15T09:00:00" }
     ∷ record { of = date (At (datetime (pos 2049) (month 0) NoDay NoTime)) true false; text = "2049-01?" }
     ∷ record { of = fromDatetime (datetime (pos 12345) (month 98) (day 254) (SomeTime (time 0 0 1 utc))); text = "12345-99-255T00:00:01Z" }
+    ∷ record { of = date (At (at 0 0 0 (offset false 23 59))) false false; text = "2000-02-29T00:00:00-23:59" }
+    ∷ record { of = date (At (at 9 10 59 (offset true 9 10))) false false; text = "2000-02-29T09:10:59+09:10" }
+    ∷ record { of = date (At (at 1 2 3 utc)) false false; text = "2000-02-29T01:02:03Z" }
+    ∷ record { of = date (At (at 1 2 3 utc)) true false; text = "2000-02-29T01:02:03Z?" }
+    ∷ record { of = date (At (at 1 2 3 utc)) false true; text = "2000-02-29T01:02:03Z~" }
+    ∷ record { of = date (At (at 1 2 3 utc)) true true; text = "2000-02-29T01:02:03Z%" }
+    ∷ record { of = date (After (at 1 2 3 NoOffset)) false false; text = "2000-02-29T01:02:03/.." }
+    ∷ record { of = date (After (at 1 2 3 NoOffset)) true false; text = "2000-02-29T01:02:03/..?" }
+    ∷ record { of = date (After (at 1 2 3 NoOffset)) false true; text = "2000-02-29T01:02:03/..~" }
+    ∷ record { of = date (After (at 1 2 3 NoOffset)) true true; text = "2000-02-29T01:02:03/..%" }
+    ∷ record { of = date (Before (at 1 2 3 (offset false 1 0))) false false; text = "../2000-02-29T01:02:03-01:00" }
+    ∷ record { of = date (Before (at 1 2 3 (offset false 1 0))) true false; text = "../2000-02-29T01:02:03-01:00?" }
+    ∷ record { of = date (Before (at 1 2 3 (offset false 1 0))) false true; text = "../2000-02-29T01:02:03-01:00~" }
+    ∷ record { of = date (Before (at 1 2 3 (offset false 1 0))) true true; text = "../2000-02-29T01:02:03-01:00%" }
+    ∷ record { of = date (Between (at 1 2 3 utc) (at 4 5 6 utc)) false false; text = "2000-02-29T01:02:03Z/2000-02-29T04:05:06Z" }
+    ∷ record { of = date (Between (at 1 2 3 utc) (at 4 5 6 utc)) true false; text = "2000-02-29T01:02:03Z/2000-02-29T04:05:06Z?" }
+    ∷ record { of = date (Between (at 1 2 3 utc) (at 4 5 6 utc)) false true; text = "2000-02-29T01:02:03Z/2000-02-29T04:05:06Z~" }
+    ∷ record { of = date (Between (at 1 2 3 utc) (at 4 5 6 utc)) true true; text = "2000-02-29T01:02:03Z/2000-02-29T04:05:06Z%" }
+    ∷ record { of = date (Between (at 1 2 3 NoOffset) (datetime (negsuc 9999) (month 11) (day 30) NoTime)) false false; text = "2000-02-29T01:02:03/-10000-12-31" }
+    ∷ record { of = date (At (datetime (pos 2147483647) NoMonth (day 0) NoTime)) false false; text = "2147483647" }
     ∷ []
 
 pub text-examples : map (λ (e : Example). timedText (e .of)) texts ≡ map (λ (e : Example). ascii (e .text)) texts
@@ -104,6 +124,13 @@ refusals =
     ∷ record { of = fromDatetime (panicking (SomeTime (time 24 0 0 NoOffset))); room = 70; kind = RustPanics }
     ∷ record { of = date (Between (at 24 0 0 NoOffset) (panicking NoTime)) false false; room = 0; kind = RustPanics }
     ∷ record { of = fromDatetime (at 1 2 3 NoOffset); room = 18; kind = NoRoom }
+    ∷ record { of = fromDatetime (at 1 2 3 NoOffset); room = 0; kind = NoRoom }
+    ∷ record { of = fromDatetime (at 0 0 0 (offset true 23 60)); room = 0; kind = BadTime }
+    ∷ record { of = date (After (at 0 60 0 utc)) false false; room = 70; kind = BadTime }
+    ∷ record { of = date (Before (at 0 0 60 utc)) false false; room = 70; kind = BadTime }
+    ∷ record { of = date (Between (at 0 0 0 (offset false 24 0)) (at 0 0 0 utc)) false false; room = 70; kind = BadTime }
+    ∷ record { of = date (After (panicking NoTime)) false false; room = 70; kind = RustPanics }
+    ∷ record { of = date (Before (panicking NoTime)) false false; room = 0; kind = RustPanics }
     ∷ record { of = fromDatetime (seasonOf (pos 2000) Winter); room = 70; kind = HasSeason }
     ∷ record { of = fromDatetime (inSpring (SomeTime (time 24 0 0 NoOffset))); room = 0; kind = HasSeason }
     ∷ record { of = date (Between (panicking NoTime) (seasonOf (pos 2000) Winter)) false false; room = 0; kind = HasSeason }
@@ -113,6 +140,17 @@ refusals =
 pub refused-examples : map (λ (e : Refusal). timedAnswer (e .of) (e .room)) refusals ≡ map (λ (e : Refusal). Refused (nowhere (e .kind))) refusals
 unfolding timedAnswer timedMeasured plainMeasured decided valueBad hasBadTime badTime dayBesideMonth clockIn zoneIn offsetIn inRange timedText valueText endText timeText clockText zoneText offsetText sign field datetimeText yearText minus decimal width digitCount count partsOf monthParts dayParts writtenMonth writtenDay partsText hyphenPart partText markText panics valuePanics endPanics tooLarge pick
 refused-examples = refl
+
+-- a text that just fits is written, what is behind it stays, and a refusal stores nothing
+pub just-fits : timedAnswer (fromDatetime (at 1 2 3 NoOffset)) 19 ≡ Done 19
+unfolding timedAnswer timedMeasured plainMeasured decided valueBad hasBadTime badTime dayBesideMonth clockIn zoneIn offsetIn inRange timedText valueText endText timeText clockText zoneText offsetText sign field datetimeText yearText minus decimal width digitCount count partsOf monthParts dayParts writtenMonth writtenDay partsText hyphenPart partText markText panics valuePanics endPanics tooLarge pick
+just-fits = refl
+
+pub buffers-left : timedAfterwards (fromDatetime (at 1 2 3 NoOffset)) (ascii ".....................") ∷ timedAfterwards (fromDatetime (at 1 2 3 NoOffset)) (ascii "..................")
+    ∷ timedAfterwards (fromDatetime (at 24 0 0 NoOffset)) (ascii ".....................") ∷ timedAfterwards (fromDatetime (panicking NoTime)) (ascii ".....................") ∷ timedAfterwards (fromDatetime (seasonOf (pos 2000) Winter)) (ascii ".....................") ∷ []
+    ≡ ascii "2000-02-29T01:02:03.." ∷ ascii ".................." ∷ ascii "....................." ∷ ascii "....................." ∷ ascii "....................." ∷ []
+unfolding timedAfterwards left timedAnswer timedMeasured plainMeasured decided valueBad hasBadTime badTime dayBesideMonth clockIn zoneIn offsetIn inRange timedText valueText endText timeText clockText zoneText offsetText sign field datetimeText yearText minus decimal width digitCount count partsOf monthParts dayParts writtenMonth writtenDay partsText hyphenPart partText markText panics valuePanics endPanics tooLarge pick
+buffers-left = refl
 
 -- the refusal's number is 22, and it has no place
 pub refused-as : (number BadTime ≡ 22) × (nowhere BadTime ≡ record { kind = BadTime; place = fileSpan 0 0 })

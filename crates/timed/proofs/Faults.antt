@@ -1,12 +1,10 @@
 -- Which times are bad: exactly those with one of seven causes. Assumes nothing.
 use mathlib.Core.Path.{_≡_, refl, sym}
 use mathlib.Core.Bool.{Bool, true, false, not, _&&_, false≢true}
-use mathlib.Core.Logic.{_↔_, _⊎_, inl, inr}
-use Prim.Native.Nat.{ℕ, _<_}
+use mathlib.Core.Logic.{_↔_}
 use lib.Dec.{leb}
 use borrow.Author.Tests.{lt-leb, leb-false}
 use Rattle.chars.proofs.Cases.{of-test}
-use Rattle.dates.specs.declared.Month.{Month}
 use Rattle.dates.specs.declared.OptionMonth.{OptionMonth}
 use Rattle.dates.specs.declared.OptionMonth.the-variants.{NoMonth, SomeMonth}
 use Rattle.dates.specs.declared.OptionDay.{OptionDay}
@@ -20,36 +18,11 @@ use Rattle.dates.specs.declared.OptionTime.{OptionTime}
 use Rattle.dates.specs.declared.OptionTime.the-variants.{NoTime, SomeTime}
 use Rattle.dates.specs.declared.Datetime.{Datetime}
 use Rattle.dates.specs.declared.DateValue.{DateValue}
-use Rattle.dates.specs.declared.DateValue.the-variants.{At, After, Before, Between}
 use Rattle.dates.specs.Time.{inRange}
 use Rattle.dates.specs.Clocks.{offsetIn, zoneIn, clockIn, dayBesideMonth, badTime, hasBadTime}
-use Rattle.writer.proofs.Pieces.{either, one-of}
+use Rattle.dates.proofs.Ends.{any-end}
 use Rattle.timed.specs.Answers.{valueBad}
-
--- Why a time is bad.
-pub data Fault : OptionMonth → OptionDay → OptionTime → Type 0 where
-  -- there is no month
-  no-month : {da : OptionDay} {t : Time} → Fault NoMonth da (SomeTime t)
-  -- there is no day beside the month
-  no-day : {m : Month} {t : Time} → Fault (SomeMonth m) NoDay (SomeTime t)
-  -- a part is above its range
-  hour-above : {mo : OptionMonth} {da : OptionDay} {t : Time} → 23 < t .hour → Fault mo da (SomeTime t)
-  minute-above : {mo : OptionMonth} {da : OptionDay} {t : Time} → 59 < t .minute → Fault mo da (SomeTime t)
-  second-above : {mo : OptionMonth} {da : OptionDay} {t : Time} → 59 < t .second → Fault mo da (SomeTime t)
-  -- a part of the offset is
-  offset-hours : {mo : OptionMonth} {da : OptionDay} {t : Time} {p : Bool} {h m : ℕ} → t .offset ≡ SomeOffset (Offset p h m) → 23 < h → Fault mo da (SomeTime t)
-  offset-minutes : {mo : OptionMonth} {da : OptionDay} {t : Time} {p : Bool} {h m : ℕ} → t .offset ≡ SomeOffset (Offset p h m) → 59 < m → Fault mo da (SomeTime t)
-
--- of a Datetime,
-abbrev pub EndFault : Datetime → Type 0
-EndFault d = Fault (d .month) (d .day) (d .time)
-
--- and of one of the ends of a point or range
-abbrev pub FaultIn : DateValue → Type 0
-FaultIn (At d) = EndFault d
-FaultIn (After d) = EndFault d
-FaultIn (Before d) = EndFault d
-FaultIn (Between a b) = EndFault a ⊎ EndFault b
+use Rattle.timed.specs.Faults.{Fault, no-month, no-day, hour-above, minute-above, second-above, offset-hours, offset-minutes, EndFault, FaultIn}
 
 -- one false part makes all false
 false-last : (a : Bool) {b : Bool} → b ≡ false → a && b ≡ false
@@ -136,15 +109,4 @@ end-bad d = (cause (d .month) (d .day) (d .time), λ f. bad f)
 -- a point or range has a bad time exactly if one of its ends has such a cause
 pub value-bad : (v : DateValue) → (valueBad v ≡ true) ↔ FaultIn v
 unfolding valueBad
-value-bad (At d) = end-bad d
-value-bad (After d) = end-bad d
-value-bad (Before d) = end-bad d
-value-bad (Between a b) = (λ e. there (either (hasBadTime a) e), λ f. one-of (hasBadTime a) (back f))
-  where
-    there : (hasBadTime a ≡ true) ⊎ (hasBadTime b ≡ true) → EndFault a ⊎ EndFault b
-    there (inl e) = inl (end-bad a .0 e)
-    there (inr e) = inr (end-bad b .0 e)
-
-    back : EndFault a ⊎ EndFault b → (hasBadTime a ≡ true) ⊎ (hasBadTime b ≡ true)
-    back (inl f) = inl (end-bad a .1 f)
-    back (inr f) = inr (end-bad b .1 f)
+value-bad v = any-end end-bad v

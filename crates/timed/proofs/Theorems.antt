@@ -1,6 +1,6 @@
 -- What is known of the writer that keeps times, in one place. Assumes nothing.
 use mathlib.Core.Path.{_≡_, refl, sym, ap, _∙_, subst}
-use mathlib.Core.Bool.{Bool, true, false, _||_, false≢true}
+use mathlib.Core.Bool.{Bool, true, false, false≢true}
 use mathlib.Core.List.{List, _++_, append-nil}
 use mathlib.Core.Logic.{_↔_, inl, inr}
 use Prim.Native.Nat.{ℕ, _≤_, _<_}
@@ -30,6 +30,7 @@ use Rattle.dates.specs.Domain.{PartsIn}
 use Rattle.dates.specs.Time.{time, inRange}
 use Rattle.dates.specs.Value.{month, day, datetime, isSeason, hasSeason, anySeason, date}
 use Rattle.dates.proofs.Lengths.{length-most}
+use Rattle.dates.proofs.Ends.{no-end}
 use Rattle.refusals.specs.declared.ReadDate.the-variants.{Accepted}
 use Rattle.reading_laws.specs.Field.{parsed, parsedStrict}
 use Rattle.roundtrip_laws.specs.Domain.{Untimed, oneChunk}
@@ -37,21 +38,23 @@ use Rattle.puts.specs.declared.Measured.{Measured}
 use Rattle.puts.specs.declared.Measured.the-variants.{Length, NoLength}
 use Rattle.puts.specs.declared.Written.{Written}
 use Rattle.puts.specs.declared.Written.the-variants.{Done, Refused}
-use Rattle.puts.specs.Answers.{decided}
+use Rattle.puts.specs.Answers.{decided, left}
 use Rattle.puts.specs.Answers as writing
 use Rattle.writer.specs.Answers.{dateMeasured, dateAnswer, dateAfterwards}
 use Rattle.puts.specs.Numbers.{count, digitCount, width, decimal}
 use Rattle.writer.specs.Texts.{minus, yearText, writtenMonth, writtenDay, dayParts, monthParts, partsOf, partText, hyphenPart, partsText, datetimeText, dateText, tooLarge, endPanics, valuePanics, panics}
 use Rattle.puts.specs.Marks.{markText}
 use Rattle.writer.specs.Texts as untimed
-use Rattle.writer.proofs.Bounds.{Ends, Stored, text-most}
+use Rattle.writer.specs.Sizes.{Ends, Stored}
+use Rattle.writer.proofs.Bounds.{text-most}
 use Rattle.timed.specs.Texts.{field, sign, offsetText, zoneText, clockText, timeText, endText, valueText, timedText}
 use Rattle.dates.specs.Clocks.{offsetIn, zoneIn, clockIn, dayBesideMonth, badTime, hasBadTime}
-use Rattle.timed.specs.Answers.{valueBad, plainMeasured, timedMeasured, timedAnswer, timedAfterwards}
+use Rattle.timed.specs.Answers.{valueBad, plainMeasured, timedMeasured, timedAnswer, timedAfterwards, shown}
+use Rattle.timed.specs.Faults.{Fault, no-month, no-day, hour-above, minute-above, second-above, offset-hours, offset-minutes, EndFault, FaultIn}
 use Rattle.timed.specs.Domain.{ZoneIn, ClockIn, TimeIn, TimedIn, InTimed}
 use Rattle.timed.proofs.Pieces.{timed-most}
 use Rattle.timed.proofs.Answered.{seasoned, plain}
-use Rattle.timed.proofs.Faults.{Fault, no-month, no-day, hour-above, minute-above, second-above, offset-hours, offset-minutes, EndFault, FaultIn, value-bad}
+use Rattle.timed.proofs.Faults.{value-bad}
 use Rattle.timed.proofs.Back as back
 
 -- ---- reading back
@@ -108,11 +111,7 @@ module _ (d : Date) (w : Untimed (d .value)) where
   -- and the same buffer afterwards
   pub same-buffer : (out : List ℕ) → timedAfterwards d out ≡ dateAfterwards d (dateText d) out
   unfolding timedAfterwards dateAfterwards
-  same-buffer out = rw (value-good (d .value) w, same-text) (ap (λ (b : Bool). pick (anySeason (d .value)) out (writing.afterwards b (dateText d) out)) (or-false (panics d)))
-    where
-      or-false : (b : Bool) → b || false ≡ b
-      or-false true = refl
-      or-false false = refl
+  same-buffer out = rw (same-answer (length out), same-text)
 
 -- ---- how long
 
@@ -142,12 +141,8 @@ reached = (refl, refl)
 -- ---- which answer is given
 
 -- without a season all is as before
-pub else-as-before : (d : Date) → anySeason (d .value) ≡ false → (timedMeasured d ≡ plainMeasured d) × ((room : ℕ) → timedAnswer d room ≡ decided (plainMeasured d) room) × ((out : List ℕ) → timedAfterwards d out ≡ writing.afterwards (panics d || valueBad (d .value)) (timedText d) out)
+pub else-as-before : (d : Date) → anySeason (d .value) ≡ false → (timedMeasured d ≡ plainMeasured d) × ((room : ℕ) → timedAnswer d room ≡ decided (plainMeasured d) room) × ((out : List ℕ) → timedAfterwards d out ≡ left (decided (plainMeasured d) (length out)) (timedText d) out)
 else-as-before d e = plain d e
-
--- the answer by its four tests
-abbrev pub shown : Bool → Bool → Bool → Bool → ℕ → Written
-shown s p b fits n = pick s (Refused (nowhere HasSeason)) (pick p (Refused (nowhere RustPanics)) (pick b (Refused (nowhere BadTime)) (pick fits (Done n) (Refused (nowhere NoRoom)))))
 
 -- HasSeason of either end comes first, then RustPanics of either, then BadTime of either, then NoRoom
 pub in-order : (d : Date) (room : ℕ) → timedAnswer d room ≡ shown (anySeason (d .value)) (panics d) (valueBad (d .value)) (leb (length (timedText d)) room) (length (timedText d))
@@ -160,7 +155,7 @@ in-order d room = go (anySeason (d .value)) (panics d) (valueBad (d .value))
     go false false true = refl
     go false false false = refl
 
--- the number of a refusal; 0 if nothing is nowhere
+-- the number of a refusal; 0 if it is none
 abbrev numbered : Written → ℕ
 numbered (Done n) = 0
 numbered (Refused e) = number (e .kind)
@@ -269,7 +264,7 @@ pub season-measured : (d : Date) → (timedMeasured d ≡ NoLength (nowhere HasS
 unfolding timedAnswer decided
 season-measured d = (λ e. season-exactly d 0 .0 (ap (λ (m : Measured). decided m 0) e), λ q. seasoned d q .0)
 
--- ---- no Date of the domain is nowhere
+-- ---- no Date of the domain is refused
 
 -- no end of it panics
 parts-known : (y : ℤ) (m : OptionMonth) (d : OptionDay) → PartsIn y m d → tooLarge (monthParts m d) ≡ false
@@ -286,20 +281,14 @@ end-known d w = parts-known (d .year) (d .month) (d .day) (w .parts-in)
 
 value-known : (v : DateValue) → InTimed v → valuePanics v ≡ false
 unfolding valuePanics
-value-known (At a) w = end-known a w
-value-known (After a) w = end-known a w
-value-known (Before a) w = end-known a w
-value-known (Between a b) w = rw (end-known a (w .0), end-known b (w .1))
+value-known v w = no-end end-known v w
 
 -- nor has a season
 end-plain : (d : Datetime) → TimedIn d → hasSeason d ≡ false
 end-plain d w = ap isSeason (w .unseasoned)
 
 value-plain : (v : DateValue) → InTimed v → anySeason v ≡ false
-value-plain (At a) w = end-plain a w
-value-plain (After a) w = end-plain a w
-value-plain (Before a) w = end-plain a w
-value-plain (Between a b) w = ap (λ (x : Bool). x || hasSeason b) (end-plain a (w .0)) ∙ end-plain b (w .1)
+value-plain v w = no-end end-plain v w
 
 -- nor has a bad time
 in-clock : (d : OptionDay) {t : Time} → TimeIn d (SomeTime t) → ClockIn t

@@ -14,8 +14,8 @@ use Rattle.dates.specs.declared.OptionTime.the-variants.{NoTime, SomeTime}
 use Rattle.dates.specs.declared.OptionSeason.the-variants.{NoSeason}
 use Rattle.dates.specs.declared.Datetime.{Datetime}
 use Rattle.dates.specs.declared.DateValue.{DateValue}
-use Rattle.dates.specs.declared.DateValue.the-variants.{At, After, Before, Between}
 use Rattle.dates.specs.Domain.{PartsIn}
+use Rattle.dates.specs.Ends.{EachEnd}
 
 -- offset hours up to 23 and minutes up to 59
 abbrev pub OffsetIn : TimeOffset → Type 0
@@ -57,7 +57,4 @@ pub record TimedIn (d : Datetime) : Type 0 where
 
 -- every end of a Date
 abbrev pub InTimed : DateValue → Type 0
-InTimed (At a) = TimedIn a
-InTimed (After a) = TimedIn a
-InTimed (Before a) = TimedIn a
-InTimed (Between a b) = TimedIn a × TimedIn b
+InTimed v = EachEnd TimedIn v

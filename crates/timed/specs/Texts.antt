@@ -15,6 +15,7 @@ use Rattle.dates.specs.declared.Datetime.{Datetime}
 use Rattle.dates.specs.declared.DateValue.{DateValue}
 use Rattle.dates.specs.declared.DateValue.the-variants.{At, After, Before, Between}
 use Rattle.dates.specs.declared.Date.{Date}
+use Rattle.dates.specs.Ends.{joined}
 use Rattle.puts.specs.Numbers.{digits}
 use Rattle.writer.specs.Texts.{datetimeText}
 use Rattle.puts.specs.Marks.{markText}
@@ -53,10 +54,7 @@ endText d = datetimeText d ++ timeText (d .time)
 
 -- a point, or a range whose open side is two dots
 unfoldable pub valueText : DateValue → List ℕ
-valueText (At d) = endText d
-valueText (After d) = endText d ++ ascii "/.."
-valueText (Before d) = ascii "../" ++ endText d
-valueText (Between a b) = endText a ++ ascii "/" ++ endText b
+valueText v = joined endText v
 
 -- a date: the point or range, then its mark
 unfoldable pub timedText : Date → List ℕ

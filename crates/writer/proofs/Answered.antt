@@ -3,9 +3,11 @@ use mathlib.Core.Path.{_≡_, refl, sym, ap, _∙_}
 use mathlib.Core.Bool.{Bool, true, false, false≢true}
 use mathlib.Core.List.{List}
 use Prim.Native.Nat.{ℕ, _≤_}
+use native.Mathlib.Omega.{arith}
 use lib.ListN.{length}
+use Rattle.chars.specs.Pick.{pick}
 use Rattle.chars.proofs.Cases.{of-test}
-use Rattle.refusals.specs.declared.Kind.the-variants.{HasSeason}
+use Rattle.refusals.specs.declared.Kind.the-variants.{HasSeason, NoRoom}
 use Rattle.refusals.specs.declared.Refusal.{Refusal}
 use Rattle.dates.specs.declared.Date.{Date}
 use Rattle.dates.specs.Value.{anySeason}
@@ -13,11 +15,13 @@ use Rattle.puts.specs.declared.Measured.{Measured}
 use Rattle.puts.specs.declared.Measured.the-variants.{NoLength}
 use Rattle.puts.specs.declared.Written.{Written}
 use Rattle.puts.specs.declared.Written.the-variants.{Done, Refused}
-use Rattle.puts.specs.Answers.{measured, decided, Put}
-use Rattle.refusals.specs.Refusal.{nowhere}
-use Rattle.puts.proofs.Answered.{fits, done, refuses}
+use Rattle.puts.specs.Answers.{measured, decided, Put, Foretold}
+use Rattle.refusals.specs.Refusal.{number, refusal, nowhere}
+use Rattle.puts.proofs.Answered.{all-left, fits, done, by-decision, measured-so, answer-foretold}
 use Rattle.writer.specs.Texts.{panics}
 use Rattle.writer.specs.Answers.{dateMeasured, dateAnswer, dateAfterwards}
+use Rattle.puts.specs.Answers.{answer}
+use Rattle.writer.specs.Level.{levelText, levelPanics}
 use Rattle.writer.proofs.Levels.{season-refused, else-as-before}
 
 abbrev isDone : Written → Bool
@@ -61,11 +65,30 @@ module _ (d : Date) (t l : List ℕ) {m : Measured} {w : Written} (em : m ≡ da
 
   -- it refuses
   pub date-refuses : {e : Refusal} → w ≡ Refused e → (Refused e ≡ dateAnswer d t (length l)) × (l ≡ dateAfterwards d t l)
-  date-refuses e =
-      of-test (anySeason (d .value)) (λ q. (sym e ∙ by-date, sym (season-refused d t q .2 l)))
-      (λ q. (sym e ∙ by-date, refuses (panics d) t l (former q) ew e .1 ∙ sym (else-as-before d t q .2 l)))
+  unfolding dateAfterwards
+  date-refuses e = (sym e ∙ by-date, all-left t l (sym by-date ∙ e))
 
--- what has no measure is nowhere, whatever the room
+-- what has no measure is refused, whatever the room
 pub date-unmeasured : (d : Date) (t l : List ℕ) {m : Measured} {e : Refusal} → m ≡ dateMeasured d t → m ≡ NoLength e → (Refused e ≡ dateAnswer d t (length l)) × (l ≡ dateAfterwards d t l)
 unfolding decided
 date-unmeasured d t l {m} {e} em en = date-refuses d t l {m = m} {w = Refused e} em (rw en refl) refl
+
+-- ---- what the length calls tell of the writers
+
+-- HasSeason is not NoRoom, nor is what comes behind it
+date-so : (s : Bool) {m : Measured} → (m ≡ NoLength (nowhere NoRoom) → ⊥) → pick s (NoLength (nowhere HasSeason)) m ≡ NoLength (nowhere NoRoom) → ⊥
+unfolding refusal pick
+date-so true f e =
+    let g : nowhere HasSeason ≡ nowhere NoRoom = cc in
+    let z : _≡_ {A = ℕ} 24 13 = ap (λ (r : Refusal). number (r .kind)) g in
+    omega arith
+date-so false f e = f e
+
+-- Of a date's text and of its fields: the length call tells what is stored in which room, and refuses what the writer refuses apart from NoRoom.
+pub date-foretold : (d : Date) (t : List ℕ) → Foretold (dateMeasured d t) (dateAnswer d t)
+unfolding dateMeasured dateAnswer
+date-foretold d t = by-decision (dateMeasured d t) (date-so (anySeason (d .value)) (measured-so (panics d) t))
+
+-- And so it is of the text of level one.
+pub level-foretold : (d : Date) → Foretold (measured (levelPanics d) (levelText d)) (answer (levelPanics d) (levelText d))
+level-foretold d = answer-foretold (levelPanics d) (levelText d)

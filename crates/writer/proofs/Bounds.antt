@@ -2,7 +2,7 @@
 -- a day of two, a text has at most 24. Assumes nothing.
 use mathlib.Core.Path.{_≡_, refl}
 use mathlib.Core.Bool.{Bool, true, false}
-use mathlib.Core.List.{_++_}
+use mathlib.Core.List.{List, _++_}
 use Prim.Native.Nat.{ℕ, _+_, _*_, _≤_, _<_}
 use native.Mathlib.Omega.{arith}
 use lib.Dec.{eqb, ltb}
@@ -23,6 +23,7 @@ use Rattle.dates.specs.declared.Datetime.{Datetime}
 use Rattle.dates.specs.declared.DateValue.{DateValue}
 use Rattle.dates.specs.declared.DateValue.the-variants.{At, After, Before, Between}
 use Rattle.dates.specs.declared.Date.{Date}
+use Rattle.dates.specs.Ends.{EachEnd, joined}
 use Rattle.dates.specs.Value.{month, day, datetime, date}
 use Rattle.dates.proofs.Signs.{fits-abs}
 use Rattle.writer.specs.declared.Parts.{Parts}
@@ -32,42 +33,9 @@ use Rattle.puts.specs.Numbers.{count, digitCount, width, decimal}
 use Rattle.writer.specs.Texts.{minus, yearText, writtenMonth, writtenDay, dayParts, monthParts, partsOf, partText, hyphenPart, partsText, datetimeText, valueText, dateText, tooLarge, endPanics, valuePanics, panics}
 use Rattle.puts.specs.Marks.{markText}
 use Rattle.writer.specs.Fields.{prefix, line, partLines, endLines, valueLines, fieldsText}
+use Rattle.writer.specs.Sizes.{MonthUnder, DayUnder, Stored, Ends, Narrow, NarrowEnds}
 use Rattle.puts.proofs.Counts.{few, length-decimal}
 use Rattle.writer.proofs.Pieces.{hyphen-length, line-length}
-
--- ---- the ends of a Date, with a month and a day below a number
-
-abbrev pub MonthUnder : ℕ → OptionMonth → Type 0
-MonthUnder n NoMonth = Unit {0}
-MonthUnder n (SomeMonth m) = m .0 < n
-
-abbrev pub DayUnder : ℕ → OptionDay → Type 0
-DayUnder n NoDay = Unit {0}
-DayUnder n (SomeDay d) = d .0 < n
-
-abbrev pub EachEnd : (Datetime → Type 0) → DateValue → Type 0
-EachEnd P (At d) = P d
-EachEnd P (After d) = P d
-EachEnd P (Before d) = P d
-EachEnd P (Between a b) = P a × P b
-
--- as it is stored: a year in 32 bits, months and days in a byte each
-pub record Stored (d : Datetime) : Type 0 where
-  pub year-in : SFits w32 (d .year)
-  pub month-in : MonthUnder 256 (d .month)
-  pub day-in : DayUnder 256 (d .day)
-
-abbrev pub Ends : DateValue → Type 0
-Ends v = EachEnd Stored v
-
--- as readers give it: a year of four digits, months and days that are written with two
-pub record Narrow (d : Datetime) : Type 0 where
-  pub year-in : natAbs (d .year) < 10000
-  pub month-in : MonthUnder 99 (d .month)
-  pub day-in : DayUnder 99 (d .day)
-
-abbrev pub NarrowEnds : DateValue → Type 0
-NarrowEnds v = EachEnd Narrow v
 
 -- ---- the pieces
 
@@ -151,28 +119,28 @@ mark-most false true = omega arith
 mark-most true false = omega arith
 mark-most false false = omega arith
 
--- by the length of an end
-module _ {P : Datetime → Type 0} (n : ℕ) (some : 2 ≤ n) (most : (d : Datetime) → P d → length (datetimeText d) ≤ n) where
-  value-by : (v : DateValue) → EachEnd P v → length (valueText v) ≤ 2 * n + 1
-  unfolding valueText
+-- a joined text and its mark, by the length of an end
+module _ {P : Datetime → Type 0} (text : Datetime → List ℕ) (n : ℕ) (some : 2 ≤ n) (most : (d : Datetime) → P d → length (text d) ≤ n) where
+  value-by : (v : DateValue) → EachEnd P v → length (joined text v) ≤ 2 * n + 1
   value-by (At d) s = omega (arith, most d s)
-  value-by (After d) s = omega (arith, most d s, length-append (datetimeText d) (ascii "/.."))
-  value-by (Before d) s = omega (arith, most d s, length-append (ascii "../") (datetimeText d))
+  value-by (After d) s = omega (arith, most d s, length-append (text d) (ascii "/.."))
+  value-by (Before d) s = omega (arith, most d s, length-append (ascii "../") (text d))
   value-by (Between a b) s =
-      omega (arith, most a (s .0), most b (s .1), length-append (datetimeText a ++ ascii "/") (datetimeText b), length-append (datetimeText a) (ascii "/"))
+      omega (arith, most a (s .0), most b (s .1), length-append (text a ++ ascii "/") (text b), length-append (text a) (ascii "/"))
 
-  text-by : (d : Date) → EachEnd P (d .value) → length (dateText d) ≤ 2 * n + 2
-  unfolding dateText
-  text-by d s =
-      omega (arith, length-append (valueText (d .value)) (markText (d .uncertain) (d .approximate)), value-by (d .value) s, mark-most (d .uncertain) (d .approximate))
+  pub joined-by : (d : Date) → EachEnd P (d .value) → length (joined text (d .value) ++ markText (d .uncertain) (d .approximate)) ≤ 2 * n + 2
+  joined-by d s =
+      omega (arith, length-append (joined text (d .value)) (markText (d .uncertain) (d .approximate)), value-by (d .value) s, mark-most (d .uncertain) (d .approximate))
 
 -- the text of a date has at most 40 bytes
 pub text-most : (d : Date) → Ends (d .value) → length (dateText d) ≤ 40
-text-most = text-by 19 (omega arith) datetime-most
+unfolding dateText valueText
+text-most = joined-by datetimeText 19 (omega arith) datetime-most
 
 -- and of one as readers give it at most 24
 pub text-short : (d : Date) → NarrowEnds (d .value) → length (dateText d) ≤ 24
-text-short = text-by 11 (omega arith) datetime-short
+unfolding dateText valueText
+text-short = joined-by datetimeText 11 (omega arith) datetime-short
 
 -- ---- fields
 

@@ -2,8 +2,8 @@
 use mathlib.Core.Path.{_≡_, refl, sym, ap, _∙_}
 use mathlib.Core.Bool.{Bool, true, false, false≢true}
 use mathlib.Core.List.{List, [], _++_}
-use mathlib.Core.Logic.{_↔_, _⊎_, inl, inr}
-use Prim.Native.Nat.{ℕ, _+_, _*_, _≤_, _<_}
+use mathlib.Core.Logic.{_↔_}
+use Prim.Native.Nat.{ℕ, _+_, _≤_, _<_}
 use native.Mathlib.Omega.{arith}
 use lib.Dec.{eqb, ltb, leb}
 use lib.IntN.{ℤ, natAbs}
@@ -15,7 +15,6 @@ use Rattle.chars.proofs.Cases.{by-test, of-test}
 use Rattle.refusals.specs.declared.Kind.the-variants.{RustPanics, NoRoom, HasSeason}
 use Rattle.refusals.specs.Refusal.{refusal, number, nowhere}
 use Rattle.dates.specs.declared.Month.{Month}
-use Rattle.dates.specs.declared.Day.{Day}
 use Rattle.dates.specs.declared.OptionMonth.{OptionMonth}
 use Rattle.dates.specs.declared.OptionMonth.the-variants.{NoMonth, SomeMonth}
 use Rattle.dates.specs.declared.OptionDay.{OptionDay}
@@ -26,7 +25,9 @@ use Rattle.dates.specs.declared.Datetime.{Datetime}
 use Rattle.dates.specs.declared.DateValue.{DateValue}
 use Rattle.dates.specs.declared.DateValue.the-variants.{At, After, Before, Between}
 use Rattle.dates.specs.declared.Date.{Date}
+use Rattle.dates.specs.Ends.{EachEnd, SomeEnd}
 use Rattle.dates.specs.Value.{isSeason, seasonNumber, hasSeason, anySeason}
+use Rattle.dates.proofs.Ends.{any-end}
 use Rattle.puts.specs.declared.Measured.{Measured}
 use Rattle.puts.specs.declared.Measured.the-variants.{NoLength}
 use Rattle.puts.specs.declared.Written.{Written}
@@ -34,16 +35,17 @@ use Rattle.puts.specs.declared.Written.the-variants.{Done, Refused}
 use Rattle.puts.specs.Numbers.{count, digitCount, width, decimal}
 use Rattle.writer.specs.Texts.{minus, yearText, writtenMonth, writtenDay, dayParts, monthParts, partsOf, partText, hyphenPart, partsText, datetimeText, valueText, dateText, tooLarge, endPanics, valuePanics, panics}
 use Rattle.puts.specs.Marks.{markText}
-use Rattle.puts.specs.Answers.{measured, decided, answer, afterwards}
+use Rattle.puts.specs.Answers.{measured, decided, answer, left, afterwards}
 use Rattle.writer.specs.Answers.{dateMeasured, dateAnswer, dateAfterwards}
-use Rattle.writer.specs.Level.{longSign, behindText, levelEnd, levelValue, levelText, levelEndPanics, levelValuePanics, levelPanics}
-use Rattle.writer.proofs.Pieces.{either, one-of, first-false, second-false}
+use Rattle.writer.specs.Level.{longSign, behindText, levelEnd, levelValue, levelText, levelEndPanics, levelValuePanics, levelPanics, Unwritten, month-255, day-255, NoText, Alike, AlikeValues, points, afters, befores, betweens}
+use Rattle.writer.specs.Sizes.{Stored, Ends, LevelNarrow, narrow, seasoned, long}
+use Rattle.writer.proofs.Pieces.{first-false, second-false}
 use Rattle.puts.proofs.Counts.{few}
-use Rattle.writer.proofs.Bounds.{EachEnd, Stored, Ends, Narrow, year-by, year-most, year-short, behind-most, datetime-short, mark-most, widest}
+use Rattle.writer.proofs.Bounds.{year-by, year-most, year-short, behind-most, datetime-short, joined-by, widest}
 
 -- ---- the answers of a writer
 
--- the number of an answer's refusal; 0 if nothing is nowhere
+-- the number of an answer's refusal; 0 if it is none
 abbrev told : Written → ℕ
 told (Done n) = 0
 told (Refused e) = number (e .kind)
@@ -91,20 +93,20 @@ module _ (n : ℕ) where
 module _ (d : Date) (t : List ℕ) where
   -- an end has a season: HasSeason, and nothing is stored
   pub season-refused : anySeason (d .value) ≡ true → (dateMeasured d t ≡ NoLength (nowhere HasSeason)) × ((room : ℕ) → dateAnswer d t room ≡ Refused (nowhere HasSeason)) × ((out : List ℕ) → dateAfterwards d t out ≡ out)
-  unfolding dateMeasured dateAnswer dateAfterwards decided pick
+  unfolding dateMeasured dateAnswer dateAfterwards decided left pick
   season-refused e = (
     ap (λ (x : Bool). pick x (NoLength (nowhere HasSeason)) (measured (panics d) t)) e,
     λ (room : ℕ). ap (λ (x : Bool). decided (pick x (NoLength (nowhere HasSeason)) (measured (panics d) t)) room) e,
-    λ (out : List ℕ). ap (λ (x : Bool). pick x out (afterwards (panics d) t out)) e,
+    λ (out : List ℕ). ap (λ (x : Bool). left (decided (pick x (NoLength (nowhere HasSeason)) (measured (panics d) t)) (length out)) t out) e,
   )
 
   -- without a season all is as before
   pub else-as-before : anySeason (d .value) ≡ false → (dateMeasured d t ≡ measured (panics d) t) × ((room : ℕ) → dateAnswer d t room ≡ answer (panics d) t room) × ((out : List ℕ) → dateAfterwards d t out ≡ afterwards (panics d) t out)
-  unfolding dateMeasured dateAnswer dateAfterwards answer pick
+  unfolding dateMeasured dateAnswer dateAfterwards answer afterwards pick
   else-as-before e = (
     ap (λ (x : Bool). pick x (NoLength (nowhere HasSeason)) (measured (panics d) t)) e,
     λ (room : ℕ). ap (λ (x : Bool). decided (pick x (NoLength (nowhere HasSeason)) (measured (panics d) t)) room) e,
-    λ (out : List ℕ). ap (λ (x : Bool). pick x out (afterwards (panics d) t out)) e,
+    λ (out : List ℕ). ap (λ (x : Bool). left (decided (pick x (NoLength (nowhere HasSeason)) (measured (panics d) t)) (length out)) t out) e,
   )
 
 module _ (d : Date) (t : List ℕ) where
@@ -122,22 +124,6 @@ module _ (d : Date) (t : List ℕ) where
   season-exactly = (λ e. season-answered 0 .0 (ap (λ (m : Measured). decided m 0) e), λ q. season-refused d t q .0)
 
 -- ---- when the writer of level one refuses
-
--- a month 255, or a day 255 beside a month
-pub data Unwritten : OptionMonth → OptionDay → Type 0 where
-  month-255 : {m : Month} {d : OptionDay} → m .0 ≡ 255 → Unwritten (SomeMonth m) d
-  day-255 : {m : Month} {d : Day} → d .0 ≡ 255 → Unwritten (SomeMonth m) (SomeDay d)
-
--- an end that has no text: one without a season that has such a part
-abbrev pub NoText : Datetime → Type 0
-NoText d = (hasSeason d ≡ false) × Unwritten (d .month) (d .day)
-
--- one of the ends of a point or range
-abbrev pub SomeEnd : (Datetime → Type 0) → DateValue → Type 0
-SomeEnd P (At d) = P d
-SomeEnd P (After d) = P d
-SomeEnd P (Before d) = P d
-SomeEnd P (Between a b) = P a ⊎ P b
 
 day-large : (m : Month) (d : OptionDay) → tooLarge (dayParts m d) ≡ true → Unwritten (SomeMonth m) d
 unfolding tooLarge dayParts pick
@@ -169,21 +155,7 @@ end-refused d = (λ e. go (hasSeason d) refl e, λ (n : NoText d). back (n .0) (
 
 value-refused : (v : DateValue) → (levelValuePanics v ≡ true) ↔ SomeEnd NoText v
 unfolding levelValuePanics
-value-refused (At d) = end-refused d
-value-refused (After d) = end-refused d
-value-refused (Before d) = end-refused d
-value-refused (Between a b) = (
-  λ e. ends (either (levelEndPanics a) e),
-  λ n. one-of (levelEndPanics a) (back n),
-)
-  where
-    ends : (levelEndPanics a ≡ true) ⊎ (levelEndPanics b ≡ true) → NoText a ⊎ NoText b
-    ends (inl e) = inl (end-refused a .0 e)
-    ends (inr e) = inr (end-refused b .0 e)
-
-    back : NoText a ⊎ NoText b → (levelEndPanics a ≡ true) ⊎ (levelEndPanics b ≡ true)
-    back (inl n) = inl (end-refused a .1 n)
-    back (inr n) = inr (end-refused b .1 n)
+value-refused v = any-end end-refused v
 
 -- a Date has none exactly if one of its ends has none
 pub level-refuses : (d : Date) → (levelPanics d ≡ true) ↔ SomeEnd NoText (d .value)
@@ -228,19 +200,6 @@ module _ (d : Date) (room : ℕ) where
   )
 
 -- ---- what its text does not depend on
-
--- ends of the same year and season, and without a season of the same month and day
-pub record Alike (d e : Datetime) : Type 0 where
-  pub years : d .year ≡ e .year
-  pub seasons : d .season ≡ e .season
-  pub parts : hasSeason d ≡ false → (d .month ≡ e .month) × (d .day ≡ e .day)
-
--- points, or ranges of one kind, with such ends
-pub data AlikeValues : DateValue → DateValue → Type 0 where
-  points : {a b : Datetime} → Alike a b → AlikeValues (At a) (At b)
-  afters : {a b : Datetime} → Alike a b → AlikeValues (After a) (After b)
-  befores : {a b : Datetime} → Alike a b → AlikeValues (Before a) (Before b)
-  betweens : {a b c d : Datetime} → Alike a b → Alike c d → AlikeValues (Between a c) (Between b d)
 
 -- what is picked only without a season may differ with one
 picked : {A : Type 0} (b : Bool) (x : A) {y z : A} → (b ≡ false → y ≡ z) → pick b x y ≡ pick b x z
@@ -335,12 +294,6 @@ behind-by d s =
 end-most : (d : Datetime) → Stored d → length (levelEnd d) ≤ 20
 end-most d s = omega (arith, end-length d, sign-most (d .year), year-most (d .year) (s .year-in), behind-by d s)
 
--- an end as the reader of level one gives it: as the strict reader does, a season of a year, or a long year alone
-pub data LevelNarrow : Datetime → Type 0 where
-  narrow : {d : Datetime} → hasSeason d ≡ false → Narrow d → LevelNarrow d
-  seasoned : {d : Datetime} → hasSeason d ≡ true → natAbs (d .year) < 10000 → LevelNarrow d
-  long : {d : Datetime} → hasSeason d ≡ false → d .month ≡ NoMonth → natAbs (d .year) < 1000000000 → LevelNarrow d
-
 season-behind : (d : Datetime) → hasSeason d ≡ true → length (behindText d) ≤ 3
 unfolding behindText
 season-behind d q = by-test (λ (l : List ℕ). length l ≤ 3) (hasSeason d) (λ _. season-most (d .season)) (λ e. absurd (false≢true (sym e ∙ q)))
@@ -356,28 +309,15 @@ end-short d (seasoned q h) = omega (arith, end-length d, sign-most (d .year), ye
 end-short d (long q e h) =
     omega (arith, end-length d, sign-most (d .year), year-by (d .year) 9 (omega arith) (few 9 (natAbs (d .year)) (omega arith)), none-behind d q e)
 
--- by the length of an end
-module _ {P : Datetime → Type 0} (n : ℕ) (some : 2 ≤ n) (most : (d : Datetime) → P d → length (levelEnd d) ≤ n) where
-  value-by : (v : DateValue) → EachEnd P v → length (levelValue v) ≤ 2 * n + 1
-  unfolding levelValue
-  value-by (At d) s = omega (arith, most d s)
-  value-by (After d) s = omega (arith, most d s, length-append (levelEnd d) (ascii "/.."))
-  value-by (Before d) s = omega (arith, most d s, length-append (ascii "../") (levelEnd d))
-  value-by (Between a b) s =
-      omega (arith, most a (s .0), most b (s .1), length-append (levelEnd a ++ ascii "/") (levelEnd b), length-append (levelEnd a) (ascii "/"))
-
-  text-by : (d : Date) → EachEnd P (d .value) → length (levelText d) ≤ 2 * n + 2
-  unfolding levelText
-  text-by d s =
-      omega (arith, length-append (levelValue (d .value)) (markText (d .uncertain) (d .approximate)), value-by (d .value) s, mark-most (d .uncertain) (d .approximate))
-
 -- the text of a date has at most 42 bytes
 pub level-most : (d : Date) → Ends (d .value) → length (levelText d) ≤ 42
-level-most = text-by 20 (omega arith) end-most
+unfolding levelText levelValue
+level-most = joined-by levelEnd 20 (omega arith) end-most
 
 -- and of one as its reader gives it at most 24
 pub level-short : (d : Date) → EachEnd LevelNarrow (d .value) → length (levelText d) ≤ 24
-level-short = text-by 11 (omega arith) end-short
+unfolding levelText levelValue
+level-short = joined-by levelEnd 11 (omega arith) end-short
 
 -- 42 bytes are reached, by a Date that has a text
 pub level-reached : (length (levelText widest) ≡ 42) × (levelPanics widest ≡ false)

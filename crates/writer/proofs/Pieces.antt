@@ -1,7 +1,6 @@
 -- The texts that the writers put together, by the tests and variants that lead to them. Over plain variables. Assumes nothing.
 use mathlib.Core.Path.{_≡_, refl, sym, ap, _∙_}
 use mathlib.Core.Bool.{Bool, true, false, false≢true, _||_}
-use mathlib.Core.Logic.{_⊎_, inl, inr}
 use mathlib.Core.List.{List, [], _∷_, _++_}
 use Prim.Native.Nat.{ℕ, _+_, _<_}
 use native.Mathlib.Omega.{arith}
@@ -26,15 +25,6 @@ use Rattle.writer.specs.Level.{longSign, behindText}
 use Rattle.puts.proofs.Counts.{length-decimal}
 
 -- what a test of two ends says
-pub either : (a : Bool) {b : Bool} → a || b ≡ true → (a ≡ true) ⊎ (b ≡ true)
-either true e = inl refl
-either false e = inr e
-
-pub one-of : (a : Bool) {b : Bool} → (a ≡ true) ⊎ (b ≡ true) → a || b ≡ true
-one-of true e = refl
-one-of false (inl e) = absurd (false≢true e)
-one-of false (inr e) = e
-
 pub first-false : (a b : Bool) → a || b ≡ false → a ≡ false
 first-false true b e = e
 first-false false b e = refl

@@ -2,3 +2,4 @@ pub mod Texts
 pub mod Fields
 pub mod Answers
 pub mod Level
+pub mod Sizes

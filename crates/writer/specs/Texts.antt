@@ -1,6 +1,6 @@
 -- The text of a date.
 use Prim.Native.Nat.{ℕ, _+_}
-use mathlib.Core.Bool.{Bool, true, false, _||_}
+use mathlib.Core.Bool.{Bool, true, false}
 use mathlib.Core.List.{List, [], _++_}
 use lib.Dec.{eqb}
 use lib.IntN.{ℤ, pos, negsuc, natAbs}
@@ -15,8 +15,8 @@ use Rattle.dates.specs.declared.OptionDay.{OptionDay}
 use Rattle.dates.specs.declared.OptionDay.the-variants.{NoDay, SomeDay}
 use Rattle.dates.specs.declared.Datetime.{Datetime}
 use Rattle.dates.specs.declared.DateValue.{DateValue}
-use Rattle.dates.specs.declared.DateValue.the-variants.{At, After, Before, Between}
 use Rattle.dates.specs.declared.Date.{Date}
+use Rattle.dates.specs.Ends.{anyEnd, joined}
 use Rattle.writer.specs.declared.Parts.{Parts}
 use Rattle.writer.specs.declared.Parts.the-variants.{NoParts, WithMonth, WithDay, TooLarge}
 use Rattle.chars.specs.Ascii.{ascii}
@@ -75,10 +75,7 @@ datetimeText d = yearText (d .year) ++ partsText (partsOf d)
 
 -- a point, or a range whose open side is two dots
 unfoldable pub valueText : DateValue → List ℕ
-valueText (At d) = datetimeText d
-valueText (After d) = datetimeText d ++ ascii "/.."
-valueText (Before d) = ascii "../" ++ datetimeText d
-valueText (Between a b) = datetimeText a ++ ascii "/" ++ datetimeText b
+valueText v = joined datetimeText v
 
 -- a date: the point or range, then its mark
 unfoldable pub dateText : Date → List ℕ
@@ -97,10 +94,7 @@ endPanics d = tooLarge (partsOf d)
 
 -- whether one of the ends of a point or range does
 unfoldable pub valuePanics : DateValue → Bool
-valuePanics (At d) = endPanics d
-valuePanics (After d) = endPanics d
-valuePanics (Before d) = endPanics d
-valuePanics (Between a b) = endPanics a || endPanics b
+valuePanics v = anyEnd endPanics v
 
 -- whether the Rust panics when it writes the date or its fields
 unfoldable pub panics : Date → Bool
