@@ -7,7 +7,6 @@ use Prim.Native.Nat.{ℕ, zero-le}
 use borrow.Author.Tests.{le-leb}
 use lib.ListN.{length}
 use Rattle.chars.specs.Pick.{pick}
-use Rattle.refusals.specs.declared.FileSpan.{FileSpan}
 use Rattle.chunks.specs.declared.Checked.the-variants.{Clean}
 use Rattle.chunks.specs.declared.Formatted.the-variants.{Text}
 use Rattle.chunks.specs.Characters.{upTo, characters, codesOf, codes}

@@ -4,7 +4,6 @@ use mathlib.Core.Path.{_≡_, refl}
 use mathlib.Core.Bool.{true, false}
 use mathlib.Core.List.{List, [], _∷_, _++_, map}
 use Prim.Native.Nat.{ℕ, zero, suc}
-use Prim.Native.String.{String}
 use lib.Dec.{lit≤}
 use lib.ListN.{length, replicate}
 use Rattle.chars.specs.Ascii.{ascii}
@@ -14,7 +13,6 @@ use Rattle.chars.specs.Upper.{loses32, upperOf, codesOf as upperCodes}
 use Rattle.chars.specs.Utf8.{lenOf, isCont, isSurrogate, two, three, four, decode, first, encode, encodeAll}
 use Rattle.refusals.specs.declared.Kind.{Kind}
 use Rattle.refusals.specs.declared.Kind.the-variants.{BadUtf8, UnsupportedChar, NoRoom, BadChunks, TooLong}
-use Rattle.refusals.specs.declared.FileSpan.{FileSpan}
 use Rattle.refusals.specs.Refusal.{refusal}
 use Rattle.chunks.specs.declared.Checked.{Checked}
 use Rattle.chunks.specs.declared.Checked.the-variants.{Clean, Faulty}
