@@ -5,7 +5,7 @@ use mathlib.Core.List.{List, [], _∷_, map}
 use lib.IntN.{pos, negsuc}
 use Rattle.chars.specs.Pick.{pick}
 use Rattle.refusals.specs.declared.Kind.the-variants.{HasSeason}
-use Rattle.refusals.specs.Refusal.{fileSpan}
+use Rattle.refusals.specs.Refusal.{fileSpan, refusal}
 use Rattle.dates.specs.declared.OptionMonth.the-variants.{NoMonth}
 use Rattle.dates.specs.declared.OptionDay.the-variants.{NoDay}
 use Rattle.dates.specs.declared.TimeOffset.the-variants.{Utc, Offset}
@@ -15,7 +15,6 @@ use Rattle.dates.specs.declared.OptionSeason.the-variants.{Spring, Summer, Autu
 use Rattle.dates.specs.declared.Datetime.{Datetime}
 use Rattle.dates.specs.Value.{month, day, datetime, seasonOf}
 use Rattle.dates.specs.Time.{time, seconds, aheadOrBehind, offsetSeconds, aheadOf, utcSeconds}
-use Rattle.refusals.specs.Refusal.{refusal}
 use Rattle.order.specs.declared.Order.{Order}
 use Rattle.order.specs.declared.Order.the-variants.{Less, Equal, Greater, None}
 use Rattle.order.specs.declared.Compared.the-variants.{Stands, Refused}

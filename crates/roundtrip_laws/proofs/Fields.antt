@@ -15,6 +15,7 @@ use Rattle.scanner.specs.declared.EatIf.the-variants.{Kept}
 use Rattle.scanner.specs.Class.{inClass}
 use Rattle.scanner.specs.Scan.{eatWhile, eatText, begins, doneAt, part}
 use Rattle.scanner.proofs.Laws.{not-white}
+use Rattle.scanner.proofs.Digits.{is-other}
 use Rattle.scanner.proofs.Front.{From, from-start, from-behind, front-stop, front-rest, front-end, front-past}
 use Rattle.refusals.specs.declared.FileSpan.{FileSpan}
 use Rattle.numbers.specs.declared.Digits.the-variants.{OneOrTwo}
@@ -69,8 +70,7 @@ four-read n idx sign {s} {i} h f =
     (no-era idx n sign g)
 
 digit-plus : (d : ℕ) → d < 10 → inClass (Is 0x2B) (48 + d) ≡ false
-unfolding inClass
-digit-plus d h = ne-eqb (48 + d) 0x2B (λ e. omega arith)
+digit-plus d h = is-other 0x2B (48 + d) (λ (e : 48 + d ≡ 0x2B). omega arith)
 
 hyphen-white : {s t : List ℕ} {i : ℕ} → From s i (0x2D ∷ t) → eatWhile Whitespace s i ≡ i
 hyphen-white f = front-stop f Whitespace (lit< tt) (not-white 0x2D (lit< tt) (lit< tt))

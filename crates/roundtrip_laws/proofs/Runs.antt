@@ -4,19 +4,18 @@ use mathlib.Core.Path.{_≡_, sym, _∙_}
 use mathlib.Core.Bool.{true, false}
 use mathlib.Core.List.{List, [], _∷_, _++_}
 use Prim.Native.Nat.{ℕ, _+_, _≤_, _<_}
-use native.Mathlib.Nat.{add-zero, add-sub-cancel-left}
+use native.Mathlib.Nat.{add-zero}
 use native.Mathlib.Omega.{arith}
-use borrow.Author.Tests.{ne-eqb, lt-leb, le-leb}
+use borrow.Author.Tests.{ne-eqb, lt-leb}
 use lib.ListN.{length}
-use lib.Seq.{take-at}
 use Rattle.chars.specs.Pick.{pick}
-use Rattle.chars.specs.Classes.{isAsciiDigit, within}
 use Rattle.scanner.specs.declared.Class.{Class}
 use Rattle.scanner.specs.declared.Class.the-variants.{AsciiDigit}
 use Rattle.scanner.specs.Class.{inClass}
 use Rattle.scanner.specs.Scan.{eatWhile, part}
 use Rattle.scanner.proofs.Front.{From, front-rest, front-go, front-stop, front-end}
-use Rattle.numbers.proofs.Reading.{bytes, value, AreDigits, length-bytes, value-is}
+use Rattle.scanner.proofs.Digits.{digit-ascii}
+use Rattle.numbers.proofs.Reading.{bytes, value, AreDigits, digits-part, value-is}
 use Rattle.numbers.specs.declared.ParsedNumber.the-variants.{Value}
 use Rattle.numbers.specs.Parse.{digitsFrom, parse}
 
@@ -29,18 +28,13 @@ pub run-none : {k : Class} {s t : List ℕ} {i : ℕ} → Stops k t → From s i
 run-none {k} none f = front-end f k
 run-none {k} (other l n) f = front-stop f k l n
 
-digit-ascii : (d : ℕ) → d < 10 → inClass AsciiDigit (48 + d) ≡ true
-unfolding inClass isAsciiDigit within
-digit-ascii d h = simp (le-leb 0x30 (48 + d) (omega arith), le-leb (48 + d) 0x39 (omega arith))
-
 -- a run of digits
 pub ascii-run : (ds : List ℕ) {s t : List ℕ} {i : ℕ} → AreDigits ds → Stops AsciiDigit t → From s i (bytes ds ++ t) → eatWhile AsciiDigit s i ≡ i + length ds
 ascii-run [] {s} {t} {i} h b f = run-none b f ∙ sym (add-zero i)
-ascii-run (d ∷ ds) {s} {t} {i} h b f = front-go f AsciiDigit (omega (arith, h .0)) (digit-ascii d (h .0)) ∙ ascii-run ds (h .1) b (front-rest f) ∙ omega arith
+ascii-run (d ∷ ds) {s} {t} {i} h b f = front-go f AsciiDigit (omega (arith, h .0)) (digit-ascii (48 + d) (omega arith) (omega (arith, h .0))) ∙ ascii-run ds (h .1) b (front-rest f) ∙ omega arith
 
 pub ascii-part : (ds t : List ℕ) {s : List ℕ} {i : ℕ} → From s i (bytes ds ++ t) → part s i (i + length ds) ≡ bytes ds
-unfolding part
-ascii-part ds t f = rw (add-sub-cancel-left, f .is) (take-at (bytes ds) t (length ds) (length-bytes ds))
+ascii-part = digits-part
 
 -- the number that they are
 pub parse-is : (d : ℕ) (ds : List ℕ) (top : ℕ) → AreDigits (d ∷ ds) → value 0 (d ∷ ds) ≤ top → parse top (bytes (d ∷ ds)) ≡ Value (value 0 (d ∷ ds))

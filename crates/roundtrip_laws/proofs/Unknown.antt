@@ -1,24 +1,24 @@
 -- Every X text of the strict grammar is read by the ported reader as the range that the grammar says, but for the end of days in a month
 -- under 31 days.
 -- Assumes nothing.
-use mathlib.Core.Path.{_≡_, refl, ap, _∙_}
+use mathlib.Core.Path.{_≡_, ap, _∙_}
 use mathlib.Core.Bool.{true, false}
 use mathlib.Core.List.{List, [], _∷_, _++_}
 use mathlib.Core.Logic.{_⊎_, inl, inr}
 use Prim.Native.Nat.{ℕ, _+_, _/_, _%_, _≤_, _<_}
 use native.Mathlib.Omega.{arith}
 use native.Mathlib.Decide.{decLt}
-use borrow.Author.Tests.{ne-eqb, lt-ltb, le-ltb, lt-leb, le-leb}
+use borrow.Author.Tests.{ne-eqb, lt-ltb, le-ltb, lt-leb}
 use lib.Dec.{lit<}
 use lib.IntN.{pos}
 use lib.ListN.{length, length-append}
 use Rattle.chars.specs.Pick.{pick}
-use Rattle.chars.specs.Classes.{isAsciiDigit, within}
 use Rattle.scanner.specs.declared.Class.the-variants.{Whitespace, AsciiDigit, Is}
 use Rattle.scanner.specs.Class.{inClass}
 use Rattle.scanner.specs.Scan.{eatWhile, doneAt, part}
 use Rattle.scanner.proofs.Laws.{not-white}
-use Rattle.scanner.proofs.Front.{From, from-start, from-behind, front-inside, front-past, front-rest, front-go, front-stop, front-end}
+use Rattle.scanner.proofs.Digits.{below-digits, above-digits, is-it, is-other}
+use Rattle.scanner.proofs.Front.{From, from-start, from-behind, front-inside, front-done, front-rest, front-go, front-stop, front-end}
 use Rattle.refusals.specs.declared.FileSpan.{FileSpan}
 use Rattle.numbers.proofs.Reading.{bytes, value as number, AreDigits, digit-white}
 use Rattle.dates.specs.declared.DateValue.{DateValue}
@@ -47,24 +47,19 @@ has-x span {u} t b =
 
 -- the classes of an X and of a hyphen
 x-x : inClass (Is 0x58) 0x58 ≡ true
-unfolding inClass
-x-x = refl
+x-x = is-it 0x58
 
 digit-x : (d : ℕ) → d < 10 → inClass (Is 0x58) (48 + d) ≡ false
-unfolding inClass
-digit-x d h = ne-eqb (48 + d) 0x58 (λ e. omega arith)
+digit-x d h = is-other 0x58 (48 + d) (λ (e : 48 + d ≡ 0x58). omega arith)
 
 hyphen-x : {t : List ℕ} → Stops (Is 0x58) (0x2D ∷ t)
-unfolding inClass
-hyphen-x = other (lit< tt) refl
+hyphen-x = other (lit< tt) (is-other 0x58 0x2D (λ (e : _≡_ {A = ℕ} 0x2D 0x58). omega arith))
 
 x-ascii : {t : List ℕ} → Stops AsciiDigit (0x58 ∷ t)
-unfolding inClass isAsciiDigit within
-x-ascii = other (lit< tt) refl
+x-ascii = other (lit< tt) (above-digits 0x58 (lit< tt))
 
 hyphen-ascii : {t : List ℕ} → Stops AsciiDigit (0x2D ∷ t)
-unfolding inClass isAsciiDigit within
-hyphen-ascii = other (lit< tt) refl
+hyphen-ascii = other (lit< tt) (below-digits 0x2D (lit< tt))
 
 -- runs of X
 one-x : {s t : List ℕ} {i : ℕ} → Stops (Is 0x58) t → From s i (0x58 ∷ t) → eatWhile (Is 0x58) s i ≡ i + 1
@@ -127,8 +122,7 @@ module _ {s : List ℕ} {i : ℕ} (f : From s i []) where
   no-white = front-end f Whitespace
 
   at-end : doneAt s i ≡ true
-  unfolding doneAt
-  at-end = le-leb (length s) i (front-past f)
+  at-end = front-done f
 
 -- XX for the months, at the end or before a second XX
 months-x : (n : ℕ) {s t : List ℕ} → Stops (Is 0x58) t → From s 4 (0x2D ∷ 0x58 ∷ 0x58 ∷ t) → behindYear s 4 n ≡ behindMonths s 7 n

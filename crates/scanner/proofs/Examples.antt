@@ -15,7 +15,6 @@ use Rattle.scanner.specs.declared.EatIf.{EatIf}
 use Rattle.scanner.specs.declared.EatIf.the-variants.{Past, Kept}
 use Rattle.scanner.specs.declared.Next.{Next}
 use Rattle.scanner.specs.declared.Next.the-variants.{Ate, Nothing}
-use Rattle.scanner.specs.declared.Run.{Run}
 use Rattle.scanner.specs.Class.{inClass}
 use Rattle.scanner.specs.Scan.{lenIn, matchLen, walk, eatWhile, eatIf, begins, eatText, eaten, eatAt, standsAt, doneAt, part, runAt, nextRun}
 

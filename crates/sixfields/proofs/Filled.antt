@@ -1,18 +1,19 @@
 -- The year list of three fields that are read has a text: no end that could be read is taken for none.
 -- Assumes nothing.
-use mathlib.Core.Path.{_≡_, refl, ap}
+use mathlib.Core.Path.{_≡_, refl}
 use mathlib.Core.Bool.{Bool, true, false}
 use mathlib.Core.List.{List}
 use Prim.Native.Nat.{ℕ, _-_, _≤_}
 use native.Mathlib.Omega.{arith}
 use borrow.Author.Tests.{leb-true}
 use lib.IntN.{ℤ}
-use lib.ListN.{length, take, drop}
+use lib.ListN.{length}
 use Rattle.chars.specs.Pick.{pick}
 use Rattle.scanner.specs.declared.Class.{Class}
 use Rattle.scanner.specs.declared.Class.the-variants.{Whitespace, AsciiDigit, Is}
 use Rattle.scanner.specs.declared.EatIf.the-variants.{Kept}
-use Rattle.scanner.specs.Scan.{eatWhile, eatIf, part}
+use Rattle.scanner.specs.Scan.{eatWhile, eatIf}
+use Rattle.scanner.proofs.Parts.{part-empty}
 use Rattle.scanner.proofs.Laws.{match-end, stop}
 use Rattle.refusals.specs.declared.Kind.the-variants.{InvalidFormat}
 use Rattle.refusals.specs.declared.Refusal.{Refusal}
@@ -42,10 +43,6 @@ past-kept : (k : Class) (s : List ℕ) (i : ℕ) → length s ≤ i → eatIf k 
 unfolding eatIf pick
 past-kept k s i h = rw (match-end k s i h)
 
-empty-part : (s : List ℕ) (i : ℕ) → length (part s i i) ≡ 0
-unfolding part
-empty-part s i = let z : i - i ≡ 0 = omega arith in ap (λ (n : ℕ). length (take n (drop i s))) z
-
 past-year : (s : List ℕ) (i : ℕ) → length s ≤ i → yearAt s i ≡ NoYear (textRefusal InvalidFormat i i)
 unfolding yearAt onPast behindSign yearFrom yearDigits pick
 past-year s i h =
@@ -54,7 +51,7 @@ past-year s i h =
       past-kept (Is 0x2B) s i h,
       stop Whitespace s i (match-end Whitespace s i h),
       stop AsciiDigit s i (match-end AsciiDigit s i h),
-      empty-part s i,
+      part-empty s i,
     )
 
 blank-year : (s : List ℕ) → isBlank s ≡ true → getYear s ≡ NoYear (textRefusal InvalidFormat (eatWhile Whitespace s 0) (eatWhile Whitespace s 0))

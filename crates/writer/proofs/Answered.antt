@@ -15,12 +15,11 @@ use Rattle.puts.specs.declared.Measured.{Measured}
 use Rattle.puts.specs.declared.Measured.the-variants.{NoLength}
 use Rattle.puts.specs.declared.Written.{Written}
 use Rattle.puts.specs.declared.Written.the-variants.{Done, Refused}
-use Rattle.puts.specs.Answers.{measured, decided, Put, Foretold}
+use Rattle.puts.specs.Answers.{measured, decided, Put, Foretold, answer}
 use Rattle.refusals.specs.Refusal.{number, refusal, nowhere}
 use Rattle.puts.proofs.Answered.{all-left, fits, done, by-decision, measured-so, answer-foretold}
 use Rattle.writer.specs.Texts.{panics}
 use Rattle.writer.specs.Answers.{dateMeasured, dateAnswer, dateAfterwards}
-use Rattle.puts.specs.Answers.{answer}
 use Rattle.writer.specs.Level.{levelText, levelPanics}
 use Rattle.writer.proofs.Levels.{season-refused, else-as-before}
 
