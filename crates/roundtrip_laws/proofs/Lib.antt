@@ -12,10 +12,12 @@ pub mod Fields
 pub mod Three
 pub mod Accepted
 pub mod Unknown
+pub mod StrictRead
 pub mod Agrees
 pub mod Strictly
 pub mod Narrow
 pub mod Theorems
+pub mod Stored
 pub mod LevelRead
 pub mod LevelBack
 pub mod Seasons

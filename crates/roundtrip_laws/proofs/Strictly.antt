@@ -23,7 +23,7 @@ use Rattle.refusals.specs.declared.ReadDate.the-variants.{Accepted}
 use Rattle.strict.specs.Grammar.{Year, dddd, -dddd, field, no-day, -dd, InYear, no-month, -mm, Point, point, lastDay, Unknown, ddXX, dddX, dddd-XX, dddd-XX-XX, dddd-mm-XX, Value, alone, between, after, before, unknown, Text, text}
 use Rattle.reading_laws.specs.Field.{parsedStrict}
 use Rattle.roundtrip_laws.specs.Domain.{InDomain, Untimed}
-use Rattle.roundtrip_laws.proofs.Agrees.{derivation}
+use Rattle.roundtrip_laws.proofs.StrictRead.{derivation}
 use Rattle.roundtrip_laws.proofs.Accepted.{AllDated, dated, in-domain}
 
 pub negated : (n : ℕ) → natAbs (negℤ (pos n)) ≡ n

@@ -7,6 +7,8 @@ use Prim.Native.Nat.{ℕ}
 use Rattle.refusals.specs.declared.Kind.the-variants.{DayOutOfRange}
 use Rattle.refusals.specs.Refusal.{fileSpan, refusal}
 use Rattle.refusals.specs.Offset.{textRefusal, offsetSecond}
+use Rattle.chunks.specs.declared.Checked.the-variants.{Clean}
+use Rattle.chunks.specs.Check.{checked}
 use Rattle.chunks.specs.Format.{formatted}
 use Rattle.dates.specs.declared.Datetime.{Datetime}
 use Rattle.dates.specs.declared.DateValue.{DateValue}
@@ -78,6 +80,10 @@ agrees b table e = both.agrees b table e
 -- in that case the Dates do differ
 pub short-differ : {s : List ℕ} {d e : Date} → ShortText s d e → d ≡ e → ⊥
 short-differ = both.short-differ
+
+-- and of a list without a fault that has such a text each reader says its own
+pub short-part : (b table : List ℕ) {d e : Date} → checked b table ≡ Clean → ShortText (formatted b table) d e → (parsedStrict b table ≡ Accepted d) × (parsed b table ≡ Accepted e)
+short-part b table c t = both.short-part b table c t
 
 -- What the strict reader accepts, of any chunk list, is a Date of the domain, if it has no time,
 pub strict-in : (b table : List ℕ) {d : Date} → parsedStrict b table ≡ Accepted d → Untimed (d .value) → InDomain (d .value)

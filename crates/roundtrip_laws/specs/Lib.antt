@@ -1,3 +1,4 @@
 pub mod Domain
 pub mod Fields
 pub mod Level
+pub mod Stored
