@@ -1,4 +1,5 @@
 pub mod Bytes
+pub mod Letters
 pub mod Points
 pub mod Values
 pub mod Trims
@@ -15,6 +16,7 @@ pub mod Unknown
 pub mod StrictRead
 pub mod Agrees
 pub mod Strictly
+pub mod NoTime
 pub mod Narrow
 pub mod Theorems
 pub mod Stored

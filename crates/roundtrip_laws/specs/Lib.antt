@@ -2,3 +2,4 @@ pub mod Domain
 pub mod Fields
 pub mod Level
 pub mod Stored
+pub mod Letters
