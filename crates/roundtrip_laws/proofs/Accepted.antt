@@ -39,11 +39,13 @@ use Rattle.dates.proofs.Months.{some-day}
 use Rattle.points.specs.declared.ReadPoint.{ReadPoint}
 use Rattle.points.specs.declared.ReadPoint.the-variants.{Point, Refused as NoPoint}
 use Rattle.points.specs.Point.{point}
-use Rattle.points.proofs.Accepted.{Dated, accepted-date}
+use Rattle.points.specs.Accepted.{Dated}
+use Rattle.points.proofs.Accepted.{accepted-date}
 use Rattle.xranges.specs.declared.ReadRange.{ReadRange}
 use Rattle.xranges.specs.declared.ReadRange.the-variants.{Range, NoRange}
 use Rattle.xranges.specs.Range.{rangeDates}
-use Rattle.xranges.proofs.Accepted.{XRange, some-years, all-months, all-days, accepted-range}
+use Rattle.xranges.specs.Accepted.{XRange, some-years, all-months, all-days}
+use Rattle.xranges.proofs.Accepted.{accepted-range}
 use Rattle.datefield.specs.declared.ReadValue.{ReadValue}
 use Rattle.datefield.specs.declared.ReadValue.the-variants.{Read, NoValue}
 use Rattle.refusals.specs.declared.ReadDate.{ReadDate}
@@ -51,21 +53,11 @@ use Rattle.refusals.specs.declared.ReadDate.the-variants.{Accepted, Refused}
 use Rattle.datefield.specs.Text.{trimmed, unmarked, firstOf, isOpen}
 use Rattle.datefield.specs.Value.{moved, firstHalf, secondHalf, onHalf, bothHalves, halves, xRange, value, marked, trimmedDate, parseText}
 use Rattle.reading_laws.specs.Field.{onClean, parsed}
+use Rattle.dates.specs.Clocks.{badTime, hasBadTime}
 use Rattle.dates.specs.Domain.{PartsIn, EndIn}
-use Rattle.roundtrip_laws.specs.Domain.{InDomain, Untimed, ShortMonthRange, days-xx}
+use Rattle.roundtrip_laws.specs.Domain.{AllDated, Known, InDomain, Untimed, ShortMonthRange, days-xx}
 use Rattle.roundtrip_laws.specs.Letters.{NoByte, NoX}
 use Rattle.roundtrip_laws.proofs.Letters.{no-take, no-first, upper-not}
-
--- every end is a date of the calendar, whatever its time
-abbrev pub AllDated : DateValue → Type 0
-AllDated (At a) = Dated a
-AllDated (After a) = Dated a
-AllDated (Before a) = Dated a
-AllDated (Between a b) = Dated a × Dated b
-
--- or it is the one exception
-abbrev pub Known : DateValue → Type 0
-Known v = AllDated v ⊎ ShortMonthRange v
 
 -- what holds of every value that is read
 pub data Holds (P : DateValue → Type 0) : ReadValue → Type 0 where
@@ -95,7 +87,8 @@ halves-good span s slash =
 
 -- a date of a year without a sign, and no time
 pub dated : (y : ℕ) (m : OptionMonth) (d : OptionDay) → y < 10000 → PartsIn (pos y) m d → Dated (datetime (pos y) m d NoTime)
-dated y m d h p = record { year-in = h; parts-in = p; unseasoned = refl }
+unfolding hasBadTime badTime
+dated y m d h p = record { year-in = h; parts-in = p; time-in = refl; unseasoned = refl }
 
 -- an X range
 range-known : {a b : Datetime} → XRange a b → Known (Between a b)
@@ -120,9 +113,12 @@ module _ (span : FileSpan) (s : List ℕ) where
   points-good : Holds AllDated (pick (ltb (firstOf 0x2F s) (length s)) (halves span s (firstOf 0x2F s)) (onHalf (moved (point s) λ e. offset e (span .0)) λ d. Read (At d)))
   points-good = by-test (Holds AllDated) _ (λ _. halves-good span s (firstOf 0x2F s)) λ _. half-good s _ λ a h. holds {v = At a} h
 
-  value-good : Holds Known (value span s)
+  pub of-x : (P : DateValue → Type 0) → Holds P (xRange span (rangeDates s)) → ((v : DateValue) → AllDated v → P v) → Holds P (value span s)
   unfolding value
-  value-good = by-test (Holds Known) _ (λ _. range-good span s) λ _. holds-of (λ v h. inl h) points-good
+  of-x P h f = by-test (Holds P) _ (λ _. h) λ _. holds-of f points-good
+
+  value-good : Holds Known (value span s)
+  value-good = of-x Known (range-good span s) (λ v h. inl h)
 
   value-no-x : NoByte 0x58 s → Holds AllDated (value span s)
   unfolding value pick

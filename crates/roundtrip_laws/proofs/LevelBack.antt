@@ -40,7 +40,7 @@ use Rattle.writer.specs.Level.{longSign, behindText, levelEnd, levelValue, leve
 use Rattle.puts.proofs.Counts.{one-more, no-digits, few, padded, unpadded}
 use Rattle.writer.proofs.Bounds.{EachEnd}
 use Rattle.roundtrip_laws.specs.Domain.{Untimed, oneChunk}
-use Rattle.roundtrip_laws.specs.Level.{LevelIn, of-calendar, of-season, of-long-year, InLevel}
+use Rattle.roundtrip_laws.specs.Level.{LevelIn, of-calendar, of-season, of-long-year, InLevel, Given, on-calendar, in-season, long-year}
 use Rattle.roundtrip_laws.proofs.Bytes.{InPoint, PointText, ValueText, Clear, Each, each-append, point-digit, minus-in, alone-text, between-text, after-text, before-text, clear-text, clear-ascii}
 use Rattle.roundtrip_laws.proofs.Bytes.Each.{none, more}
 use Rattle.roundtrip_laws.proofs.Trims.{mark-short, text-clear}
@@ -48,7 +48,7 @@ use Rattle.roundtrip_laws.proofs.Points.{point-text}
 use Rattle.roundtrip_laws.proofs.Agrees.{unknown-text}
 use Rattle.roundtrip_laws.proofs.Derived.{end-derived, mark-derived}
 use Rattle.roundtrip_laws.proofs.Stored.{calendar-written}
-use Rattle.roundtrip_laws.proofs.LevelRead.{Given, on-calendar, in-season, long-year, level-given}
+use Rattle.roundtrip_laws.proofs.LevelRead.{level-given}
 
 -- ---- the digits of a year
 

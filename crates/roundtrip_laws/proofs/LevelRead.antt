@@ -12,16 +12,11 @@ use Rattle.refusals.specs.Refusal.{fileSpan, refusal}
 use Rattle.chunks.specs.declared.Checked.the-variants.{Clean}
 use Rattle.chunks.specs.Check.{checked}
 use Rattle.chunks.specs.Format.{formatted}
-use Rattle.dates.specs.declared.OptionMonth.the-variants.{NoMonth}
-use Rattle.dates.specs.declared.OptionDay.the-variants.{NoDay}
-use Rattle.dates.specs.declared.OptionTime.the-variants.{NoTime}
-use Rattle.dates.specs.declared.OptionSeason.{OptionSeason}
 use Rattle.dates.specs.declared.Datetime.{Datetime}
 use Rattle.dates.specs.declared.DateValue.{DateValue}
 use Rattle.dates.specs.declared.DateValue.the-variants.{At, After, Before, Between}
 use Rattle.dates.specs.declared.Date.{Date}
-use Rattle.dates.specs.Value.{datetime, seasonOf, isSeason, hasSeason, anySeason}
-use Rattle.points.proofs.Accepted.{Dated}
+use Rattle.dates.specs.Value.{isSeason, hasSeason, anySeason}
 use Rattle.refusals.specs.declared.ReadDate.the-variants.{Accepted, Refused}
 use Rattle.strict.specs.declared.Matched.{Matched}
 use Rattle.strict.specs.declared.Matched.the-variants.{Strict, NotStrict as NoMatch}
@@ -33,7 +28,8 @@ use Rattle.strict.proofs.Level.{level-exact, level-refused, strict-level}
 use Rattle.reading_laws.specs.Field.{onClean, leveled, parsedLevelOne, parsedStrict}
 use Rattle.writer.proofs.Bounds.{EachEnd}
 use Rattle.writer.proofs.Pieces.{first-false, second-false}
-use Rattle.roundtrip_laws.proofs.Accepted.{AllDated}
+use Rattle.roundtrip_laws.specs.Level.{Given, on-calendar, in-season, long-year, Alone, ShortYear}
+use Rattle.roundtrip_laws.specs.Domain.{AllDated}
 use Rattle.roundtrip_laws.proofs.StrictRead.{Fault, bad-utf8, unsupported, bad-chunks, too-long, clean-accepts, clean-refuses, strict-accepts}
 use Rattle.roundtrip_laws.proofs.Strictly.{negated, year-in, point-dated, unknown-dated}
 
@@ -78,12 +74,6 @@ pub level-derivation : (b table : List ℕ) {d : Date} → parsedLevelOne b tabl
 level-derivation b table {d} e = level-accepts b table d .0 e .1
 
 -- ---- what an end is
-
--- as it is read: of the calendar and perhaps with a time, a season of a year, or a long year
-pub data Given : Datetime → Type 0 where
-  on-calendar : {d : Datetime} → Dated d → Given d
-  in-season : {y : ℤ} {s : OptionSeason} → natAbs y < 10000 → isSeason s ≡ true → Given (seasonOf y s)
-  long-year : {y : ℤ} → 10000 ≤ natAbs y → natAbs y < 1000000000 → Given (datetime y NoMonth NoDay NoTime)
 
 season-there : (n : ℕ) → isSeason (seasonAt n) ≡ true
 unfolding seasonAt
@@ -135,10 +125,6 @@ each-end f (After a) w = f a w
 each-end f (Before a) w = f a w
 each-end f (Between a b) w = (f a (w .0), f b (w .1))
 
--- a season has no month, no day and no time beside it
-abbrev pub Alone : Datetime → Type 0
-Alone a = hasSeason a ≡ true → (a .month ≡ NoMonth) × (a .day ≡ NoDay) × (a .time ≡ NoTime)
-
 given-alone : (a : Datetime) → Given a → Alone a
 given-alone a (on-calendar w) e = absurd (false≢true (sym (ap isSeason (w .unseasoned)) ∙ e))
 given-alone a (in-season h s) e = (refl, refl, refl)
@@ -152,10 +138,6 @@ season-alone b table {d} e = each-end given-alone (d .value) (level-given b tabl
 -- what the strict reader accepts is accepted with the same Date
 pub strict-accepted : (b table : List ℕ) {d : Date} → parsedStrict b table ≡ Accepted d → parsedLevelOne b table ≡ Accepted d
 strict-accepted b table {d} e = let p = strict-accepts b table d .0 e in level-accepts b table d .1 (p .0, strict-level (p .1))
-
--- a year of at most four digits
-abbrev pub ShortYear : Datetime → Type 0
-ShortYear a = natAbs (a .year) < 10000
 
 point-strict : {s : List ℕ} {a : Datetime} → LevelPoint s a → hasSeason a ≡ false → ShortYear a → Point s a
 point-strict (strictly p) e h = p

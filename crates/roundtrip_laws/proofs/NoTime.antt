@@ -48,7 +48,8 @@ use Rattle.points.specs.Point.{yearAt, onYear, timeOr, behindDay, behindMonth, 
 use Rattle.xranges.specs.declared.ReadRange.{ReadRange}
 use Rattle.xranges.specs.declared.ReadRange.the-variants.{Range, NoRange}
 use Rattle.xranges.specs.Range.{rangeDates}
-use Rattle.xranges.proofs.Accepted.{XRange, some-years, all-months, all-days, accepted-range}
+use Rattle.xranges.specs.Accepted.{XRange, some-years, all-months, all-days}
+use Rattle.xranges.proofs.Accepted.{accepted-range}
 use Rattle.datefield.specs.declared.ReadValue.{ReadValue}
 use Rattle.refusals.specs.declared.ReadDate.the-variants.{Accepted}
 use Rattle.datefield.specs.Text.{firstOf, isOpen}
