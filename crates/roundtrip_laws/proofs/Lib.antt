@@ -17,6 +17,7 @@ pub mod StrictRead
 pub mod Agrees
 pub mod Strictly
 pub mod NoTime
+pub mod Days
 pub mod Narrow
 pub mod Theorems
 pub mod Stored

@@ -11,18 +11,21 @@ use Rattle.refusals.specs.Offset.{textRefusal, offsetSecond}
 use Rattle.chunks.specs.declared.Checked.the-variants.{Clean}
 use Rattle.chunks.specs.Check.{checked}
 use Rattle.chunks.specs.Format.{formatted}
+use Rattle.chunks.specs.Upper.{uppercase}
 use Rattle.dates.specs.declared.Datetime.{Datetime}
 use Rattle.dates.specs.declared.DateValue.{DateValue}
 use Rattle.dates.specs.declared.Date.{Date}
 use Rattle.dates.specs.Domain.{EndIn}
 use Rattle.dates.specs.Value.{fromDatetime}
 use Rattle.refusals.specs.declared.ReadDate.the-variants.{Accepted, Refused}
+use Rattle.datefield.specs.Text.{trimmed, unmarked}
 use Rattle.datefield.specs.Value.{marked}
 use Rattle.reading_laws.specs.Field.{parsed, strictly, parsedStrict}
 use Rattle.reading_laws.proofs.Entries.{strict-clean}
 use Rattle.writer.specs.Texts.{dateText}
 use Rattle.writer.specs.Fields.{endLines}
-use Rattle.roundtrip_laws.specs.Domain.{InDomain, Untimed, ShortMonthRange, ShortText, oneChunk}
+use Rattle.roundtrip_laws.specs.Domain.{InDomain, Untimed, ShortMonthRange, ShortText, oneChunk, daysUpto}
+use Rattle.roundtrip_laws.specs.Days.{DaysText}
 use Rattle.roundtrip_laws.specs.Fields.{linesOf, readBack}
 use Rattle.roundtrip_laws.specs.Letters.{NoByte, NoT, NoX}
 use Rattle.roundtrip_laws.proofs.Whole.{value-back, known}
@@ -31,6 +34,7 @@ use Rattle.roundtrip_laws.proofs.Marks.{plain-list, same-text, parsed-m
 use Rattle.roundtrip_laws.proofs.Three as three
 use Rattle.roundtrip_laws.proofs.Accepted as accepted
 use Rattle.roundtrip_laws.proofs.NoTime as untimed
+use Rattle.roundtrip_laws.proofs.Days as days
 use Rattle.roundtrip_laws.proofs.Short as short
 use Rattle.roundtrip_laws.proofs.Agrees as both
 use Rattle.roundtrip_laws.proofs.Strictly as strictly-read
@@ -74,6 +78,10 @@ no-t-in b table e h = accepted-in b table e (no-t b table e h)
 -- and without an X or x in it no such range, but one of the domain
 pub no-x-in : (b table : List ℕ) {d : Date} → parsed b table ≡ Accepted d → NoT (formatted b table) → NoX (formatted b table) → InDomain (d .value)
 no-x-in b table {d} e h k = accepted.in-domain (d .value) (accepted.no-x b table e k) (no-t b table e h)
+
+-- Such a range is read from a text dddd-mm-XX alone, in upper case, trimmed and without its mark
+pub from-days : (b table : List ℕ) {d : Date} → parsed b table ≡ Accepted d → ShortMonthRange (d .value) → (y : ℕ) × (m : ℕ) × DaysText (unmarked (trimmed (uppercase (formatted b table)))) y m × (d .value ≡ daysUpto y m 30)
+from-days b table e k = days.from-days b table e k
 
 -- Such a range is not of the domain,
 pub short-out : {v : DateValue} → ShortMonthRange v → InDomain v → ⊥

@@ -3,3 +3,4 @@ pub mod Fields
 pub mod Level
 pub mod Stored
 pub mod Letters
+pub mod Days
