@@ -18,34 +18,26 @@ use Rattle.numbers.specs.declared.Digits.the-variants.{Two, Four}
 use Rattle.numbers.specs.declared.ReadInt.{ReadInt}
 use Rattle.numbers.proofs.Laws.{IntIn, int, noint, panic, int-in}
 use Rattle.dates.specs.Calendar.{monthLength}
+use Rattle.dates.specs.Clocks.{badTime, hasBadTime, dayBesideMonth}
 use Rattle.dates.specs.Domain.{PartsIn, EndIn}
-use Rattle.dates.specs.Value.{day}
+use Rattle.dates.specs.Value.{day, datetime}
 use Rattle.dates.specs.declared.Month.{Month}
-use Rattle.dates.specs.declared.OptionMonth.{OptionMonth}
 use Rattle.dates.specs.declared.OptionMonth.the-variants.{SomeMonth}
-use Rattle.dates.specs.declared.OptionDay.{OptionDay}
-use Rattle.dates.specs.declared.OptionTime.the-variants.{NoTime}
-use Rattle.dates.specs.declared.OptionSeason.the-variants.{NoSeason}
+use Rattle.dates.specs.declared.OptionTime.the-variants.{NoTime, SomeTime}
 use Rattle.dates.specs.declared.Datetime.{Datetime}
 use Rattle.points.specs.Step.{monthAt, dayAt, hyphenAt, onPart, onSeparator, orEnd}
-use Rattle.points.specs.Time.{timeAt}
 use Rattle.points.specs.Point.{windowed, windowedInt, shortYear, longOf, longYear, shortOr, yearAt, onYear, withTime, timeOr, behindDay, behindMonth, behindYear, point}
 use Rattle.points.specs.declared.ReadPoint.{ReadPoint}
 use Rattle.points.specs.declared.ReadPoint.the-variants.{Point, Refused}
 use Rattle.points.specs.declared.ReadTime.{ReadTime}
-use Rattle.points.specs.declared.ReadTime.the-variants.{Clock, NoClock}
 use Rattle.points.specs.declared.ReadYear.{ReadYear}
 use Rattle.points.specs.declared.ReadYear.the-variants.{Year, NoYear}
 use Rattle.points.specs.declared.ReadSeparator.{ReadSeparator}
 use Rattle.points.specs.declared.ReadSeparator.the-variants.{Passed, Missing}
 use Rattle.points.specs.declared.ReadPart.{ReadPart}
+use Rattle.points.specs.Accepted.{Dated}
+use Rattle.points.proofs.Clocks.{TimeIn, clock, noclock, time-in}
 use Rattle.points.proofs.Ranges.{PartIn, part, nopart, part-in, windowed-in}
-
--- what is known of an accepted Datetime, whatever its time
-pub record Dated (d : Datetime) : Type 0 where
-  pub year-in : natAbs (d .year) < 10000
-  pub parts-in : PartsIn (d .year) (d .month) (d .day)
-  pub unseasoned : d .season ≡ NoSeason
 
 data Good : ReadPoint → Type 0 where
   good : {d : Datetime} → Dated d → Good (Point d)
@@ -97,34 +89,34 @@ or-end : (s : List ℕ) (at : ℕ) {d : Datetime} {go : ℕ → ReadPoint} → D
 unfolding orEnd
 or-end s at w g = by-test Good _ (λ _. good w) (λ _. g (eatWhile Whitespace s at))
 
--- the time changes nothing of the date
-module _ (y : ℤ) (m : OptionMonth) (d : OptionDay) (h : natAbs y < 10000) (l : PartsIn y m d) where
-  time-good : (r : ReadTime) → Good (withTime y m d r)
-  unfolding withTime
-  time-good (Clock t) = good (record { year-in = h; parts-in = l; unseasoned = refl })
-  time-good (NoClock e) = refused
+-- a time is a good one, and changes nothing of the date
+module _ (y : ℤ) (m : Month) (d : ℕ) (h : natAbs y < 10000) (l : PartsIn y (SomeMonth m) (day d)) where
+  time-good : {r : ReadTime} → TimeIn r → Good (withTime y (SomeMonth m) (day d) r)
+  unfolding withTime hasBadTime badTime dayBesideMonth
+  time-good (clock {t} e) = good {d = datetime y (SomeMonth m) (day d) (SomeTime t)} (record { year-in = h; parts-in = l; time-in = rw e; unseasoned = refl })
+  time-good noclock = refused
 
-  or-good : (s : List ℕ) (a : ℕ) (r : EatIf) → Good (timeOr s a y m d r)
+  or-good : (s : List ℕ) (a : ℕ) (r : EatIf) → Good (timeOr s a y (SomeMonth m) (day d) r)
   unfolding timeOr
-  or-good s a (Past c) = time-good (timeAt s (c .0))
+  or-good s a (Past c) = time-good (time-in s (c .0))
   or-good s a Kept = refused
 
-  day-good : (s : List ℕ) (at : ℕ) → Good (behindDay s at y m d)
-  unfolding behindDay
-  day-good s at = or-end s at (record { year-in = h; parts-in = l; unseasoned = refl }) λ a. or-good s a (eatIf (Is 0x54) s a)
+  day-good : (s : List ℕ) (at : ℕ) → Good (behindDay s at y (SomeMonth m) (day d))
+  unfolding behindDay hasBadTime badTime
+  day-good s at = or-end s at (record { year-in = h; parts-in = l; time-in = refl; unseasoned = refl }) λ a. or-good s a (eatIf (Is 0x54) s a)
 
 month-good : (s : List ℕ) (at : ℕ) (y : ℤ) (m : Month) → natAbs y < 10000 → m .0 < 12 → Good (behindMonth s at y m)
-unfolding behindMonth dayAt
+unfolding behindMonth dayAt hasBadTime badTime
 month-good s at y m h l =
-    or-end s at (record { year-in = h; parts-in = l; unseasoned = refl }) λ a.
+    or-end s at (record { year-in = h; parts-in = l; time-in = refl; unseasoned = refl }) λ a.
     on-separator (hyphenAt s a) λ b.
     on-part (part-in s b 1 31 DayOutOfRange) λ d next _.
-    by-test Good _ (λ t. day-good y (SomeMonth m) (day d) h (l, ltb-true d (monthLength (m .0) y) t) s next) (λ _. refused)
+    by-test Good _ (λ t. day-good y m d h (l, ltb-true d (monthLength (m .0) y) t) s next) (λ _. refused)
 
 year-good : (s : List ℕ) (at : ℕ) (y : ℤ) → natAbs y < 10000 → Good (behindYear s at y)
-unfolding behindYear monthAt
+unfolding behindYear monthAt hasBadTime badTime
 year-good s at y h =
-    or-end s at (record { year-in = h; parts-in = tt; unseasoned = refl }) λ a.
+    or-end s at (record { year-in = h; parts-in = tt; time-in = refl; unseasoned = refl }) λ a.
     on-separator (hyphenAt s a) λ b.
     on-part (part-in s b 1 12 MonthOutOfRange) λ m next l.
     month-good s next y (record { 0 = m }) h (omega (arith, l))
@@ -132,6 +124,7 @@ year-good s at y h =
 of-good : {d : Datetime} → Good (Point d) → Dated d
 of-good (good w) = w
 
+-- every Datetime that the reader gives is one of the calendar, with a good time or none
 pub accepted-date : (s : List ℕ) {d : Datetime} → point s ≡ Point d → Dated d
 unfolding point
 accepted-date s e = of-good (subst Good e (on-year (year-in s 0) λ y next h. year-good s next y h))

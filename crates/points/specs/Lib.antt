@@ -1,3 +1,4 @@
 pub mod Step
 pub mod Time
 pub mod Point
+pub mod Accepted

@@ -10,8 +10,7 @@ use native.Mathlib.Omega.{arith}
 use lib.Dec.{lit≤}
 use lib.IntN.{pos}
 use Rattle.refusals.specs.declared.FileSpan.{FileSpan}
-use Rattle.chunks.specs.declared.Checked.{Checked}
-use Rattle.chunks.specs.declared.Checked.the-variants.{Clean, Faulty}
+use Rattle.chunks.specs.declared.Checked.the-variants.{Clean}
 use Rattle.chunks.specs.Chunks.{chunksOf, spanOf}
 use Rattle.chunks.specs.Check.{checked}
 use Rattle.chunks.specs.Format.{formatted}
@@ -28,21 +27,18 @@ use Rattle.datefield.specs.declared.ReadValue.the-variants.{Read}
 use Rattle.refusals.specs.declared.ReadDate.{ReadDate}
 use Rattle.refusals.specs.declared.ReadDate.the-variants.{Accepted}
 use Rattle.datefield.specs.Value.{moved, onHalf, value, marked, parseText}
-use Rattle.strict.specs.declared.Matched.{Matched}
-use Rattle.strict.specs.declared.Matched.the-variants.{Strict, NotStrict}
 use Rattle.strict.specs.Digits.{digits}
-use Rattle.strict.specs.Grammar.{field, Point, Unknown, ddXX, dddX, dddd-XX, dddd-XX-XX, Value, alone, between, after, before, unknown, Mark, Text, text}
+use Rattle.strict.specs.Grammar.{field, lastDay, Point, Unknown, ddXX, dddX, dddd-XX, dddd-XX-XX, Value, alone, between, after, before, unknown, Mark, Text, text}
 use Rattle.strict.specs.Grammar
-use Rattle.strict.specs.Matcher.{strict}
-use Rattle.strict.proofs.Exact.{exact}
-use Rattle.reading_laws.specs.Field.{onClean, parsed, strictly, parsedStrict}
+use Rattle.reading_laws.specs.Field.{onClean, parsed, parsedStrict}
 use Rattle.roundtrip_laws.specs.Domain.{dddd-mm-XX, ShortText, short-text}
 use Rattle.roundtrip_laws.proofs.Bytes.{Each, each-append, each-bytes, InValue, ValueText, value-digit, minus-in, alone-text, between-text, after-text, before-text, clear-upper}
 use Rattle.roundtrip_laws.proofs.Bytes.Each.{none, more}
 use Rattle.roundtrip_laws.proofs.Points.{point-read, point-text}
 use Rattle.roundtrip_laws.proofs.Values.{alone-value, between-value, after-value, before-value}
 use Rattle.roundtrip_laws.proofs.Trims.{text-clear, text-marked}
-use Rattle.roundtrip_laws.proofs.Unknown.{Said, unknown-value}
+use Rattle.roundtrip_laws.proofs.Unknown.{Said, days-said, unknown-value}
+use Rattle.roundtrip_laws.proofs.StrictRead.{strict-accepts}
 
 -- the bytes of a text with an X
 x-in : InValue 0x58
@@ -104,48 +100,18 @@ text-read span (text v m) = both-read span (value-text v) m (value-read span v)
 text-upper : {s : List ℕ} {d : Date} → Text s d → uppercase s ≡ s
 text-upper (text v m) = clear-upper (text-clear (value-text v) m)
 
--- what the strict matcher gave
-matched-is : (m : Matched) {d : Date} → strictly m ≡ Accepted d → m ≡ Strict d
-unfolding strictly
-matched-is (Strict c) e = cc
-matched-is NotStrict e = let z : _≡_ {A = ℕ} 0 1 = cc in absurd (omega arith)
-
--- a list that is accepted has no fault
-clean-read : (c : Checked) {r q : ReadDate} {d : Date} → onClean c r ≡ Accepted d → (r ≡ Accepted d) × (onClean c q ≡ q)
-unfolding onClean
-clean-read Clean e = (e, refl)
-clean-read (Faulty x) e = let z : _≡_ {A = ℕ} 0 1 = cc in absurd (omega arith)
-
--- the derivation of an accepted list's text
-pub derivation : (b table : List ℕ) {d : Date} → parsedStrict b table ≡ Accepted d → Text (formatted b table) d
-unfolding parsedStrict
-derivation b table {d} e =
-    let s = formatted b table in
-    exact s d .0 (matched-is (strict s) (clean-read (checked b table) {q = strictly (strict s)} e .0))
-
--- such a list has no fault, and a list without one is read by what its text derives
-is-clean : (c : Checked) (r : ReadDate) {d : Date} → onClean c r ≡ Accepted d → c ≡ Clean
-unfolding onClean
-is-clean Clean r e = refl
-is-clean (Faulty x) r e = let z : _≡_ {A = ℕ} 0 1 = cc in absurd (omega arith)
-
-pub strict-clean-list : (b table : List ℕ) {d : Date} → parsedStrict b table ≡ Accepted d → checked b table ≡ Clean
-unfolding parsedStrict
-strict-clean-list b table e = is-clean (checked b table) (strictly (strict (formatted b table))) e
-
-pub strict-read : (b table : List ℕ) {d : Date} → checked b table ≡ Clean → Text (formatted b table) d → parsedStrict b table ≡ Accepted d
-unfolding parsedStrict onClean strictly
-strict-read b table {d} c t = rw (c, exact (formatted b table) d .1 t)
+-- a list without a fault is read as its text
+clean-parsed : (b table : List ℕ) {d : Date} → checked b table ≡ Clean → Text (formatted b table) d → parsed b table ≡ parseText (spanOf (chunksOf table)) (formatted b table)
+unfolding parsed onClean
+clean-parsed b table c t = rw (c, text-upper t)
 
 -- for every chunk list: what the strict reader accepts, the ported reader accepts with the same Date, or with the 31st as its end
 pub agrees : (b table : List ℕ) {d : Date} → parsedStrict b table ≡ Accepted d → Both (formatted b table) d (parsed b table)
-unfolding parsedStrict parsed
 agrees b table {d} e =
     let s = formatted b table in
     let span = spanOf (chunksOf table) in
-    let t = derivation b table e in
-    let c = clean-read (checked b table) {q = parseText span (uppercase s)} e .1 in
-    subst (Both s d) (sym (c ∙ ap (parseText span) (text-upper t))) (text-read span t)
+    let p = strict-accepts b table d .0 e in
+    subst (Both s d) (sym (clean-parsed b table (p .0) (p .1))) (text-read span (p .1))
 
 -- the two Dates of such a text are not the same
 dayOf : OptionDay → ℕ
@@ -161,3 +127,18 @@ endDay (Between a b) = dayOf (b .day)
 pub short-differ : {s : List ℕ} {d e : Date} → ShortText s d e → d ≡ e → ⊥
 unfolding endDay dayOf
 short-differ (short-text (dddd-mm-XX {m = m} n h f k) mark) e = let z : monthLength m (pos n) - 1 ≡ 30 = ap (λ (d : Date). endDay (d .value)) e in omega arith
+
+-- of such a text each reader says its own Date
+short-derived : {s : List ℕ} {d e : Date} → ShortText s d e → Text s d
+unfolding lastDay
+short-derived (short-text (dddd-mm-XX n h f k) mark) = text (unknown (Grammar.dddd-mm-XX n h f)) mark
+
+short-read : (span : FileSpan) {s : List ℕ} {d e : Date} → ShortText s d e → parseText span s ≡ Accepted e
+short-read span (short-text (dddd-mm-XX n h (field m l) k) mark) =
+    as-read span (unknown-text (Grammar.dddd-mm-XX n h (field m l))) mark (days-said span n m h l)
+
+-- a list without a fault whose text is such a one is accepted by both readers, by each with its own Date
+pub short-part : (b table : List ℕ) {d e : Date} → checked b table ≡ Clean → ShortText (formatted b table) d e → (parsedStrict b table ≡ Accepted d) × (parsed b table ≡ Accepted e)
+short-part b table {d} c t =
+    let g = short-derived t in
+    (strict-accepts b table d .1 (c, g), clean-parsed b table c g ∙ short-read (spanOf (chunksOf table)) t)

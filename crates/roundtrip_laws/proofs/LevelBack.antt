@@ -6,17 +6,13 @@ use native.Mathlib.Omega.{arith}
 use native.Mathlib.Decide.{decLt}
 use mathlib.Core.Bool.{true, false, false≢true}
 use mathlib.Core.List.{List, [], _∷_, _++_, append-assoc, append-nil}
-use borrow.Author.Tests.{ne-eqb, lt-ltb, le-ltb, le-leb}
+use borrow.Author.Tests.{lt-ltb, le-ltb, le-leb}
 use lib.Dec.{lit≤}
 use lib.IntN.{ℤ, pos, negsuc, natAbs}
 use lib.ListN.{length, length-append}
 use Rattle.chars.specs.Pick.{pick}
 use Rattle.chars.specs.Ascii.{ascii}
 use Rattle.chunks.proofs.Plains.{Plainly, plainly}
-use Rattle.dates.specs.declared.OptionMonth.{OptionMonth}
-use Rattle.dates.specs.declared.OptionMonth.the-variants.{NoMonth, SomeMonth}
-use Rattle.dates.specs.declared.OptionDay.{OptionDay}
-use Rattle.dates.specs.declared.OptionDay.the-variants.{NoDay, SomeDay}
 use Rattle.dates.specs.declared.OptionTime.the-variants.{NoTime}
 use Rattle.dates.specs.declared.OptionSeason.{OptionSeason}
 use Rattle.dates.specs.declared.OptionSeason.the-variants.{NoSeason, Spring, Summer, Autumn, Winter}
@@ -24,9 +20,7 @@ use Rattle.dates.specs.declared.Datetime.{Datetime}
 use Rattle.dates.specs.declared.DateValue.{DateValue}
 use Rattle.dates.specs.declared.DateValue.the-variants.{At, After, Before, Between}
 use Rattle.dates.specs.declared.Date.{Date}
-use Rattle.dates.specs.Domain.{PartsIn}
 use Rattle.dates.specs.Value.{seasonOf, seasonNumber, isSeason}
-use Rattle.dates.proofs.Lengths.{length-most}
 use Rattle.refusals.specs.declared.ReadDate.the-variants.{Accepted}
 use Rattle.strict.specs.Digits.{digits}
 use Rattle.strict.specs.Grammar.{Year, dddd, -dddd, Field, field, Value, alone, between, after, before, unknown, Mark, text}
@@ -40,20 +34,21 @@ use Rattle.puts.specs.declared.Written.the-variants.{Done}
 use Rattle.puts.specs.Answers.{answer, measured, decided}
 use Rattle.puts.specs.Numbers as numbers
 use Rattle.puts.specs.Numbers.{digitCount, width, decimal}
-use Rattle.writer.specs.Texts.{minus, yearText, dayParts, monthParts, partsOf, partsText, partText, hyphenPart, datetimeText, tooLarge, endPanics}
+use Rattle.writer.specs.Texts.{minus, yearText, monthParts, partsOf, partsText, partText, hyphenPart, datetimeText, tooLarge, endPanics}
 use Rattle.puts.specs.Marks.{markText}
 use Rattle.writer.specs.Level.{longSign, behindText, levelEnd, levelValue, levelText, levelEndPanics, levelValuePanics, levelPanics}
 use Rattle.puts.proofs.Counts.{one-more, no-digits, few, padded, unpadded}
 use Rattle.dates.specs.Ends.{EachEnd}
 use Rattle.roundtrip_laws.specs.Domain.{Untimed, oneChunk}
-use Rattle.roundtrip_laws.specs.Level.{LevelIn, of-calendar, of-season, of-long-year, InLevel}
+use Rattle.roundtrip_laws.specs.Level.{LevelIn, of-calendar, of-season, of-long-year, InLevel, Given, on-calendar, in-season, long-year}
 use Rattle.roundtrip_laws.proofs.Bytes.{InPoint, PointText, ValueText, Clear, Each, each-append, point-digit, minus-in, alone-text, between-text, after-text, before-text, clear-text, clear-ascii}
 use Rattle.roundtrip_laws.proofs.Bytes.Each.{none, more}
 use Rattle.roundtrip_laws.proofs.Trims.{mark-short, text-clear}
 use Rattle.roundtrip_laws.proofs.Points.{point-text}
 use Rattle.roundtrip_laws.proofs.Agrees.{unknown-text}
 use Rattle.roundtrip_laws.proofs.Derived.{end-derived, mark-derived}
-use Rattle.roundtrip_laws.proofs.LevelRead.{Given, on-calendar, in-season, long-year, level-given}
+use Rattle.roundtrip_laws.proofs.Stored.{calendar-written}
+use Rattle.roundtrip_laws.proofs.LevelRead.{level-given}
 
 -- ---- the digits of a year
 
@@ -229,14 +224,6 @@ module _ (d : Date) (w : InLevel (d .value)) where
       ∙ ap leveled (level-exact b d .1 (text-derived d w))
 
 -- ---- such a Date has a text
-
-calendar-written : (y : ℤ) (m : OptionMonth) (d : OptionDay) → PartsIn y m d → tooLarge (monthParts m d) ≡ false
-unfolding monthParts dayParts tooLarge pick
-calendar-written y NoMonth NoDay w = refl
-calendar-written y NoMonth (SomeDay d) w = absurd w
-calendar-written y (SomeMonth m) NoDay w = rw (ne-eqb (m .0) 255 (λ (e : m .0 ≡ 255). omega arith))
-calendar-written y (SomeMonth m) (SomeDay d) w =
-    rw (ne-eqb (m .0) 255 (λ (e : m .0 ≡ 255). omega (arith, w .0)), ne-eqb (d .0) 255 (λ (e : d .0 ≡ 255). omega (arith, w .1, length-most (m .0) y)))
 
 end-written : (d : Datetime) → LevelIn d → levelEndPanics d ≡ false
 unfolding levelEndPanics endPanics partsOf monthParts tooLarge pick

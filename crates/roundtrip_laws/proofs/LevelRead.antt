@@ -1,36 +1,22 @@
 -- What the reader of level one accepts: by derivation, and what each end of it is. Assumes nothing.
 use mathlib.Core.Path.{_≡_, refl, sym, ap, _∙_}
 use mathlib.Core.Bool.{true, false, false≢true}
-use mathlib.Core.List.{List, [], _∷_}
+use mathlib.Core.List.{List}
 use mathlib.Core.Logic.{_↔_}
 use Prim.Native.Nat.{ℕ, zero, suc, _+_, _-_, _^_, _≤_, _<_}
 use native.Mathlib.Nat.{pow-succ', add-suc}
 use native.Mathlib.Omega.{arith}
 use lib.IntN.{ℤ, natAbs}
-use lib.ListN.{take, drop}
-use Rattle.chars.specs.Classes.{isAdmitted}
-use Rattle.chars.specs.declared.Decoded.{Decoded}
-use Rattle.chars.specs.declared.Decoded.the-variants.{Char, Bad, End}
-use Rattle.chars.proofs.Cases.{by-test}
 use Rattle.refusals.specs.declared.Kind.the-variants.{NotLevelOne}
-use Rattle.refusals.specs.Refusal.{number, fileSpan, refusal}
-use Rattle.chunks.specs.declared.Checked.{Checked}
-use Rattle.chunks.specs.declared.Checked.the-variants.{Clean, Faulty}
-use Rattle.chunks.specs.Chunks.{Chunk, chunksOf, fits, isShort}
-use Rattle.chunks.specs.Characters.{characters}
-use Rattle.chunks.specs.Check.{faultIn, orElse, faultOf, checked}
+use Rattle.refusals.specs.Refusal.{fileSpan, refusal}
+use Rattle.chunks.specs.declared.Checked.the-variants.{Clean}
+use Rattle.chunks.specs.Check.{checked}
 use Rattle.chunks.specs.Format.{formatted}
-use Rattle.dates.specs.declared.OptionMonth.the-variants.{NoMonth}
-use Rattle.dates.specs.declared.OptionDay.the-variants.{NoDay}
-use Rattle.dates.specs.declared.OptionTime.the-variants.{NoTime}
-use Rattle.dates.specs.declared.OptionSeason.{OptionSeason}
 use Rattle.dates.specs.declared.Datetime.{Datetime}
 use Rattle.dates.specs.declared.DateValue.{DateValue}
 use Rattle.dates.specs.declared.DateValue.the-variants.{At, After, Before, Between}
 use Rattle.dates.specs.declared.Date.{Date}
-use Rattle.dates.specs.Value.{datetime, seasonOf, isSeason, hasSeason, anySeason}
-use Rattle.points.proofs.Accepted.{Dated}
-use Rattle.refusals.specs.declared.ReadDate.{ReadDate}
+use Rattle.dates.specs.Value.{isSeason, hasSeason, anySeason}
 use Rattle.refusals.specs.declared.ReadDate.the-variants.{Accepted, Refused}
 use Rattle.strict.specs.declared.Matched.{Matched}
 use Rattle.strict.specs.declared.Matched.the-variants.{Strict, NotStrict as NoMatch}
@@ -42,53 +28,21 @@ use Rattle.strict.proofs.Level.{level-exact, level-refused, strict-level}
 use Rattle.reading_laws.specs.Field.{onClean, leveled, parsedLevelOne, parsedStrict}
 use Rattle.dates.specs.Ends.{EachEnd}
 use Rattle.writer.proofs.Pieces.{first-false, second-false}
-use Rattle.roundtrip_laws.proofs.Accepted.{AllDated}
-use Rattle.roundtrip_laws.proofs.Agrees.{derivation, strict-clean-list, strict-read}
+use Rattle.roundtrip_laws.specs.Level.{Given, on-calendar, in-season, long-year, Alone, ShortYear}
+use Rattle.roundtrip_laws.specs.Domain.{AllDated}
+use Rattle.roundtrip_laws.proofs.StrictRead.{Fault, bad-utf8, unsupported, bad-chunks, too-long, clean-accepts, clean-refuses, strict-accepts}
 use Rattle.roundtrip_laws.proofs.Strictly.{negated, year-in, point-dated, unknown-dated}
 
 -- ---- accepted and refused, exactly
 
--- the faults of a list have the numbers 10, 11, 15 and 16
-abbrev Early : Checked → Type 0
-Early Clean = Unit {0}
-Early (Faulty e) = number (e .kind) ≤ 16
-
-fault-early : (p : ℕ) (l : List Decoded) → Early (faultIn p l)
-unfolding faultIn refusal
-fault-early p [] = tt
-fault-early p (Char c n ∷ l) = by-test Early (isAdmitted c) (λ _. fault-early (p + n) l) (λ _. omega arith)
-fault-early p (Bad ∷ l) = omega arith
-fault-early p (End ∷ l) = tt
-
-else-early : (c d : Checked) → Early c → Early d → Early (orElse c d)
-unfolding orElse
-else-early Clean d h k = k
-else-early (Faulty e) d h k = h
-
-chunks-early : (p : ℕ) (b : List ℕ) (cs : List Chunk) → Early (faultOf p b cs)
-unfolding faultOf
-chunks-early p b [] = tt
-chunks-early p b (c ∷ cs) = else-early _ _ (fault-early p (characters (take (c .len) b))) (chunks-early (p + c .len) (drop (c .len) b) cs)
-
-checked-early : (b table : List ℕ) → Early (checked b table)
-unfolding checked refusal
-checked-early b table =
-    by-test Early (fits b table) (λ _. by-test Early (isShort b table) (λ _. chunks-early 0 b (chunksOf table)) (λ _. omega arith)) (λ _. omega arith)
-
--- the number of a refusal; 0 for a Date
-abbrev told : ReadDate → ℕ
-told (Accepted d) = 0
-told (Refused e) = number (e .kind)
-
-clean-accepts : (c : Checked) {r : ReadDate} {d : Date} → onClean c r ≡ Accepted d → (c ≡ Clean) × (r ≡ Accepted d)
-unfolding onClean
-clean-accepts Clean e = (refl, e)
-clean-accepts (Faulty x) e = let z : _≡_ {A = ℕ} 0 1 = cc in absurd (omega arith)
-
-clean-refuses : (c : Checked) {r : ReadDate} → Early c → onClean c r ≡ Refused (refusal NotLevelOne (fileSpan 0 0)) → (c ≡ Clean) × (r ≡ Refused (refusal NotLevelOne (fileSpan 0 0)))
-unfolding onClean refusal
-clean-refuses Clean h e = (refl, e)
-clean-refuses (Faulty x) h e = let z : number (x .kind) ≡ 23 = ap told e in absurd (omega arith)
+no-fault : Fault 23 → ⊥
+no-fault f = go f refl
+  where
+    go : {n : ℕ} → Fault n → n ≡ 23 → ⊥
+    go bad-utf8 e = omega arith
+    go unsupported e = omega arith
+    go bad-chunks e = omega arith
+    go too-long e = omega arith
 
 matched-is : (m : Matched) {d : Date} → leveled m ≡ Accepted d → m ≡ Strict d
 unfolding leveled
@@ -112,7 +66,7 @@ level-accepts b table d = (
 pub level-refuses : (b table : List ℕ) → (parsedLevelOne b table ≡ Refused (refusal NotLevelOne (fileSpan 0 0))) ↔ ((checked b table ≡ Clean) × ((d : Date) → LevelText (formatted b table) d → ⊥))
 unfolding parsedLevelOne onClean leveled
 level-refuses b table = (
-  λ e. let p = clean-refuses (checked b table) {r = leveled (level (formatted b table))} (checked-early b table) e in (p .0, level-refused (formatted b table) .0 (unmatched-is (level (formatted b table)) (p .1))),
+  λ e. let p = clean-refuses b table {r = leveled (level (formatted b table))} NotLevelOne no-fault e in (p .0, level-refused (formatted b table) .0 (unmatched-is (level (formatted b table)) (p .1))),
   λ (p : (checked b table ≡ Clean) × ((d : Date) → LevelText (formatted b table) d → ⊥)). rw (p .0, level-refused (formatted b table) .1 (p .1)),
 )
 
@@ -120,12 +74,6 @@ pub level-derivation : (b table : List ℕ) {d : Date} → parsedLevelOne b tabl
 level-derivation b table {d} e = level-accepts b table d .0 e .1
 
 -- ---- what an end is
-
--- as it is read: of the calendar and perhaps with a time, a season of a year, or a long year
-pub data Given : Datetime → Type 0 where
-  on-calendar : {d : Datetime} → Dated d → Given d
-  in-season : {y : ℤ} {s : OptionSeason} → natAbs y < 10000 → isSeason s ≡ true → Given (seasonOf y s)
-  long-year : {y : ℤ} → 10000 ≤ natAbs y → natAbs y < 1000000000 → Given (datetime y NoMonth NoDay NoTime)
 
 season-there : (n : ℕ) → isSeason (seasonAt n) ≡ true
 unfolding seasonAt
@@ -177,10 +125,6 @@ each-end f (After a) w = f a w
 each-end f (Before a) w = f a w
 each-end f (Between a b) w = (f a (w .0), f b (w .1))
 
--- a season has no month, no day and no time beside it
-abbrev pub Alone : Datetime → Type 0
-Alone a = hasSeason a ≡ true → (a .month ≡ NoMonth) × (a .day ≡ NoDay) × (a .time ≡ NoTime)
-
 given-alone : (a : Datetime) → Given a → Alone a
 given-alone a (on-calendar w) e = absurd (false≢true (sym (ap isSeason (w .unseasoned)) ∙ e))
 given-alone a (in-season h s) e = (refl, refl, refl)
@@ -193,11 +137,7 @@ season-alone b table {d} e = each-end given-alone (d .value) (level-given b tabl
 
 -- what the strict reader accepts is accepted with the same Date
 pub strict-accepted : (b table : List ℕ) {d : Date} → parsedStrict b table ≡ Accepted d → parsedLevelOne b table ≡ Accepted d
-strict-accepted b table {d} e = level-accepts b table d .1 (strict-clean-list b table e, strict-level (derivation b table e))
-
--- a year of at most four digits
-abbrev pub ShortYear : Datetime → Type 0
-ShortYear a = natAbs (a .year) < 10000
+strict-accepted b table {d} e = let p = strict-accepts b table d .0 e in level-accepts b table d .1 (p .0, strict-level (p .1))
 
 point-strict : {s : List ℕ} {a : Datetime} → LevelPoint s a → hasSeason a ≡ false → ShortYear a → Point s a
 point-strict (strictly p) e h = p
@@ -216,4 +156,4 @@ text-strict (text v m) e h = text (value-strict v e h) m
 
 -- what is accepted without a season and with years of at most four digits, the strict reader accepts alike
 pub accepted-strict : (b table : List ℕ) {d : Date} → parsedLevelOne b table ≡ Accepted d → anySeason (d .value) ≡ false → EachEnd ShortYear (d .value) → parsedStrict b table ≡ Accepted d
-accepted-strict b table {d} e q h = strict-read b table (level-accepts b table d .0 e .0) (text-strict (level-derivation b table e) q h)
+accepted-strict b table {d} e q h = let p = level-accepts b table d .0 e in strict-accepts b table d .1 (p .0, text-strict (p .1) q h)

@@ -1,4 +1,5 @@
 pub mod Bytes
+pub mod Letters
 pub mod Points
 pub mod Values
 pub mod Trims
@@ -12,10 +13,14 @@ pub mod Fields
 pub mod Three
 pub mod Accepted
 pub mod Unknown
+pub mod StrictRead
 pub mod Agrees
 pub mod Strictly
+pub mod NoTime
+pub mod Days
 pub mod Narrow
 pub mod Theorems
+pub mod Stored
 pub mod LevelRead
 pub mod LevelBack
 pub mod Seasons

@@ -19,7 +19,7 @@ use Rattle.dates.specs.declared.Date.{Date}
 use Rattle.dates.specs.Domain.{PartsIn}
 use Rattle.dates.specs.Value.{isSeason}
 use Rattle.dates.proofs.Lengths.{length-most}
-use Rattle.points.proofs.Accepted.{Dated}
+use Rattle.points.specs.Accepted.{Dated}
 use Rattle.fields.proofs.Named.{MonthBelow}
 use Rattle.fields.proofs.Ranges.{DayBelow}
 use Rattle.refusals.specs.declared.ReadDate.the-variants.{Accepted}
@@ -28,11 +28,13 @@ use Rattle.reading_laws.specs.Fields.{threeFields}
 use Rattle.reading_laws.proofs.Stored.{FieldsIn, fields, three-in}
 use Rattle.writer.specs.Level.{levelText}
 use Rattle.writer.specs.Sizes.{MonthUnder, DayUnder, Narrow, NarrowEnds, LevelNarrow, narrow, seasoned, long}
-use Rattle.writer.proofs.Levels.{level-short}
-use Rattle.roundtrip_laws.specs.Domain.{ShortMonthRange, days-xx}
+use Rattle.writer.proofs.Levels.{level-short, LevelNarrow, narrow, seasoned, long}
+use Rattle.roundtrip_laws.specs.Domain.{ShortMonthRange, days-xx, AllDated}
 use Rattle.roundtrip_laws.proofs.Accepted.{AllDated, accepted-known}
+use Rattle.writer.proofs.Bounds.{MonthUnder, DayUnder, Narrow, NarrowEnds}
+use Rattle.roundtrip_laws.specs.Level.{Given, on-calendar, in-season, long-year}
 use Rattle.roundtrip_laws.proofs.Strictly.{strict-dated}
-use Rattle.roundtrip_laws.proofs.LevelRead.{Given, on-calendar, in-season, long-year, level-given, each-end}
+use Rattle.roundtrip_laws.proofs.LevelRead.{level-given, each-end}
 
 -- a date of the calendar
 parts-narrow : (y : ℤ) (m : OptionMonth) (d : OptionDay) → PartsIn y m d → MonthUnder 99 m × DayUnder 99 d

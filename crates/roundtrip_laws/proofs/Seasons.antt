@@ -9,13 +9,13 @@ use Rattle.dates.specs.declared.DateValue.{DateValue}
 use Rattle.dates.specs.declared.DateValue.the-variants.{At, After, Before, Between}
 use Rattle.dates.specs.declared.Date.{Date}
 use Rattle.dates.specs.Value.{isSeason, hasSeason, anySeason}
-use Rattle.points.proofs.Accepted.{Dated}
+use Rattle.points.specs.Accepted.{Dated}
 use Rattle.refusals.specs.declared.ReadDate.the-variants.{Accepted}
 use Rattle.reading_laws.specs.Field.{parsed, parsedStrict}
 use Rattle.reading_laws.specs.Fields.{threeFields}
 use Rattle.reading_laws.proofs.Stored.{FieldsIn, fields, three-in}
-use Rattle.roundtrip_laws.specs.Domain.{ShortMonthRange, days-xx}
-use Rattle.roundtrip_laws.proofs.Accepted.{AllDated, accepted-known}
+use Rattle.roundtrip_laws.specs.Domain.{AllDated, ShortMonthRange, days-xx}
+use Rattle.roundtrip_laws.proofs.Accepted.{accepted-known}
 use Rattle.roundtrip_laws.proofs.Strictly.{strict-dated}
 
 end-none : (d : Datetime) → Dated d → hasSeason d ≡ false

@@ -2,10 +2,12 @@
 -- survives writing and strict rereading. By derivation.
 -- Assumes nothing.
 use mathlib.Core.Path.{_≡_, refl}
+use mathlib.Core.Bool.{true, false}
 use mathlib.Core.List.{List}
 use Prim.Native.Nat.{ℕ, zero, suc, _<_}
 use native.Mathlib.Omega.{arith}
-use lib.Dec.{lit<}
+use borrow.Author.Tests.{le-leb}
+use lib.Dec.{leb, lit<}
 use lib.IntN.{ℤ, pos, negℤ, natAbs}
 use Rattle.dates.specs.declared.OptionMonth.{OptionMonth}
 use Rattle.dates.specs.declared.OptionMonth.the-variants.{NoMonth}
@@ -15,16 +17,19 @@ use Rattle.dates.specs.declared.OptionTime.{OptionTime}
 use Rattle.dates.specs.declared.Datetime.{Datetime}
 use Rattle.dates.specs.declared.DateValue.{DateValue}
 use Rattle.dates.specs.declared.Date.{Date}
+use Rattle.dates.specs.declared.OptionOffset.{OptionOffset}
+use Rattle.dates.specs.Clocks.{offsetIn, zoneIn, clockIn, dayBesideMonth, badTime, hasBadTime}
+use Rattle.dates.specs.Time.{inRange}
 use Rattle.dates.specs.Domain.{PartsIn}
 use Rattle.dates.specs.Value.{month, day}
 use Rattle.dates.proofs.Months.{some-day}
-use Rattle.points.proofs.Accepted.{Dated}
+use Rattle.points.specs.Accepted.{Dated}
 use Rattle.refusals.specs.declared.ReadDate.the-variants.{Accepted}
-use Rattle.strict.specs.Grammar.{Year, dddd, -dddd, field, no-day, -dd, InYear, no-month, -mm, Point, point, lastDay, Unknown, ddXX, dddX, dddd-XX, dddd-XX-XX, dddd-mm-XX, Value, alone, between, after, before, unknown, Text, text}
+use Rattle.strict.specs.Grammar.{Year, dddd, -dddd, Field, field, Zone, no-zone, ahead, behind, Clock, no-time, hh:mm:ss, no-day, -dd, InYear, no-month, -mm, Point, point, lastDay, Unknown, ddXX, dddX, dddd-XX, dddd-XX-XX, dddd-mm-XX, Value, alone, between, after, before, unknown, Text, text}
 use Rattle.reading_laws.specs.Field.{parsedStrict}
-use Rattle.roundtrip_laws.specs.Domain.{InDomain, Untimed}
-use Rattle.roundtrip_laws.proofs.Agrees.{derivation}
-use Rattle.roundtrip_laws.proofs.Accepted.{AllDated, dated, in-domain}
+use Rattle.roundtrip_laws.specs.Domain.{AllDated, InDomain, Untimed}
+use Rattle.roundtrip_laws.proofs.StrictRead.{derivation}
+use Rattle.roundtrip_laws.proofs.Accepted.{dated, in-domain}
 
 pub negated : (n : ℕ) → natAbs (negℤ (pos n)) ≡ n
 negated zero = refl
@@ -39,8 +44,31 @@ parts-in no-month = tt
 parts-in (-mm (field m h) no-day) = omega arith
 parts-in (-mm (field m h) (-dd (field d k) t)) = (omega arith, omega arith)
 
+-- a field's number is at most the last one
+field-in : {c last n : ℕ} {s : List ℕ} → Field c 0 last s n → leb n last ≡ true
+field-in {last = last} (field n h) = le-leb n last (omega (arith, h))
+
+zone-in : {s : List ℕ} {o : OptionOffset} → Zone s o → zoneIn o ≡ true
+unfolding zoneIn offsetIn
+zone-in no-zone = refl
+zone-in Zone.z = refl
+zone-in (ahead h m) = rw (field-in h, field-in m)
+zone-in (behind h m) = rw (field-in h, field-in m)
+
+clock-in : {s : List ℕ} {c : OptionTime} → Clock s c → badTime true c ≡ false
+unfolding badTime clockIn inRange
+clock-in no-time = refl
+clock-in (hh:mm:ss h m c o) = rw (field-in h, field-in m, field-in c, zone-in o)
+
+time-in : {y : ℤ} {s : List ℕ} {m : OptionMonth} {d : OptionDay} {c : OptionTime} → InYear y s m d c → badTime (dayBesideMonth m d) c ≡ false
+unfolding dayBesideMonth badTime
+time-in no-month = refl
+time-in (-mm f no-day) = refl
+time-in (-mm f (-dd g c)) = clock-in c
+
 pub point-dated : {s : List ℕ} {a : Datetime} → Point s a → Dated a
-point-dated (point y p) = record { year-in = year-in y; parts-in = parts-in p; unseasoned = refl }
+unfolding hasBadTime
+point-dated (point y p) = record { year-in = year-in y; parts-in = parts-in p; time-in = time-in p; unseasoned = refl }
 
 pub unknown-dated : {s : List ℕ} {v : DateValue} → Unknown s v → AllDated v
 unfolding lastDay

@@ -4,28 +4,37 @@ use mathlib.Core.Bool.{Bool, false}
 use mathlib.Core.List.{List}
 use mathlib.Core.Logic.{_⊎_}
 use Prim.Native.Nat.{ℕ}
+use Prim.Native.Char.{code}
 use Rattle.refusals.specs.declared.Kind.the-variants.{DayOutOfRange}
 use Rattle.refusals.specs.Refusal.{fileSpan, refusal}
 use Rattle.refusals.specs.Offset.{textRefusal, offsetSecond}
+use Rattle.chunks.specs.declared.Checked.the-variants.{Clean}
+use Rattle.chunks.specs.Check.{checked}
 use Rattle.chunks.specs.Format.{formatted}
+use Rattle.chunks.specs.Upper.{uppercase}
 use Rattle.dates.specs.declared.Datetime.{Datetime}
 use Rattle.dates.specs.declared.DateValue.{DateValue}
 use Rattle.dates.specs.declared.Date.{Date}
 use Rattle.dates.specs.Domain.{EndIn}
 use Rattle.dates.specs.Value.{fromDatetime}
 use Rattle.refusals.specs.declared.ReadDate.the-variants.{Accepted, Refused}
+use Rattle.datefield.specs.Text.{trimmed, unmarked}
 use Rattle.datefield.specs.Value.{marked}
 use Rattle.reading_laws.specs.Field.{parsed, strictly, parsedStrict}
 use Rattle.reading_laws.proofs.Entries.{strict-clean}
 use Rattle.writer.specs.Texts.{dateText}
 use Rattle.writer.specs.Fields.{endLines}
-use Rattle.roundtrip_laws.specs.Domain.{InDomain, Untimed, ShortMonthRange, ShortText, oneChunk}
+use Rattle.roundtrip_laws.specs.Domain.{InDomain, Untimed, ShortMonthRange, ShortText, oneChunk, daysUpto}
+use Rattle.roundtrip_laws.specs.Days.{DaysText}
 use Rattle.roundtrip_laws.specs.Fields.{linesOf, readBack}
+use Rattle.roundtrip_laws.specs.Letters.{NoByte, NoT, NoX}
 use Rattle.roundtrip_laws.proofs.Whole.{value-back, known}
 use Rattle.roundtrip_laws.proofs.Derived.{matched}
 use Rattle.roundtrip_laws.proofs.Marks.{plain-list, same-text, parsed-marked}
 use Rattle.roundtrip_laws.proofs.Three as three
 use Rattle.roundtrip_laws.proofs.Accepted as accepted
+use Rattle.roundtrip_laws.proofs.NoTime as untimed
+use Rattle.roundtrip_laws.proofs.Days as days
 use Rattle.roundtrip_laws.proofs.Short as short
 use Rattle.roundtrip_laws.proofs.Agrees as both
 use Rattle.roundtrip_laws.proofs.Strictly as strictly-read
@@ -58,6 +67,22 @@ fields-back = three.fields-back
 pub accepted-in : (b table : List ℕ) {d : Date} → parsed b table ≡ Accepted d → Untimed (d .value) → InDomain (d .value) ⊎ ShortMonthRange (d .value)
 accepted-in b table e t = accepted.accepted-in b table e t
 
+-- A text with neither T nor t, if the ported reader accepts it, gives a Date without a time,
+pub no-t : (b table : List ℕ) {d : Date} → parsed b table ≡ Accepted d → NoT (formatted b table) → Untimed (d .value)
+no-t b table e h = untimed.no-t b table e h
+
+-- so one of the domain, or such a range,
+pub no-t-in : (b table : List ℕ) {d : Date} → parsed b table ≡ Accepted d → NoT (formatted b table) → InDomain (d .value) ⊎ ShortMonthRange (d .value)
+no-t-in b table e h = accepted-in b table e (no-t b table e h)
+
+-- and without an X or x in it no such range, but one of the domain
+pub no-x-in : (b table : List ℕ) {d : Date} → parsed b table ≡ Accepted d → NoT (formatted b table) → NoX (formatted b table) → InDomain (d .value)
+no-x-in b table {d} e h k = accepted.in-domain (d .value) (accepted.no-x b table e k) (no-t b table e h)
+
+-- Such a range is read from a text dddd-mm-XX alone, in upper case, trimmed and without its mark
+pub from-days : (b table : List ℕ) {d : Date} → parsed b table ≡ Accepted d → ShortMonthRange (d .value) → (y : ℕ) × (m : ℕ) × DaysText (unmarked (trimmed (uppercase (formatted b table)))) y m × (d .value ≡ daysUpto y m 30)
+from-days b table e k = days.from-days b table e k
+
 -- Such a range is not of the domain,
 pub short-out : {v : DateValue} → ShortMonthRange v → InDomain v → ⊥
 short-out r w = short.short-out r w
@@ -79,9 +104,17 @@ agrees b table e = both.agrees b table e
 pub short-differ : {s : List ℕ} {d e : Date} → ShortText s d e → d ≡ e → ⊥
 short-differ = both.short-differ
 
+-- and of a list without a fault that has such a text each reader says its own
+pub short-part : (b table : List ℕ) {d e : Date} → checked b table ≡ Clean → ShortText (formatted b table) d e → (parsedStrict b table ≡ Accepted d) × (parsed b table ≡ Accepted e)
+short-part b table c t = both.short-part b table c t
+
 -- What the strict reader accepts, of any chunk list, is a Date of the domain, if it has no time,
 pub strict-in : (b table : List ℕ) {d : Date} → parsedStrict b table ≡ Accepted d → Untimed (d .value) → InDomain (d .value)
 strict-in b table e t = strictly-read.strict-in b table e t
+
+-- which it has not if no T stands in the text,
+pub strict-no-t : (b table : List ℕ) {d : Date} → parsedStrict b table ≡ Accepted d → NoByte (code "T") (formatted b table) → Untimed (d .value)
+strict-no-t b table e h = untimed.strict-no-t b table e h
 
 -- so it survives writing and strict rereading
 pub strict-again : (b table : List ℕ) {d : Date} → parsedStrict b table ≡ Accepted d → Untimed (d .value) → (start end : ℕ) → parsedStrict (dateText d) (oneChunk (dateText d) start end) ≡ Accepted d

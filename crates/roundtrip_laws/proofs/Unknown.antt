@@ -191,7 +191,7 @@ unfolding lastDay
 last-is m n h = omega (arith, length-most m (pos n))
 
 module _ (span : FileSpan) where
-  days-said : (n m : ℕ) → n < 10000 → 1 + m ≤ 12 → value span (bytes (four n) ++ (0x2D ∷ bytes (two (1 + m)) ++ (0x2D ∷ 0x58 ∷ 0x58 ∷ []))) ≡ Read (daysUpto n m 30)
+  pub days-said : (n m : ℕ) → n < 10000 → 1 + m ≤ 12 → value span (bytes (four n) ++ (0x2D ∷ bytes (two (1 + m)) ++ (0x2D ∷ 0x58 ∷ 0x58 ∷ []))) ≡ Read (daysUpto n m 30)
   unfolding xRange days
   days-said n m h l =
       let f = from-start (bytes (four n) ++ (0x2D ∷ bytes (two (1 + m)) ++ (0x2D ∷ 0x58 ∷ 0x58 ∷ []))) in

@@ -4,6 +4,7 @@ use Prim.Native.Char.{code}
 use mathlib.Core.Path.{_≡_}
 use mathlib.Core.Bool.{Bool}
 use mathlib.Core.List.{List, [], _∷_, _++_}
+use mathlib.Core.Logic.{_⊎_}
 use lib.IntN.{pos}
 use lib.ListN.{length}
 use Rattle.dates.specs.declared.OptionTime.the-variants.{NoTime}
@@ -14,6 +15,7 @@ use Rattle.dates.specs.declared.Date.{Date}
 use Rattle.dates.specs.Calendar.{monthLength}
 use Rattle.dates.specs.Domain.{EndIn}
 use Rattle.dates.specs.Value.{datetime, date, month, day}
+use Rattle.points.specs.Accepted.{Dated}
 use Rattle.strict.specs.Digits.{digits}
 use Rattle.strict.specs.Grammar.{Field, Mark}
 
@@ -39,6 +41,17 @@ Untimed (Between a b) = (a .time ≡ NoTime) × (b .time ≡ NoTime)
 pub data ShortMonthRange : DateValue → Type 0 where
   days-xx : (y m : ℕ) → y < 10000 → m < 12 → monthLength m (pos y) < 31
       → ShortMonthRange (Between (datetime (pos y) (month m) (day 0) NoTime) (datetime (pos y) (month m) (day 30) NoTime))
+
+-- every end is a date of the calendar, with a good time or none
+abbrev pub AllDated : DateValue → Type 0
+AllDated (At a) = Dated a
+AllDated (After a) = Dated a
+AllDated (Before a) = Dated a
+AllDated (Between a b) = Dated a × Dated b
+
+-- every Date that the ported reader gives: such a one, or the one exception
+abbrev pub Known : DateValue → Type 0
+Known v = AllDated v ⊎ ShortMonthRange v
 
 -- the days of a month from the first to one of them
 abbrev pub daysUpto : ℕ → ℕ → ℕ → DateValue

@@ -1,3 +1,6 @@
 pub mod Domain
 pub mod Fields
 pub mod Level
+pub mod Stored
+pub mod Letters
+pub mod Days

@@ -6,16 +6,13 @@ use Prim.Native.Nat.{ℕ, zero, suc, _+_, _-_, _*_, _^_, _≤_, _<_}
 use native.Mathlib.Omega.{arith}
 use borrow.Author.Tests.{ltb-false, eqb-false}
 use lib.IntN.{pos}
+use lib.ListN.{length, drop, length-take}
 use Rattle.chars.proofs.Cases.{by-test}
 use Rattle.scanner.specs.declared.Class.the-variants.{Whitespace, AsciiDigit, Is}
 use Rattle.scanner.specs.Scan.{eatWhile, part}
 use Rattle.scanner.proofs.Parts.{part-short}
 use Rattle.refusals.specs.declared.TextRefusal.{TextRefusal}
-use Rattle.dates.specs.declared.OptionMonth.the-variants.{NoMonth}
-use Rattle.dates.specs.declared.OptionDay.the-variants.{NoDay}
-use Rattle.dates.specs.declared.OptionTime.the-variants.{NoTime}
 use Rattle.dates.specs.declared.Datetime.{Datetime}
-use Rattle.dates.specs.Value.{datetime, month as stored, day}
 use Rattle.numbers.specs.declared.ParsedNumber.{ParsedNumber}
 use Rattle.numbers.specs.declared.ParsedNumber.the-variants.{Value, NoValue}
 use Rattle.numbers.specs.Parse.{parse}
@@ -24,13 +21,8 @@ use Rattle.xranges.specs.declared.ReadHyphen.{ReadHyphen}
 use Rattle.xranges.specs.declared.ReadHyphen.the-variants.{Behind, NoHyphen}
 use Rattle.xranges.specs.declared.ReadRange.{ReadRange}
 use Rattle.xranges.specs.declared.ReadRange.the-variants.{Range, NoRange}
+use Rattle.xranges.specs.Accepted.{XRange, some-years, all-months, all-days}
 use Rattle.xranges.specs.Range.{getHyphen, onHyphen, onValue, years, months, days, secondRun, secondAt, behindMonths, endOfDays, dayRun, behindMonth, monthRun, month, monthsRun, behindYear, yearRun, digitRun, rangeFrom, rangeDates}
-
--- the first and the last date of a range: two years; January and December of a year; the first and the 31st of a month, whatever its length
-pub data XRange : Datetime → Datetime → Type 0 where
-  some-years : {y z : ℕ} → y < 10000 → z < 10000 → XRange (datetime (pos y) NoMonth NoDay NoTime) (datetime (pos z) NoMonth NoDay NoTime)
-  all-months : {y : ℕ} → y < 10000 → XRange (datetime (pos y) (stored 0) NoDay NoTime) (datetime (pos y) (stored 11) NoDay NoTime)
-  all-days : {y m : ℕ} → y < 10000 → m < 12 → XRange (datetime (pos y) (stored m) (day 0) NoTime) (datetime (pos y) (stored m) (day 30) NoTime)
 
 data Good : ReadRange → Type 0 where
   good : {a b : Datetime} → XRange a b → Good (Range a b)
