@@ -18,6 +18,7 @@ ghost use Rattle.dates.specs.declared.DateValue.the-variants.{Between};
 ghost use Rattle.fields.specs.Month.{monthField};
 ghost use Rattle.fields.specs.Day.{dayField};
 ghost use Rattle.reading_laws.specs.Field as field;
+ghost use Rattle.reading_laws.specs.Lent.{lent, optional, three};
 ghost use Rattle.reading_laws.specs.Fields as fieldset;
 ghost use Rattle.reader.specs.Once as once;
 ghost use Rattle.reader.specs.Readable.{Readable, Small};
@@ -239,7 +240,7 @@ fn check_fields(
     day: &[u8],
     day_table: &[u64],
 ) -> Checked
-    ensures { λ r. ⌜ r ≡ fieldset.fieldsChecked (checked (now (year .entry)) (now («year_table» .entry))) «has_month» (checked (now (month .entry)) (now («month_table» .entry))) «has_day» (checked (now (day .entry)) (now («day_table» .entry))) ⌝ }
+    ensures { λ r. ⌜ r ≡ fieldset.fieldsChecked (three (lent (now (year .entry)) (now («year_table» .entry))) (optional «has_month» (now (month .entry)) (now («month_table» .entry))) (optional «has_day» (now (day .entry)) (now («day_table» .entry)))) ⌝ }
 {
     match chunks::check(year, year_table) {
         Checked::Clean => {
@@ -260,7 +261,7 @@ fn check_parts(
     day: &[u8],
     day_table: &[u64],
 ) -> Checked
-    ensures { λ r. ⌜ r ≡ fieldset.partsChecked (checked (now (month .entry)) (now («month_table» .entry))) «has_day» (checked (now (day .entry)) (now («day_table» .entry))) ⌝ }
+    ensures { λ r. ⌜ r ≡ fieldset.partsChecked (lent (now (month .entry)) (now («month_table» .entry))) (optional «has_day» (now (day .entry)) (now («day_table» .entry))) ⌝ }
 {
     match chunks::check(month, month_table) {
         Checked::Clean => {
@@ -276,7 +277,7 @@ fn check_parts(
 // A year list that is clean, formatted into a buffer with room for it.
 fn year_of(bytes: &[u8], table: &[u64], buf: &mut [u8]) -> FieldYear
     requires { ⌜ Readable (now bytes) (now table) (length (now buf)) ⌝ }
-    ensures { λ r. ⌜ r ≡ fieldset.yearOf (now (bytes .entry)) (now (table .entry)) ⌝ }
+    ensures { λ r. ⌜ r ≡ fieldset.yearOf (lent (now (bytes .entry)) (now (table .entry))) ⌝ }
 {
     match chunks::format_verbatim(bytes, table, buf) {
         Formatted::Text(n) => moved_year(fields::get_year(&buf[..n]), chunks::span(table)),
@@ -312,7 +313,7 @@ fn month_text(s: &[u8]) -> Parts
 // A month list that is clean, without a day list.
 fn month_alone(bytes: &[u8], table: &[u64], buf: &mut [u8]) -> Parts
     requires { ⌜ Readable (now bytes) (now table) (length (now buf)) ⌝ }
-    ensures { λ r. ⌜ r ≡ fieldset.monthAlone (now (bytes .entry)) (now (table .entry)) ⌝ }
+    ensures { λ r. ⌜ r ≡ fieldset.monthAlone (lent (now (bytes .entry)) (now (table .entry))) ⌝ }
 {
     match chunks::format_verbatim(bytes, table, buf) {
         Formatted::Text(n) => month_text(&buf[..n]),
@@ -356,7 +357,7 @@ fn month_and_day(
 ) -> Parts
     requires { ⌜ Readable (now month) (now «month_table») (length (now buf)) ⌝ }
     requires { ⌜ Readable (now day) (now «day_table») (length (now buf)) ⌝ }
-    ensures { λ r. ⌜ r ≡ fieldset.monthAndDay (now (month .entry)) (now («month_table» .entry)) (now (day .entry)) (now («day_table» .entry)) ⌝ }
+    ensures { λ r. ⌜ r ≡ fieldset.monthAndDay (lent (now (month .entry)) (now («month_table» .entry))) (lent (now (day .entry)) (now («day_table» .entry))) ⌝ }
 {
     match month_of(month, month_table, buf) {
         ReadMonth::MonthRead { month: m, next: _ } => match day_of(day, day_table, buf) {
@@ -379,7 +380,7 @@ fn parts_of(
 ) -> Parts
     requires { ⌜ («has_month» ≡ true → Readable (now month) (now «month_table») (length (now buf))) ⌝ }
     requires { ⌜ («has_month» ≡ true → «has_day» ≡ true → Readable (now day) (now «day_table») (length (now buf))) ⌝ }
-    ensures { λ r. ⌜ r ≡ fieldset.partsOf «has_month» (now (month .entry)) (now («month_table» .entry)) «has_day» (now (day .entry)) (now («day_table» .entry)) ⌝ }
+    ensures { λ r. ⌜ r ≡ fieldset.partsOf (optional «has_month» (now (month .entry)) (now («month_table» .entry))) (optional «has_day» (now (day .entry)) (now («day_table» .entry))) ⌝ }
 {
     if has_month {
         if has_day {
@@ -418,7 +419,7 @@ fn read_fields(
     requires { ⌜ Readable (now year) (now «year_table») (length (now buf)) ⌝ }
     requires { ⌜ («has_month» ≡ true → Readable (now month) (now «month_table») (length (now buf))) ⌝ }
     requires { ⌜ («has_month» ≡ true → «has_day» ≡ true → Readable (now day) (now «day_table») (length (now buf))) ⌝ }
-    ensures { λ r. ⌜ r ≡ fieldset.readFields (now (year .entry)) (now («year_table» .entry)) «has_month» (now (month .entry)) (now («month_table» .entry)) «has_day» (now (day .entry)) (now («day_table» .entry)) ⌝ }
+    ensures { λ r. ⌜ r ≡ fieldset.readFields (three (lent (now (year .entry)) (now («year_table» .entry))) (optional «has_month» (now (month .entry)) (now («month_table» .entry))) (optional «has_day» (now (day .entry)) (now («day_table» .entry)))) ⌝ }
 {
     match year_of(year, year_table, buf) {
         FieldYear::YearIs(y) => {
@@ -472,7 +473,7 @@ fn read_clean(
     requires { ⌜ checked (now year) (now «year_table») ≡ Clean ⌝ }
     requires { ⌜ («has_month» ≡ true → checked (now month) (now «month_table») ≡ Clean) ⌝ }
     requires { ⌜ («has_month» ≡ true → «has_day» ≡ true → checked (now day) (now «day_table») ≡ Clean) ⌝ }
-    ensures { λ r. ⌜ r ≡ fieldset.readFields (now (year .entry)) (now («year_table» .entry)) «has_month» (now (month .entry)) (now («month_table» .entry)) «has_day» (now (day .entry)) (now («day_table» .entry)) ⌝ }
+    ensures { λ r. ⌜ r ≡ fieldset.readFields (three (lent (now (year .entry)) (now («year_table» .entry))) (optional «has_month» (now (month .entry)) (now («month_table» .entry))) (optional «has_day» (now (day .entry)) (now («day_table» .entry)))) ⌝ }
 {
     if are_small(year, year_table, month, month_table, day, day_table) {
         let mut small = [0u8; 64];
@@ -514,7 +515,7 @@ pub fn parse_three_fields(
     day: &[u8],
     day_table: &[u64],
 ) -> ReadDate
-    ensures { λ r. ⌜ r ≡ fieldset.threeFields (now (year .entry)) (now («year_table» .entry)) «has_month» (now (month .entry)) (now («month_table» .entry)) «has_day» (now (day .entry)) (now («day_table» .entry)) ⌝ }
+    ensures { λ r. ⌜ r ≡ fieldset.threeFields (three (lent (now (year .entry)) (now («year_table» .entry))) (optional «has_month» (now (month .entry)) (now («month_table» .entry))) (optional «has_day» (now (day .entry)) (now («day_table» .entry)))) ⌝ }
 {
     match check_fields(
         year,

@@ -10,13 +10,14 @@ use Rattle.chars.specs.Pick.{pick}
 use Rattle.refusals.specs.declared.Refusal.{Refusal}
 use Rattle.chunks.specs.declared.Checked.{Checked}
 use Rattle.chunks.specs.declared.Checked.the-variants.{Clean, Faulty}
-use Rattle.chunks.specs.Check.{checked, orElse}
+use Rattle.chunks.specs.Check.{orElse}
 use Rattle.dates.specs.declared.Datetime.{Datetime}
 use Rattle.dates.specs.declared.DateValue.the-variants.{After}
 use Rattle.dates.specs.declared.Date.{Date}
 use Rattle.refusals.specs.declared.ReadDate.{ReadDate}
 use Rattle.refusals.specs.declared.ReadDate.the-variants.{Accepted, Refused}
 use Rattle.reading_laws.specs.Field.{onClean}
+use Rattle.reading_laws.specs.Lent.{Three, checkOf}
 use Rattle.reading_laws.specs.Fields.{fieldsChecked, threeFields}
 use Rattle.sixfields.specs.Six.{blank, judged, endYearOf, single, unmarked, onThree, between, onEndYear, withEnd, sixFields}
 
@@ -31,21 +32,21 @@ between-refused a (Accepted d) h = absurd (not-both h)
 between-refused a (Refused f) h = h
 
 -- an end
-module _ (b table : List ℕ) (hm : Bool) (m mt : List ℕ) (hd : Bool) (d dt : List ℕ) where
+module _ (t : Three) where
   -- a fault of the year list is what three fields are refused for
-  faulty-refused : {f : Refusal} → checked b table ≡ Faulty f → threeFields b table hm m mt hd d dt ≡ Refused f
+  faulty-refused : {f : Refusal} → checkOf (t .year) ≡ Faulty f → threeFields t ≡ Refused f
   unfolding threeFields fieldsChecked orElse onClean
   faulty-refused c = rw c
 
-  judged-refused : (a : Datetime) (k : Checked) (w : Bool) {e : Refusal} → checked b table ≡ k → onEndYear (judged k w) (unmarked (After a)) (between a (threeFields b table hm m mt hd d dt)) ≡ Refused e → threeFields b table hm m mt hd d dt ≡ Refused e
+  judged-refused : (a : Datetime) (k : Checked) (w : Bool) {e : Refusal} → checkOf (t .year) ≡ k → onEndYear (judged k w) (unmarked (After a)) (between a (threeFields t)) ≡ Refused e → threeFields t ≡ Refused e
   unfolding judged onEndYear unmarked pick
   judged-refused a Clean true c h = absurd (not-both h)
   judged-refused a Clean false c h = between-refused a _ h
   judged-refused a (Faulty f) w c h = faulty-refused c ∙ h
 
-  end-refused : (a : Datetime) (has : Bool) {e : Refusal} → withEnd a has b table hm m mt hd d dt ≡ Refused e → threeFields b table hm m mt hd d dt ≡ Refused e
+  end-refused : (a : Datetime) (has : Bool) {e : Refusal} → withEnd a has t ≡ Refused e → threeFields t ≡ Refused e
   unfolding withEnd endYearOf unmarked pick
-  end-refused a true h = judged-refused a (checked b table) (blank b table) refl h
+  end-refused a true h = judged-refused a (checkOf (t .year)) (blank (t .year)) refl h
   end-refused a false h = absurd (not-both h)
 
 -- three fields that are refused, or what goes on behind them
@@ -55,15 +56,13 @@ either (Accepted d) go g h = inr (g (single (d .value)) h)
 either (Refused f) go g h = inl h
 
 -- Six fields.
-module _
-    (b table : List ℕ) (hm : Bool) (m mt : List ℕ) (hd : Bool) (d dt : List ℕ)
-    (he : Bool) (eb et : List ℕ) (hem : Bool) (em emt : List ℕ) (hed : Bool) (ed edt : List ℕ) {e : Refusal} where
+module _ (start : Three) (has : Bool) (end : Three) {e : Refusal} where
   -- what the start is refused for comes first
-  pub start-first : threeFields b table hm m mt hd d dt ≡ Refused e → sixFields b table hm m mt hd d dt he eb et hem em emt hed ed edt ≡ Refused e
+  pub start-first : threeFields start ≡ Refused e → sixFields start has end ≡ Refused e
   unfolding sixFields onThree
   start-first h = rw h
 
   -- and no refusal is new: each is what the start or else the end is refused for as three fields
-  pub none-new : sixFields b table hm m mt hd d dt he eb et hem em emt hed ed edt ≡ Refused e → (threeFields b table hm m mt hd d dt ≡ Refused e) ⊎ (threeFields eb et hem em emt hed ed edt ≡ Refused e)
+  pub none-new : sixFields start has end ≡ Refused e → (threeFields start ≡ Refused e) ⊎ (threeFields end ≡ Refused e)
   unfolding sixFields
-  none-new h = either (threeFields b table hm m mt hd d dt) _ (λ a k. end-refused eb et hem em emt hed ed edt a he k) h
+  none-new h = either (threeFields start) _ (λ a k. end-refused end a has k) h
