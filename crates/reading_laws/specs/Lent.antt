@@ -1,6 +1,6 @@
 -- Chunk lists as a caller lends them: one, one that may be absent, and three as the fields year, month and day.
 use Prim.Native.Nat.{ℕ}
-use mathlib.Core.Bool.{Bool, true, false}
+use mathlib.Core.Bool.{Bool, false}
 use mathlib.Core.List.{List, []}
 use Rattle.refusals.specs.declared.FileSpan.{FileSpan}
 use Rattle.chunks.specs.declared.Checked.{Checked}
