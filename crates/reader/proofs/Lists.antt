@@ -1,4 +1,4 @@
--- Three lists: what each call that formats one of them comes to, and what a check of all of them says.
+-- Three lists: the text of one that was formatted, and what a check of all of them says.
 -- Assumes nothing.
 use mathlib.Core.Path.{_≡_, refl, _∙_}
 use mathlib.Core.Bool.{true, false}
@@ -6,30 +6,19 @@ use mathlib.Core.List.{List}
 use Prim.Native.Nat.{ℕ}
 use Rattle.chars.specs.Pick.{pick}
 use Rattle.chunks.specs.declared.Checked.the-variants.{Clean}
-use Rattle.chunks.specs.Chunks.{chunksOf, spanOf}
 use Rattle.chunks.specs.Check.{checked}
 use Rattle.chunks.specs.Format.{formatted}
 use Rattle.chunks.specs.Answer.{textOf}
 use Rattle.chunks.proofs.Answers.{plain-as-is}
 use Rattle.chunks.proofs.Proper.{else-clean}
-use Rattle.fields.specs.Year.{getYear}
-use Rattle.reading_laws.specs.Lent.{Three, lent, checkOf}
-use Rattle.reading_laws.specs.Fields.{partsChecked, fieldsChecked, movedYear, yearOf, monthText, monthAlone}
+use Rattle.reading_laws.specs.Lent.{Three, checkOf}
+use Rattle.reading_laws.specs.Fields.{partsChecked, fieldsChecked}
 use Rattle.reader.specs.Readable.{Readable, Small}
 use Rattle.chunks.proofs.Buffers.{large-room, small-room}
 
 -- a text that was formatted as it is
 pub as-is : (b table : List ℕ) {t : List ℕ} → t ≡ textOf false b table → t ≡ formatted b table
 as-is b table e = e ∙ plain-as-is b table {u = false} refl
-
-module _ (b table : List ℕ) {t : List ℕ} (e : t ≡ textOf false b table) where
-  pub year-clean : movedYear (spanOf (chunksOf table)) (getYear t) ≡ yearOf (lent b table)
-  unfolding yearOf
-  year-clean = rw (as-is b table e)
-
-  pub month-clean : monthText t ≡ monthAlone (lent b table)
-  unfolding monthAlone
-  month-clean = rw (as-is b table e)
 
 -- a clean list, read with the large array, or a short one with the small one
 pub readable : (b table : List ℕ) → checked b table ≡ Clean → Readable b table 4224

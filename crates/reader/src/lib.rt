@@ -6,7 +6,7 @@
 ghost use mathlib.Core.Path.{_≡_};
 ghost use mathlib.Core.Bool.{true, false};
 ghost use Prim.Native.Nat.{_≤_};
-ghost use lib.ListN.{length};
+ghost use lib.ListN.{length, take};
 ghost use Rattle.chunks.specs.Chunks.{isShort};
 ghost use Rattle.chunks.specs.Answer.{roomOf};
 ghost use Rattle.chunks.specs.Chunks.{chunksOf, spanOf};
@@ -41,6 +41,7 @@ use reading_laws::Parts;
 use refusals::FileSpan;
 use refusals::Kind;
 use refusals::ReadDate;
+// not named below, but a `ReadMonth` holds one, and `month_text` hands it on
 use scanner::Cursor;
 use strict::Matched;
 
@@ -274,15 +275,26 @@ fn check_parts(
     }
 }
 
-// A year list that is clean, formatted into a buffer with room for it.
+// A list that is clean, formatted into a buffer with room for it: how many bytes of the buffer are its text.
+fn text_of(bytes: &[u8], table: &[u64], buf: &mut [u8]) -> usize
+    requires { ⌜ Readable (now bytes) (now table) (length (now buf)) ⌝ }
+    ensures { λ r. ⌜ r ≤ length (now (buf .exit)) ⌝ }
+    ensures { λ r. ⌜ take r (now (buf .exit)) ≡ formatted (now (bytes .entry)) (now (table .entry)) ⌝ }
+{
+    match chunks::format_verbatim(bytes, table, buf) {
+        Formatted::Text(n) => n,
+        // never: the list is clean, and the buffer has the room
+        Formatted::Refused(_) => 0,
+    }
+}
+
+// A year list that is clean.
 fn year_of(bytes: &[u8], table: &[u64], buf: &mut [u8]) -> FieldYear
     requires { ⌜ Readable (now bytes) (now table) (length (now buf)) ⌝ }
     ensures { λ r. ⌜ r ≡ fieldset.yearOf (lent (now (bytes .entry)) (now (table .entry))) ⌝ }
 {
-    match chunks::format_verbatim(bytes, table, buf) {
-        Formatted::Text(n) => moved_year(fields::get_year(&buf[..n]), chunks::span(table)),
-        Formatted::Refused(e) => FieldYear::NoFieldYear(e),
-    }
+    let n = text_of(bytes, table, buf);
+    moved_year(fields::get_year(&buf[..n]), chunks::span(table))
 }
 
 // A year; a refusal of it is moved by the span.
@@ -315,10 +327,8 @@ fn month_alone(bytes: &[u8], table: &[u64], buf: &mut [u8]) -> Parts
     requires { ⌜ Readable (now bytes) (now table) (length (now buf)) ⌝ }
     ensures { λ r. ⌜ r ≡ fieldset.monthAlone (lent (now (bytes .entry)) (now (table .entry))) ⌝ }
 {
-    match chunks::format_verbatim(bytes, table, buf) {
-        Formatted::Text(n) => month_text(&buf[..n]),
-        Formatted::Refused(e) => Parts::NoParts(e),
-    }
+    let n = text_of(bytes, table, buf);
+    month_text(&buf[..n])
 }
 
 // The month of a clean list.
@@ -326,14 +336,8 @@ fn month_of(bytes: &[u8], table: &[u64], buf: &mut [u8]) -> ReadMonth
     requires { ⌜ Readable (now bytes) (now table) (length (now buf)) ⌝ }
     ensures { λ r. ⌜ r ≡ monthField (formatted (now (bytes .entry)) (now (table .entry))) ⌝ }
 {
-    match chunks::format_verbatim(bytes, table, buf) {
-        Formatted::Text(n) => fields::month_field(&buf[..n]),
-        // never: the list is clean, and the buffer has the room
-        Formatted::Refused(_) => ReadMonth::MonthRead {
-            month: OptionMonth::NoMonth,
-            next: Cursor(0),
-        },
-    }
+    let n = text_of(bytes, table, buf);
+    fields::month_field(&buf[..n])
 }
 
 // The day of a clean list.
@@ -341,10 +345,8 @@ fn day_of(bytes: &[u8], table: &[u64], buf: &mut [u8]) -> ReadDayField
     requires { ⌜ Readable (now bytes) (now table) (length (now buf)) ⌝ }
     ensures { λ r. ⌜ r ≡ dayField (formatted (now (bytes .entry)) (now (table .entry))) (spanOf (chunksOf (now (table .entry)))) ⌝ }
 {
-    match chunks::format_verbatim(bytes, table, buf) {
-        Formatted::Text(n) => fields::day_field(&buf[..n], chunks::span(table)),
-        Formatted::Refused(e) => ReadDayField::NotGiven(e),
-    }
+    let n = text_of(bytes, table, buf);
+    fields::day_field(&buf[..n], chunks::span(table))
 }
 
 // A month list and a day list that are clean, read one after the other in the same buffer.
