@@ -74,7 +74,7 @@ unfolding lineBy readOf
 by-operation Ported f = narrow-short _ λ d e. parsed-narrow _ _ e
 by-operation Strict f = narrow-short _ λ d e. strict-narrow _ _ e
 by-operation LevelOne f = level-line-most 24 _ λ d e. level-narrow _ _ e
-by-operation ThreeFields f = narrow-short _ λ d e. three-narrow _ _ _ _ _ _ _ _ e
+by-operation ThreeFields f = narrow-short _ λ d e. three-narrow _ e
 by-operation Unknown f = bad-short
 
 frame-short : (f : List ℕ) → length (frameAnswer f) ≤ most (operationOf f)

@@ -73,7 +73,7 @@ unfolding lineBy readOf
 by-operation Ported f h = same-line _ λ d e. ported-none _ _ e
 by-operation Strict f h = same-line _ λ d e. strict-none _ _ e
 by-operation LevelOne f h = absurd (false≢true (sym h))
-by-operation ThreeFields f h = same-line _ λ d e. three-none _ _ _ _ _ _ _ _ e
+by-operation ThreeFields f h = same-line _ λ d e. three-none _ e
 by-operation Unknown f h = bad-line
 
 bad-by : (op : Operation) → lineBy op badFrame ≡ formerLine badFrame

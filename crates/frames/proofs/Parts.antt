@@ -16,6 +16,7 @@ use Rattle.hexes.specs.Hex.{isHex, bytesOf, half, decoded, decodedInto}
 use Rattle.hexes.proofs.Laws.{length-bytes}
 use Rattle.puts.specs.Answers.{Put}
 use Rattle.puts.proofs.Puts.{kept, both, at-front}
+use Rattle.reading_laws.specs.Lent.{lent, optional, three}
 use Rattle.reading_laws.specs.Fields.{threeFields}
 use Rattle.refusals.specs.declared.ReadDate.{ReadDate}
 use Rattle.answers.specs.Answer.{answerLine}
@@ -206,7 +207,7 @@ module _ {f : List ℕ} {ma da : ℕ} (w : Threefold f ma da) where
 
   pub there-read : {hm hd : Bool} {m d i j : ℕ} {y mr dr : List ℕ} → hm ≡ hasList f ma → hd ≡ hasList f da → m ≡ textStart hm ma → d ≡ textStart hd da
       → i ≡ rowLength hm → j ≡ rowLength hd → y ≡ rowAt f 2 → mr ≡ rowAt f (ma + 2) → dr ≡ rowAt f (da + 2)
-      → threeFields (take (ma - 12) (drop 12 f)) y hm (take (da - m) (drop m f)) (take i mr) hd (take (length f - d) (drop d f)) (take j dr) ≡ readOf ThreeFields f
+      → threeFields (three (lent (take (ma - 12) (drop 12 f)) y) (optional hm (take (da - m) (drop m f)) (take i mr)) (optional hd (take (length f - d) (drop d f)) (take j dr))) ≡ readOf ThreeFields f
   unfolding readOf
   there-read eh eg em ed ei ej ey er es =
       let t = are-there in

@@ -11,6 +11,7 @@ use Rattle.refusals.specs.declared.ReadDate.{ReadDate}
 use Rattle.refusals.specs.declared.ReadDate.the-variants.{Refused}
 use Rattle.hexes.specs.Hex.{isHex, bytesOf}
 use Rattle.reading_laws.specs.Field.{parsed, parsedStrict, parsedLevelOne}
+use Rattle.reading_laws.specs.Lent.{Optional, lent, optional, three}
 use Rattle.reading_laws.specs.Fields.{threeFields}
 use Rattle.answers.specs.Answer.{answerLine, levelLine}
 use Rattle.frames.specs.declared.Operation.{Operation}
@@ -29,6 +30,10 @@ monthAt f = listEnd f 1
 -- the place of the day list likewise
 abbrev pub dayAt : List ℕ → ℕ
 dayAt f = optionalEnd f (monthAt f)
+
+-- the list at such a place
+abbrev pub optionalAt : List ℕ → ℕ → Optional
+optionalAt f at = optional (hasList f at) (optionalText f at) (optionalTable f at)
 
 -- whether one list fills a frame exactly
 abbrev pub oneFills : List ℕ → Bool
@@ -56,9 +61,7 @@ readOf Ported f = parsed (listText f 1) (listTable f 1)
 readOf Strict f = parsedStrict (listText f 1) (listTable f 1)
 readOf LevelOne f = parsedLevelOne (listText f 1) (listTable f 1)
 readOf ThreeFields f =
-    threeFields (listText f 1) (listTable f 1)
-    (hasList f (monthAt f)) (optionalText f (monthAt f)) (optionalTable f (monthAt f))
-    (hasList f (dayAt f)) (optionalText f (dayAt f)) (optionalTable f (dayAt f))
+    threeFields (three (lent (listText f 1) (listTable f 1)) (optionalAt f (monthAt f)) (optionalAt f (dayAt f)))
 readOf Unknown f = badFrame
 
 -- the operation of a frame is its first byte; what is no frame is refused before all else

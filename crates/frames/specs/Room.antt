@@ -8,6 +8,7 @@ use lib.ListN.{length, take, drop}
 use Rattle.chars.specs.Pick.{pick}
 use Rattle.refusals.specs.declared.ReadDate.{ReadDate}
 use Rattle.reading_laws.specs.Field.{parsed, parsedStrict, parsedLevelOne}
+use Rattle.reading_laws.specs.Lent.{lent, optional, three}
 use Rattle.reading_laws.specs.Fields.{threeFields}
 use Rattle.frames.specs.declared.Unpacked.{Unpacked}
 use Rattle.frames.specs.declared.Operation.{Operation}
@@ -51,9 +52,11 @@ listBy op f = readBy op (listText f 1) (listTable f 1)
 -- three lists that stand one behind the other in two buffers, by the places behind each
 unfoldable pub readLists : List ℕ → List ℕ → Bool → Bool → Unpacked → Unpacked → Unpacked → ReadDate
 readLists text table hasMonth hasDay y m d =
-    threeFields (take (y .text) text) (take (y .table) table)
-    hasMonth (take (m .text - y .text) (drop (y .text) text)) (take (m .table - y .table) (drop (y .table) table))
-    hasDay (take (d .text - m .text) (drop (m .text) text)) (take (d .table - m .table) (drop (m .table) table))
+    threeFields
+    (three
+    (lent (take (y .text) text) (take (y .table) table))
+    (optional hasMonth (take (m .text - y .text) (drop (y .text) text)) (take (m .table - y .table) (drop (y .table) table)))
+    (optional hasDay (take (d .text - m .text) (drop (m .text) text)) (take (d .table - m .table) (drop (m .table) table))))
 
 -- whether a list that may be absent has no other chunk than one
 unfoldable pub isSingle : List ℕ → ℕ → Bool

@@ -6,6 +6,7 @@ ghost use mathlib.Core.Bool.{false};
 ghost use Prim.Native.Nat.{_<_};
 ghost use lib.ListN.{length};
 ghost use Rattle.reading_laws.specs.Field.{parsed, parsedStrict, parsedLevelOne};
+ghost use Rattle.reading_laws.specs.Lent.{lent, optional, three};
 ghost use Rattle.reading_laws.specs.Fields.{threeFields};
 ghost use Rattle.order.specs.Order.{partialCmp};
 ghost use Rattle.writer.specs.Texts.{dateText};
@@ -636,7 +637,7 @@ pub extern "C" fn knobstream_parse_three_fields(
     day_table: &[u64],
     answer: &mut [u64; 7],
 )
-    ensures { λ _. ⌜ Answered (now (answer .exit)) (plain.read (threeFields (now (year .entry)) (now («year_table» .entry)) (back.isSet «has_month») (now (month .entry)) (now («month_table» .entry)) (back.isSet «has_day») (now (day .entry)) (now («day_table» .entry)))) ⌝ }
+    ensures { λ _. ⌜ Answered (now (answer .exit)) (plain.read (threeFields (three (lent (now (year .entry)) (now («year_table» .entry))) (optional (back.isSet «has_month») (now (month .entry)) (now («month_table» .entry))) (optional (back.isSet «has_day») (now (day .entry)) (now («day_table» .entry)))))) ⌝ }
 {
     let read = reader::parse_three_fields(
         year,

@@ -167,10 +167,10 @@ fn parse_minutes_or_seconds(s: &[u8], c: Cursor) -> ReadPart
 fn parse_hyphen(s: &[u8], c: Cursor) -> ReadSeparator
     ensures { λ r. ⌜ r ≡ step.hyphenAt (now (s .entry)) (c .0) ⌝ }
 {
-    let a = scanner::eat_whitespace(s, c);
-    match scanner::eat_if(s, a, Class::Is(HYPHEN)) {
+    let pos = scanner::eat_whitespace(s, c);
+    match scanner::eat_if(s, pos, Class::Is(HYPHEN)) {
         EatIf::Past(next) => ReadSeparator::Passed(scanner::eat_while(s, next, Class::Is(HYPHEN))),
-        EatIf::Kept => ReadSeparator::Missing(refuse_text(Kind::InvalidFormat, c, a)),
+        EatIf::Kept => ReadSeparator::Missing(refuse_text(Kind::InvalidFormat, c, pos)),
     }
 }
 
@@ -178,10 +178,10 @@ fn parse_hyphen(s: &[u8], c: Cursor) -> ReadSeparator
 fn parse_colon(s: &[u8], c: Cursor) -> ReadSeparator
     ensures { λ r. ⌜ r ≡ step.colonAt (now (s .entry)) (c .0) ⌝ }
 {
-    let a = scanner::eat_whitespace(s, c);
-    match scanner::eat_if(s, a, Class::Is(COLON)) {
+    let pos = scanner::eat_whitespace(s, c);
+    match scanner::eat_if(s, pos, Class::Is(COLON)) {
         EatIf::Past(next) => ReadSeparator::Passed(next),
-        EatIf::Kept => ReadSeparator::Missing(refuse_text(Kind::InvalidFormat, c, a)),
+        EatIf::Kept => ReadSeparator::Missing(refuse_text(Kind::InvalidFormat, c, pos)),
     }
 }
 
@@ -191,16 +191,19 @@ fn parse_shift(s: &[u8], c: Cursor, positive: bool) -> ReadOffset
 {
     match parse_hour(s, c) {
         ReadPart::Stored { value: hours, next } => {
-            let a = scanner::eat_whitespace(s, next);
-            if scanner::done(s, a) {
+            let pos = scanner::eat_whitespace(s, next);
+            if scanner::done(s, pos) {
                 return ReadOffset::Shift(TimeOffset::Offset {
                     positive,
                     hours,
                     minutes: 0,
                 });
             }
-            match parse_colon(s, a) {
-                ReadSeparator::Passed(b) => match parse_minutes_or_seconds(s, b) {
+            match parse_colon(s, pos) {
+                ReadSeparator::Passed(minute_start) => match parse_minutes_or_seconds(
+                    s,
+                    minute_start,
+                ) {
                     ReadPart::Stored {
                         value: minutes,
                         next: _,
@@ -222,8 +225,8 @@ fn parse_shift(s: &[u8], c: Cursor, positive: bool) -> ReadOffset
 fn parse_offset(s: &[u8], c: Cursor) -> ReadOffset
     ensures { λ r. ⌜ r ≡ time.offsetAt (now (s .entry)) (c .0) ⌝ }
 {
-    let a = scanner::eat_whitespace(s, c);
-    match scanner::eat(s, a) {
+    let pos = scanner::eat_whitespace(s, c);
+    match scanner::eat(s, pos) {
         Next::Ate(code, next) => {
             if code == ZED {
                 return ReadOffset::Shift(TimeOffset::Utc);
@@ -234,9 +237,9 @@ fn parse_offset(s: &[u8], c: Cursor) -> ReadOffset
             if code == HYPHEN {
                 return parse_shift(s, next, false);
             }
-            ReadOffset::NoShift(refuse_text(Kind::InvalidFormat, a, next))
+            ReadOffset::NoShift(refuse_text(Kind::InvalidFormat, pos, next))
         }
-        Next::Nothing => ReadOffset::NoShift(refuse_text(Kind::InvalidFormat, a, a)),
+        Next::Nothing => ReadOffset::NoShift(refuse_text(Kind::InvalidFormat, pos, pos)),
     }
 }
 
@@ -256,11 +259,11 @@ fn local(hour: u8, minute: u8, second: u8) -> Time
 fn behind_second(s: &[u8], c: Cursor, hour: u8, minute: u8, second: u8) -> ReadTime
     ensures { λ r. ⌜ r ≡ time.behindSecond (now (s .entry)) (c .0) hour minute second ⌝ }
 {
-    let a = scanner::eat_whitespace(s, c);
-    if scanner::done(s, a) {
+    let pos = scanner::eat_whitespace(s, c);
+    if scanner::done(s, pos) {
         return ReadTime::Clock(local(hour, minute, second));
     }
-    match parse_offset(s, a) {
+    match parse_offset(s, pos) {
         ReadOffset::Shift(offset) => ReadTime::Clock(Time {
             hour,
             minute,
@@ -275,12 +278,12 @@ fn behind_second(s: &[u8], c: Cursor, hour: u8, minute: u8, second: u8) -> ReadT
 fn behind_minute(s: &[u8], c: Cursor, hour: u8, minute: u8) -> ReadTime
     ensures { λ r. ⌜ r ≡ time.behindMinute (now (s .entry)) (c .0) hour minute ⌝ }
 {
-    let a = scanner::eat_whitespace(s, c);
-    if scanner::done(s, a) {
+    let pos = scanner::eat_whitespace(s, c);
+    if scanner::done(s, pos) {
         return ReadTime::Clock(local(hour, minute, 0));
     }
-    match parse_colon(s, a) {
-        ReadSeparator::Passed(b) => match parse_minutes_or_seconds(s, b) {
+    match parse_colon(s, pos) {
+        ReadSeparator::Passed(second_start) => match parse_minutes_or_seconds(s, second_start) {
             ReadPart::Stored {
                 value: second,
                 next,
@@ -295,12 +298,12 @@ fn behind_minute(s: &[u8], c: Cursor, hour: u8, minute: u8) -> ReadTime
 fn behind_hour(s: &[u8], c: Cursor, hour: u8) -> ReadTime
     ensures { λ r. ⌜ r ≡ time.behindHour (now (s .entry)) (c .0) hour ⌝ }
 {
-    let a = scanner::eat_whitespace(s, c);
-    if scanner::done(s, a) {
+    let pos = scanner::eat_whitespace(s, c);
+    if scanner::done(s, pos) {
         return ReadTime::Clock(local(hour, 0, 0));
     }
-    match parse_colon(s, a) {
-        ReadSeparator::Passed(b) => match parse_minutes_or_seconds(s, b) {
+    match parse_colon(s, pos) {
+        ReadSeparator::Passed(minute_start) => match parse_minutes_or_seconds(s, minute_start) {
             ReadPart::Stored {
                 value: minute,
                 next,
@@ -325,18 +328,18 @@ fn parse_time(s: &[u8], c: Cursor) -> ReadTime
 fn behind_day(s: &[u8], c: Cursor, year: i32, month: OptionMonth, day: OptionDay) -> ReadPoint
     ensures { λ r. ⌜ r ≡ spec.behindDay (now (s .entry)) (c .0) year month day ⌝ }
 {
-    let a = scanner::eat_whitespace(s, c);
-    if scanner::done(s, a) {
+    let pos = scanner::eat_whitespace(s, c);
+    if scanner::done(s, pos) {
         return ReadPoint::Point(Datetime::new(year, month, day, OptionTime::NoTime));
     }
-    match scanner::eat_if(s, a, Class::Is(TEE)) {
+    match scanner::eat_if(s, pos, Class::Is(TEE)) {
         EatIf::Past(next) => match parse_time(s, next) {
             ReadTime::Clock(t) => {
                 ReadPoint::Point(Datetime::new(year, month, day, OptionTime::SomeTime(t)))
             }
             ReadTime::NoClock(e) => ReadPoint::Refused(e),
         },
-        EatIf::Kept => ReadPoint::Refused(refuse_text(Kind::InvalidFormat, Cursor(0), a)),
+        EatIf::Kept => ReadPoint::Refused(refuse_text(Kind::InvalidFormat, Cursor(0), pos)),
     }
 }
 
@@ -345,8 +348,8 @@ fn behind_month(s: &[u8], c: Cursor, year: i32, month: Month) -> ReadPoint
     ensures { λ r. ⌜ r ≡ spec.behindMonth (now (s .entry)) (c .0) year month ⌝ }
 {
     let some_month = OptionMonth::SomeMonth(month);
-    let a = scanner::eat_whitespace(s, c);
-    if scanner::done(s, a) {
+    let pos = scanner::eat_whitespace(s, c);
+    if scanner::done(s, pos) {
         return ReadPoint::Point(Datetime::new(
             year,
             some_month,
@@ -354,8 +357,8 @@ fn behind_month(s: &[u8], c: Cursor, year: i32, month: Month) -> ReadPoint
             OptionTime::NoTime,
         ));
     }
-    match parse_hyphen(s, a) {
-        ReadSeparator::Passed(b) => match parse_day(s, b) {
+    match parse_hyphen(s, pos) {
+        ReadSeparator::Passed(day_start) => match parse_day(s, day_start) {
             ReadPart::Stored { value: day, next } => {
                 if day < dates::days_in_month(month, year) {
                     return behind_day(s, next, year, some_month, OptionDay::SomeDay(Day(day)));
@@ -372,8 +375,8 @@ fn behind_month(s: &[u8], c: Cursor, year: i32, month: Month) -> ReadPoint
 fn behind_year(s: &[u8], c: Cursor, year: i32) -> ReadPoint
     ensures { λ r. ⌜ r ≡ spec.behindYear (now (s .entry)) (c .0) year ⌝ }
 {
-    let a = scanner::eat_whitespace(s, c);
-    if scanner::done(s, a) {
+    let pos = scanner::eat_whitespace(s, c);
+    if scanner::done(s, pos) {
         return ReadPoint::Point(Datetime::new(
             year,
             OptionMonth::NoMonth,
@@ -381,8 +384,8 @@ fn behind_year(s: &[u8], c: Cursor, year: i32) -> ReadPoint
             OptionTime::NoTime,
         ));
     }
-    match parse_hyphen(s, a) {
-        ReadSeparator::Passed(b) => match parse_month(s, b) {
+    match parse_hyphen(s, pos) {
+        ReadSeparator::Passed(month_start) => match parse_month(s, month_start) {
             ReadPart::Stored { value: month, next } => behind_month(s, next, year, Month(month)),
             ReadPart::NoPart(e) => ReadPoint::Refused(e),
         },

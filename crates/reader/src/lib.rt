@@ -6,7 +6,7 @@
 ghost use mathlib.Core.Path.{_≡_};
 ghost use mathlib.Core.Bool.{true, false};
 ghost use Prim.Native.Nat.{_≤_};
-ghost use lib.ListN.{length};
+ghost use lib.ListN.{length, take};
 ghost use Rattle.chunks.specs.Chunks.{isShort, chunksOf, spanOf};
 ghost use Rattle.chunks.specs.Answer.{roomOf};
 ghost use Rattle.chunks.specs.declared.Checked.the-variants.{Clean};
@@ -17,6 +17,7 @@ ghost use Rattle.dates.specs.declared.DateValue.the-variants.{Between};
 ghost use Rattle.fields.specs.Month.{monthField};
 ghost use Rattle.fields.specs.Day.{dayField};
 ghost use Rattle.reading_laws.specs.Field as field;
+ghost use Rattle.reading_laws.specs.Lent.{lent, optional, three};
 ghost use Rattle.reading_laws.specs.Fields as fieldset;
 ghost use Rattle.reader.specs.Once as once;
 ghost use Rattle.reader.specs.Readable.{Readable, Small};
@@ -39,6 +40,7 @@ use reading_laws::Parts;
 use refusals::FileSpan;
 use refusals::Kind;
 use refusals::ReadDate;
+// not named below, but a `ReadMonth` holds one, and `month_text` hands it on
 use scanner::Cursor;
 use strict::Matched;
 
@@ -238,7 +240,7 @@ fn check_fields(
     day: &[u8],
     day_table: &[u64],
 ) -> Checked
-    ensures { λ r. ⌜ r ≡ fieldset.fieldsChecked (checked (now (year .entry)) (now («year_table» .entry))) «has_month» (checked (now (month .entry)) (now («month_table» .entry))) «has_day» (checked (now (day .entry)) (now («day_table» .entry))) ⌝ }
+    ensures { λ r. ⌜ r ≡ fieldset.fieldsChecked (three (lent (now (year .entry)) (now («year_table» .entry))) (optional «has_month» (now (month .entry)) (now («month_table» .entry))) (optional «has_day» (now (day .entry)) (now («day_table» .entry)))) ⌝ }
 {
     match chunks::check(year, year_table) {
         Checked::Clean => {
@@ -259,7 +261,7 @@ fn check_parts(
     day: &[u8],
     day_table: &[u64],
 ) -> Checked
-    ensures { λ r. ⌜ r ≡ fieldset.partsChecked (checked (now (month .entry)) (now («month_table» .entry))) «has_day» (checked (now (day .entry)) (now («day_table» .entry))) ⌝ }
+    ensures { λ r. ⌜ r ≡ fieldset.partsChecked (lent (now (month .entry)) (now («month_table» .entry))) (optional «has_day» (now (day .entry)) (now («day_table» .entry))) ⌝ }
 {
     match chunks::check(month, month_table) {
         Checked::Clean => {
@@ -272,15 +274,26 @@ fn check_parts(
     }
 }
 
-// A year list that is clean, formatted into a buffer with room for it.
-fn year_of(bytes: &[u8], table: &[u64], buf: &mut [u8]) -> FieldYear
+// A list that is clean, formatted into a buffer with room for it: how many bytes of the buffer are its text.
+fn text_of(bytes: &[u8], table: &[u64], buf: &mut [u8]) -> usize
     requires { ⌜ Readable (now bytes) (now table) (length (now buf)) ⌝ }
-    ensures { λ r. ⌜ r ≡ fieldset.yearOf (now (bytes .entry)) (now (table .entry)) ⌝ }
+    ensures { λ r. ⌜ r ≤ length (now (buf .exit)) ⌝ }
+    ensures { λ r. ⌜ take r (now (buf .exit)) ≡ formatted (now (bytes .entry)) (now (table .entry)) ⌝ }
 {
     match chunks::format_verbatim(bytes, table, buf) {
-        Formatted::Text(n) => moved_year(fields::get_year(&buf[..n]), chunks::span(table)),
-        Formatted::Refused(e) => FieldYear::NoFieldYear(e),
+        Formatted::Text(n) => n,
+        // never: the list is clean, and the buffer has the room
+        Formatted::Refused(_) => 0,
     }
+}
+
+// A year list that is clean.
+fn year_of(bytes: &[u8], table: &[u64], buf: &mut [u8]) -> FieldYear
+    requires { ⌜ Readable (now bytes) (now table) (length (now buf)) ⌝ }
+    ensures { λ r. ⌜ r ≡ fieldset.yearOf (lent (now (bytes .entry)) (now (table .entry))) ⌝ }
+{
+    let n = text_of(bytes, table, buf);
+    moved_year(fields::get_year(&buf[..n]), chunks::span(table))
 }
 
 // A year; a refusal of it is moved by the span.
@@ -311,12 +324,10 @@ fn month_text(s: &[u8]) -> Parts
 // A month list that is clean, without a day list.
 fn month_alone(bytes: &[u8], table: &[u64], buf: &mut [u8]) -> Parts
     requires { ⌜ Readable (now bytes) (now table) (length (now buf)) ⌝ }
-    ensures { λ r. ⌜ r ≡ fieldset.monthAlone (now (bytes .entry)) (now (table .entry)) ⌝ }
+    ensures { λ r. ⌜ r ≡ fieldset.monthAlone (lent (now (bytes .entry)) (now (table .entry))) ⌝ }
 {
-    match chunks::format_verbatim(bytes, table, buf) {
-        Formatted::Text(n) => month_text(&buf[..n]),
-        Formatted::Refused(e) => Parts::NoParts(e),
-    }
+    let n = text_of(bytes, table, buf);
+    month_text(&buf[..n])
 }
 
 // The month of a clean list.
@@ -324,14 +335,8 @@ fn month_of(bytes: &[u8], table: &[u64], buf: &mut [u8]) -> ReadMonth
     requires { ⌜ Readable (now bytes) (now table) (length (now buf)) ⌝ }
     ensures { λ r. ⌜ r ≡ monthField (formatted (now (bytes .entry)) (now (table .entry))) ⌝ }
 {
-    match chunks::format_verbatim(bytes, table, buf) {
-        Formatted::Text(n) => fields::month_field(&buf[..n]),
-        // never: the list is clean, and the buffer has the room
-        Formatted::Refused(_) => ReadMonth::MonthRead {
-            month: OptionMonth::NoMonth,
-            next: Cursor(0),
-        },
-    }
+    let n = text_of(bytes, table, buf);
+    fields::month_field(&buf[..n])
 }
 
 // The day of a clean list.
@@ -339,10 +344,8 @@ fn day_of(bytes: &[u8], table: &[u64], buf: &mut [u8]) -> ReadDayField
     requires { ⌜ Readable (now bytes) (now table) (length (now buf)) ⌝ }
     ensures { λ r. ⌜ r ≡ dayField (formatted (now (bytes .entry)) (now (table .entry))) (spanOf (chunksOf (now (table .entry)))) ⌝ }
 {
-    match chunks::format_verbatim(bytes, table, buf) {
-        Formatted::Text(n) => fields::day_field(&buf[..n], chunks::span(table)),
-        Formatted::Refused(e) => ReadDayField::NotGiven(e),
-    }
+    let n = text_of(bytes, table, buf);
+    fields::day_field(&buf[..n], chunks::span(table))
 }
 
 // A month list and a day list that are clean, read one after the other in the same buffer.
@@ -355,7 +358,7 @@ fn month_and_day(
 ) -> Parts
     requires { ⌜ Readable (now month) (now «month_table») (length (now buf)) ⌝ }
     requires { ⌜ Readable (now day) (now «day_table») (length (now buf)) ⌝ }
-    ensures { λ r. ⌜ r ≡ fieldset.monthAndDay (now (month .entry)) (now («month_table» .entry)) (now (day .entry)) (now («day_table» .entry)) ⌝ }
+    ensures { λ r. ⌜ r ≡ fieldset.monthAndDay (lent (now (month .entry)) (now («month_table» .entry))) (lent (now (day .entry)) (now («day_table» .entry))) ⌝ }
 {
     match month_of(month, month_table, buf) {
         ReadMonth::MonthRead { month: m, next: _ } => match day_of(day, day_table, buf) {
@@ -378,7 +381,7 @@ fn parts_of(
 ) -> Parts
     requires { ⌜ («has_month» ≡ true → Readable (now month) (now «month_table») (length (now buf))) ⌝ }
     requires { ⌜ («has_month» ≡ true → «has_day» ≡ true → Readable (now day) (now «day_table») (length (now buf))) ⌝ }
-    ensures { λ r. ⌜ r ≡ fieldset.partsOf «has_month» (now (month .entry)) (now («month_table» .entry)) «has_day» (now (day .entry)) (now («day_table» .entry)) ⌝ }
+    ensures { λ r. ⌜ r ≡ fieldset.partsOf (optional «has_month» (now (month .entry)) (now («month_table» .entry))) (optional «has_day» (now (day .entry)) (now («day_table» .entry))) ⌝ }
 {
     if has_month {
         if has_day {
@@ -417,7 +420,7 @@ fn read_fields(
     requires { ⌜ Readable (now year) (now «year_table») (length (now buf)) ⌝ }
     requires { ⌜ («has_month» ≡ true → Readable (now month) (now «month_table») (length (now buf))) ⌝ }
     requires { ⌜ («has_month» ≡ true → «has_day» ≡ true → Readable (now day) (now «day_table») (length (now buf))) ⌝ }
-    ensures { λ r. ⌜ r ≡ fieldset.readFields (now (year .entry)) (now («year_table» .entry)) «has_month» (now (month .entry)) (now («month_table» .entry)) «has_day» (now (day .entry)) (now («day_table» .entry)) ⌝ }
+    ensures { λ r. ⌜ r ≡ fieldset.readFields (three (lent (now (year .entry)) (now («year_table» .entry))) (optional «has_month» (now (month .entry)) (now («month_table» .entry))) (optional «has_day» (now (day .entry)) (now («day_table» .entry)))) ⌝ }
 {
     match year_of(year, year_table, buf) {
         FieldYear::YearIs(y) => {
@@ -471,7 +474,7 @@ fn read_clean(
     requires { ⌜ checked (now year) (now «year_table») ≡ Clean ⌝ }
     requires { ⌜ («has_month» ≡ true → checked (now month) (now «month_table») ≡ Clean) ⌝ }
     requires { ⌜ («has_month» ≡ true → «has_day» ≡ true → checked (now day) (now «day_table») ≡ Clean) ⌝ }
-    ensures { λ r. ⌜ r ≡ fieldset.readFields (now (year .entry)) (now («year_table» .entry)) «has_month» (now (month .entry)) (now («month_table» .entry)) «has_day» (now (day .entry)) (now («day_table» .entry)) ⌝ }
+    ensures { λ r. ⌜ r ≡ fieldset.readFields (three (lent (now (year .entry)) (now («year_table» .entry))) (optional «has_month» (now (month .entry)) (now («month_table» .entry))) (optional «has_day» (now (day .entry)) (now («day_table» .entry)))) ⌝ }
 {
     if are_small(year, year_table, month, month_table, day, day_table) {
         let mut small = [0u8; 64];
@@ -513,7 +516,7 @@ pub fn parse_three_fields(
     day: &[u8],
     day_table: &[u64],
 ) -> ReadDate
-    ensures { λ r. ⌜ r ≡ fieldset.threeFields (now (year .entry)) (now («year_table» .entry)) «has_month» (now (month .entry)) (now («month_table» .entry)) «has_day» (now (day .entry)) (now («day_table» .entry)) ⌝ }
+    ensures { λ r. ⌜ r ≡ fieldset.threeFields (three (lent (now (year .entry)) (now («year_table» .entry))) (optional «has_month» (now (month .entry)) (now («month_table» .entry))) (optional «has_day» (now (day .entry)) (now («day_table» .entry)))) ⌝ }
 {
     match check_fields(
         year,

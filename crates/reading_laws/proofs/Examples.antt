@@ -21,6 +21,7 @@ use Rattle.refusals.specs.declared.ReadDate.{ReadDate}
 use Rattle.refusals.specs.declared.ReadDate.the-variants.{Accepted, Refused}
 use Rattle.refusals.specs.Refusal.{fileSpan, refusal}
 use Rattle.reading_laws.specs.Field.{parsed}
+use Rattle.reading_laws.specs.Lent.{Lent, lent, optional, absent, three}
 use Rattle.reading_laws.specs.Fields.{threeFields}
 use Rattle.chars.specs.Ascii as charsAscii
 use Rattle.chars.specs.Classes as charsClasses
@@ -58,6 +59,10 @@ use Rattle.reading_laws.specs.Fields as readerFields
 abbrev table : List ℕ → List ℕ
 table b = 0 ∷ length b ∷ 0 ∷ length b ∷ []
 
+-- a list of one such chunk
+abbrev one : List ℕ → Lent
+one b = lent b (table b)
+
 -- a date field, a year field, and a month field beside the year 2000
 abbrev dateBytes : List ℕ → ReadDate
 dateBytes b = parsed b (table b)
@@ -66,10 +71,10 @@ abbrev dateField : String → ReadDate
 dateField s = dateBytes (ascii s)
 
 abbrev yearField : String → ReadDate
-yearField s = threeFields (ascii s) (table (ascii s)) false [] [] false [] []
+yearField s = threeFields (three (one (ascii s)) absent absent)
 
 abbrev monthBytes : List ℕ → ReadDate
-monthBytes b = threeFields (ascii "2000") (table (ascii "2000")) true b (table b) false [] []
+monthBytes b = threeFields (three (one (ascii "2000")) (optional true b (table b)) absent)
 
 abbrev monthField : String → ReadDate
 monthField s = monthBytes (ascii s)

@@ -1,8 +1,5 @@
 -- What three fields give: a single date with no mark, or a refusal.
 -- Assumes nothing.
-use mathlib.Core.Bool.{Bool}
-use mathlib.Core.List.{List}
-use Prim.Native.Nat.{ℕ}
 use lib.IntN.{ℤ}
 use Rattle.refusals.specs.declared.Refusal.{Refusal}
 use Rattle.chunks.specs.declared.Checked.{Checked}
@@ -17,6 +14,7 @@ use Rattle.reading_laws.specs.declared.FieldYear.the-variants.{YearIs, N
 use Rattle.reading_laws.specs.declared.Parts.{Parts}
 use Rattle.reading_laws.specs.declared.Parts.the-variants.{PartsAre, NoParts}
 use Rattle.reading_laws.specs.Field.{onClean}
+use Rattle.reading_laws.specs.Lent.{Three}
 use Rattle.reading_laws.specs.Fields.{partsOf, dated, onYear, readFields, threeFields}
 
 -- a single date with no mark, or a refusal
@@ -40,6 +38,6 @@ clean-single Clean h = h
 clean-single (Faulty e) h = none
 
 -- three fields give no other
-pub three-single : (b table : List ℕ) (hm : Bool) (m mt : List ℕ) (hd : Bool) (dy dt : List ℕ) → Single (threeFields b table hm m mt hd dy dt)
+pub three-single : (t : Three) → Single (threeFields t)
 unfolding threeFields readFields
-three-single b table hm m mt hd dy dt = clean-single _ (year-single _ (λ y. dated-single y (partsOf hm m mt hd dy dt)))
+three-single t = clean-single _ (year-single _ (λ y. dated-single y (partsOf (t .month) (t .day))))

@@ -1,6 +1,4 @@
 -- What three fields give, at most: a year of four digits, a stored month below 99 and a stored day below 31. Assumes nothing.
-use mathlib.Core.Bool.{Bool}
-use mathlib.Core.List.{List}
 use Prim.Native.Nat.{ℕ, _<_}
 use lib.IntN.{ℤ, natAbs}
 use Rattle.chars.proofs.Cases.{by-test}
@@ -8,8 +6,6 @@ use Rattle.refusals.specs.declared.FileSpan.{FileSpan}
 use Rattle.refusals.specs.declared.Refusal.{Refusal}
 use Rattle.chunks.specs.declared.Checked.{Checked}
 use Rattle.chunks.specs.declared.Checked.the-variants.{Clean, Faulty}
-use Rattle.chunks.specs.Chunks.{chunksOf, spanOf}
-use Rattle.chunks.specs.Format.{formatted}
 use Rattle.dates.specs.declared.OptionMonth.{OptionMonth}
 use Rattle.dates.specs.declared.OptionMonth.the-variants.{NoMonth}
 use Rattle.dates.specs.declared.OptionDay.{OptionDay}
@@ -27,6 +23,7 @@ use Rattle.refusals.specs.declared.ReadDate.the-variants.{Accepted, Refused}
 use Rattle.reading_laws.specs.declared.Parts.{Parts}
 use Rattle.reading_laws.specs.declared.Parts.the-variants.{PartsAre, NoParts}
 use Rattle.reading_laws.specs.Field.{onClean}
+use Rattle.reading_laws.specs.Lent.{Optional, Three, textOf, placeOf}
 use Rattle.reading_laws.specs.Fields.{movedYear, yearOf, onMonth, insideDay, monthText, monthAlone, fieldDay, monthAndDay, partsOf, dated, onYear, readFields, threeFields}
 
 -- a month and a day, each absent or so small
@@ -49,13 +46,14 @@ unfolding fieldDay
 beside m h (given {d} k) = parts {m = m} {d = SomeDay d} h k
 beside m h not-given = no-parts
 
-parts-in : (hm : Bool) (m mt : List ℕ) (hd : Bool) (dy dt : List ℕ) → PartsIn (partsOf hm m mt hd dy dt)
+parts-in : (m d : Optional) → PartsIn (partsOf m d)
 unfolding partsOf monthAndDay monthAlone monthText
-parts-in hm m mt hd dy dt =
-    by-test PartsIn hm
-    (λ _. by-test PartsIn hd
-    (λ _. on-month (month-in (formatted m mt)) λ k _ h. beside k h (field-in (formatted dy dt) (spanOf (chunksOf dt))))
-    (λ _. on-month (month-in (formatted m mt)) λ k c h. inside k h (inside-in (formatted m mt) c)))
+parts-in m d =
+    let s = textOf (m .list) in
+    by-test PartsIn (m .present)
+    (λ _. by-test PartsIn (d .present)
+    (λ _. on-month (month-in s) λ k _ h. beside k h (field-in (textOf (d .list)) (placeOf (d .list))))
+    (λ _. on-month (month-in s) λ k c h. inside k h (inside-in s c)))
     (λ _. parts {m = NoMonth} {d = NoDay} tt tt)
 
 -- a single date of so small parts, or a refusal
@@ -79,7 +77,7 @@ clean-in Clean h = h
 clean-in (Faulty e) h = no-fields
 
 -- of every three lists
-pub three-in : (b table : List ℕ) (hm : Bool) (m mt : List ℕ) (hd : Bool) (dy dt : List ℕ) → FieldsIn (threeFields b table hm m mt hd dy dt)
+pub three-in : (t : Three) → FieldsIn (threeFields t)
 unfolding threeFields readFields yearOf
-three-in b table hm m mt hd dy dt =
-    clean-in _ (on-year (spanOf (chunksOf table)) (year-in (formatted b table)) λ y h. dated-in y h (parts-in hm m mt hd dy dt))
+three-in t =
+    clean-in _ (on-year (placeOf (t .year)) (year-in (textOf (t .year))) λ y h. dated-in y h (parts-in (t .month) (t .day)))

@@ -1,6 +1,5 @@
 -- Three chunk lists as the fields year, month and day.
 use Prim.Native.Nat.{ℕ}
-use mathlib.Core.Bool.{Bool}
 use mathlib.Core.List.{List}
 use lib.IntN.{ℤ}
 use Rattle.chars.specs.Pick.{pick}
@@ -8,9 +7,7 @@ use Rattle.refusals.specs.declared.FileSpan.{FileSpan}
 use Rattle.refusals.specs.Offset.{offset, unshifted}
 use Rattle.chunks.specs.declared.Checked.{Checked}
 use Rattle.chunks.specs.declared.Checked.the-variants.{Clean}
-use Rattle.chunks.specs.Chunks.{chunksOf, spanOf}
-use Rattle.chunks.specs.Check.{checked, orElse}
-use Rattle.chunks.specs.Format.{formatted}
+use Rattle.chunks.specs.Check.{orElse}
 use Rattle.dates.specs.declared.OptionMonth.{OptionMonth}
 use Rattle.dates.specs.declared.OptionMonth.the-variants.{NoMonth}
 use Rattle.dates.specs.declared.OptionDay.the-variants.{NoDay, SomeDay}
@@ -34,14 +31,15 @@ use Rattle.reading_laws.specs.declared.FieldYear.the-variants.{YearIs, N
 use Rattle.reading_laws.specs.declared.Parts.{Parts}
 use Rattle.reading_laws.specs.declared.Parts.the-variants.{PartsAre, NoParts}
 use Rattle.reading_laws.specs.Field.{onClean}
+use Rattle.reading_laws.specs.Lent.{Lent, Optional, Three, checkOf, textOf, placeOf}
 
 -- each list present is checked in full, year, month, day, before any is read; a day list without a month list is never looked at
-unfoldable pub partsChecked : Checked → Bool → Checked → Checked
-partsChecked month hasDay day = orElse month (pick hasDay day Clean)
+unfoldable pub partsChecked : Lent → Optional → Checked
+partsChecked month day = orElse (checkOf month) (pick (day .present) (checkOf (day .list)) Clean)
 
 -- the year list before them
-unfoldable pub fieldsChecked : Checked → Bool → Checked → Bool → Checked → Checked
-fieldsChecked year hasMonth month hasDay day = orElse year (pick hasMonth (partsChecked month hasDay day) Clean)
+unfoldable pub fieldsChecked : Three → Checked
+fieldsChecked t = orElse (checkOf (t .year)) (pick (t .month .present) (partsChecked (t .month .list) (t .day)) Clean)
 
 -- a year; a refusal of it is moved by the year list's span
 unfoldable pub movedYear : FileSpan → ReadYear → FieldYear
@@ -49,8 +47,8 @@ movedYear span (Year y) = YearIs y
 movedYear span (NoYear e) = NoFieldYear (offset e (span .0))
 
 -- the year list is formatted and not in upper case, so "bc" is no era
-unfoldable pub yearOf : List ℕ → List ℕ → FieldYear
-yearOf b table = movedYear (spanOf (chunksOf table)) (getYear (formatted b table))
+unfoldable pub yearOf : Lent → FieldYear
+yearOf year = movedYear (placeOf year) (getYear (textOf year))
 
 -- a month that was read goes on. What the month itself is refused for is a panic, which has no place
 unfoldable pub onMonth : ReadMonth → (OptionMonth → ℕ → Parts) → Parts
@@ -67,8 +65,8 @@ unfoldable pub monthText : List ℕ → Parts
 monthText s = onMonth (monthField s) λ m c. insideDay m (dayInMonthField s c)
 
 -- the month list without a day list
-unfoldable pub monthAlone : List ℕ → List ℕ → Parts
-monthAlone b table = monthText (formatted b table)
+unfoldable pub monthAlone : Lent → Parts
+monthAlone month = monthText (textOf month)
 
 -- the day field beside a month, which need not have that day
 unfoldable pub fieldDay : OptionMonth → ReadDayField → Parts
@@ -76,14 +74,15 @@ fieldDay m (Given d) = PartsAre m (SomeDay d)
 fieldDay m (NotGiven e) = NoParts e
 
 -- with a day list nobody looks for a day in the month list
-unfoldable pub monthAndDay : List ℕ → List ℕ → List ℕ → List ℕ → Parts
-monthAndDay b table day dayTable =
-    onMonth (monthField (formatted b table)) λ m _. fieldDay m (dayField (formatted day dayTable) (spanOf (chunksOf dayTable)))
+unfoldable pub monthAndDay : Lent → Lent → Parts
+monthAndDay month day = onMonth (monthField (textOf month)) λ m _. fieldDay m (dayField (textOf day) (placeOf day))
 
 -- the month and the day, as far as the lists are present
-unfoldable pub partsOf : Bool → List ℕ → List ℕ → Bool → List ℕ → List ℕ → Parts
-partsOf hasMonth month monthTable hasDay day dayTable =
-    pick hasMonth (pick hasDay (monthAndDay month monthTable day dayTable) (monthAlone month monthTable)) (PartsAre NoMonth NoDay)
+unfoldable pub partsOf : Optional → Optional → Parts
+partsOf month day =
+    pick (month .present)
+    (pick (day .present) (monthAndDay (month .list) (day .list)) (monthAlone (month .list)))
+    (PartsAre NoMonth NoDay)
 
 -- three fields have no time and no mark
 unfoldable pub dated : ℤ → Parts → ReadDate
@@ -96,12 +95,9 @@ onYear (YearIs y) go = go y
 onYear (NoFieldYear e) go = Refused e
 
 -- three lists without a fault
-unfoldable pub readFields : List ℕ → List ℕ → Bool → List ℕ → List ℕ → Bool → List ℕ → List ℕ → ReadDate
-readFields year yearTable hasMonth month monthTable hasDay day dayTable =
-    onYear (yearOf year yearTable) λ y. dated y (partsOf hasMonth month monthTable hasDay day dayTable)
+unfoldable pub readFields : Three → ReadDate
+readFields t = onYear (yearOf (t .year)) λ y. dated y (partsOf (t .month) (t .day))
 
 -- three lists: a fault in any of them comes before what is read of the first
-unfoldable pub threeFields : List ℕ → List ℕ → Bool → List ℕ → List ℕ → Bool → List ℕ → List ℕ → ReadDate
-threeFields year yearTable hasMonth month monthTable hasDay day dayTable =
-    onClean (fieldsChecked (checked year yearTable) hasMonth (checked month monthTable) hasDay (checked day dayTable))
-    (readFields year yearTable hasMonth month monthTable hasDay day dayTable)
+unfoldable pub threeFields : Three → ReadDate
+threeFields t = onClean (fieldsChecked t) (readFields t)

@@ -1,7 +1,6 @@
 -- What a reader accepts, whatever its time, has at every end a year of four digits and a month and a day of two, so that its text is short.
 -- Assumes nothing.
 use mathlib.Core.Path.{_≡_, refl, ap, subst}
-use mathlib.Core.Bool.{Bool}
 use mathlib.Core.List.{List}
 use mathlib.Core.Logic.{⊎-elim}
 use Prim.Native.Nat.{ℕ, _≤_}
@@ -24,6 +23,7 @@ use Rattle.fields.proofs.Named.{MonthBelow}
 use Rattle.fields.proofs.Ranges.{DayBelow}
 use Rattle.refusals.specs.declared.ReadDate.the-variants.{Accepted}
 use Rattle.reading_laws.specs.Field.{parsed, parsedStrict, parsedLevelOne}
+use Rattle.reading_laws.specs.Lent.{Three}
 use Rattle.reading_laws.specs.Fields.{threeFields}
 use Rattle.reading_laws.proofs.Stored.{FieldsIn, fields, three-in}
 use Rattle.writer.specs.Level.{levelText}
@@ -89,5 +89,5 @@ pub level-narrow : (b table : List ℕ) {d : Date} → parsedLevelOne b table �
 level-narrow b table {d} e = level-short d (each-end given-narrow (d .value) (level-given b table e))
 
 -- as three fields
-pub three-narrow : (b table : List ℕ) (hm : Bool) (m mt : List ℕ) (hd : Bool) (dy dt : List ℕ) {d : Date} → threeFields b table hm m mt hd dy dt ≡ Accepted d → NarrowEnds (d .value)
-three-narrow b table hm m mt hd dy dt e = fields-narrow (subst FieldsIn e (three-in b table hm m mt hd dy dt))
+pub three-narrow : (t : Three) {d : Date} → threeFields t ≡ Accepted d → NarrowEnds (d .value)
+three-narrow t e = fields-narrow (subst FieldsIn e (three-in t))

@@ -1,6 +1,6 @@
 -- The readers that know no seasons never give one. Assumes nothing.
 use mathlib.Core.Path.{_≡_, refl, ap, subst}
-use mathlib.Core.Bool.{Bool, false}
+use mathlib.Core.Bool.{false}
 use mathlib.Core.List.{List}
 use mathlib.Core.Logic.{⊎-elim}
 use Prim.Native.Nat.{ℕ}
@@ -12,6 +12,7 @@ use Rattle.dates.specs.Value.{isSeason, hasSeason, anySeason}
 use Rattle.points.specs.Accepted.{Dated}
 use Rattle.refusals.specs.declared.ReadDate.the-variants.{Accepted}
 use Rattle.reading_laws.specs.Field.{parsed, parsedStrict}
+use Rattle.reading_laws.specs.Lent.{Three}
 use Rattle.reading_laws.specs.Fields.{threeFields}
 use Rattle.reading_laws.proofs.Stored.{FieldsIn, fields, three-in}
 use Rattle.roundtrip_laws.specs.Domain.{AllDated, ShortMonthRange, days-xx}
@@ -42,5 +43,5 @@ fields-none : {d : Date} → FieldsIn (Accepted d) → anySeason (d .value) ≡ 
 fields-none (fields h k l) = refl
 
 -- three fields
-pub three-none : (b table : List ℕ) (hm : Bool) (m mt : List ℕ) (hd : Bool) (dy dt : List ℕ) {d : Date} → threeFields b table hm m mt hd dy dt ≡ Accepted d → anySeason (d .value) ≡ false
-three-none b table hm m mt hd dy dt e = fields-none (subst FieldsIn e (three-in b table hm m mt hd dy dt))
+pub three-none : (t : Three) {d : Date} → threeFields t ≡ Accepted d → anySeason (d .value) ≡ false
+three-none t e = fields-none (subst FieldsIn e (three-in t))

@@ -8,6 +8,7 @@ use Rattle.dates.specs.declared.OptionDay.{OptionDay}
 use Rattle.dates.specs.declared.OptionDay.the-variants.{NoDay, SomeDay}
 use Rattle.dates.specs.declared.Datetime.{Datetime}
 use Rattle.refusals.specs.declared.ReadDate.{ReadDate}
+use Rattle.reading_laws.specs.Lent.{Three, lent, optional, three}
 use Rattle.reading_laws.specs.Fields.{threeFields}
 use Rattle.chars.specs.Ascii.{ascii}
 use Rattle.writer.specs.Texts.{yearText, partText}
@@ -46,8 +47,13 @@ linesOf end d =
     ++ (lineIf (hasMonth (d .month)) end (ascii "month=") (monthValue (d .month)) ++ lineIf (hasDay (d .day)) end (ascii "day=") (dayValue (d .day)))
 
 -- the values of those lines as three fields, one Normal chunk each, from any place to any place of a file
+abbrev pub valuesOf : Datetime → ℕ → ℕ → ℕ → ℕ → ℕ → ℕ → Three
+valuesOf d ys ye ms me ds de =
+    three
+    (lent (yearText (d .year)) (oneChunk (yearText (d .year)) ys ye))
+    (optional (hasMonth (d .month)) (monthValue (d .month)) (oneChunk (monthValue (d .month)) ms me))
+    (optional (hasDay (d .day)) (dayValue (d .day)) (oneChunk (dayValue (d .day)) ds de))
+
+-- and read
 abbrev pub readBack : Datetime → ℕ → ℕ → ℕ → ℕ → ℕ → ℕ → ReadDate
-readBack d ys ye ms me ds de =
-    threeFields (yearText (d .year)) (oneChunk (yearText (d .year)) ys ye)
-    (hasMonth (d .month)) (monthValue (d .month)) (oneChunk (monthValue (d .month)) ms me)
-    (hasDay (d .day)) (dayValue (d .day)) (oneChunk (dayValue (d .day)) ds de)
+readBack d ys ye ms me ds de = threeFields (valuesOf d ys ye ms me ds de)

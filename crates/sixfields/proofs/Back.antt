@@ -2,7 +2,6 @@
 -- Assumes nothing.
 use mathlib.Core.Path.{_≡_, refl, _∙_}
 use mathlib.Core.Bool.{Bool, true, false}
-use mathlib.Core.List.{List}
 use Prim.Native.Nat.{ℕ}
 use native.Mathlib.Omega.{arith}
 use Rattle.chars.specs.Pick.{pick}
@@ -12,6 +11,7 @@ use Rattle.dates.specs.declared.DateValue.the-variants.{At, After, Before, Betw
 use Rattle.dates.specs.Value.{date, fromDatetime}
 use Rattle.refusals.specs.declared.ReadDate.{ReadDate}
 use Rattle.refusals.specs.declared.ReadDate.the-variants.{Accepted}
+use Rattle.reading_laws.specs.Lent.{Three}
 use Rattle.reading_laws.specs.Fields.{threeFields}
 use Rattle.reading_laws.proofs.Single.{Single, one, none, three-single}
 use Rattle.writer.specs.Fields.{valueLines, fieldsText}
@@ -28,15 +28,14 @@ same (one a) = refl
 same none = refl
 
 -- Without an end year list six fields are three, whatever is passed for the end
-module _ (year yearTable : List ℕ) (hm : Bool) (month monthTable : List ℕ) (hd : Bool) (day dayTable : List ℕ) where
-  pub without-end : (ey et : List ℕ) (hem : Bool) (em emt : List ℕ) (hed : Bool) (ed edt : List ℕ) → sixFields year yearTable hm month monthTable hd day dayTable false ey et hem em emt hed ed edt ≡ threeFields year yearTable hm month monthTable hd day dayTable
-  unfolding sixFields withEnd pick
-  without-end ey et hem em emt hed ed edt = same (three-single year yearTable hm month monthTable hd day dayTable)
+pub without-end : (start end : Three) → sixFields start false end ≡ threeFields start
+unfolding sixFields withEnd pick
+without-end start end = same (three-single start)
 
 -- an end that was read makes a range
-ends : (a b : Datetime) (year yearTable : List ℕ) (hm : Bool) (month monthTable : List ℕ) (hd : Bool) (day dayTable : List ℕ) → threeFields year yearTable hm month monthTable hd day dayTable ≡ Accepted (fromDatetime b) → withEnd a true year yearTable hm month monthTable hd day dayTable ≡ Accepted (date (Between a b) false false)
+ends : (a b : Datetime) (end : Three) → threeFields end ≡ Accepted (fromDatetime b) → withEnd a true end ≡ Accepted (date (Between a b) false false)
 unfolding withEnd pick onEndYear between onThree single unmarked
-ends a b year yearTable hm month monthTable hd day dayTable e = rw (filled year yearTable hm month monthTable hd day dayTable e, e)
+ends a b end e = rw (filled end e, e)
 
 -- The lines that are written for a Date of the domain have these values,
 pub lines-are : (v : DateValue) (uncertain approximate : Bool) → InDomain v → fieldsText (date v uncertain approximate) ≡ valueLinesOf v
@@ -50,10 +49,10 @@ lines-are (Between a b) u k w = rw (three.lines-are false a (w .0), three.lines-
 pub fields-back : (v : DateValue) → InDomain v → isClosed v ≡ true → (p q : Places) → readBack v p q ≡ Accepted (date v false false)
 unfolding sixFields onThree single
 fields-back (At a) w c p q =
-    without-end _ _ _ _ _ _ _ _ _ _ _ _ _ _ _ _
+    without-end _ _
     ∙ three.fields-back (p .year .0) (p .year .1) (p .month .0) (p .month .1) (p .day .0) (p .day .1) a w
 fields-back (After a) w c p q = absurd (let z : _≡_ {A = ℕ} 0 1 = cc in omega arith)
 fields-back (Before a) w c p q = absurd (let z : _≡_ {A = ℕ} 0 1 = cc in omega arith)
 fields-back (Between a b) w c p q =
     rw (three.fields-back (p .year .0) (p .year .1) (p .month .0) (p .month .1) (p .day .0) (p .day .1) a (w .0))
-    (ends a b _ _ _ _ _ _ _ _ (three.fields-back (q .year .0) (q .year .1) (q .month .0) (q .month .1) (q .day .0) (q .day .1) b (w .1)))
+    (ends a b _ (three.fields-back (q .year .0) (q .year .1) (q .month .0) (q .month .1) (q .day .0) (q .day .1) b (w .1)))

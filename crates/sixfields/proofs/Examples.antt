@@ -20,6 +20,7 @@ use Rattle.dates.specs.Value.{datetime, date, month, day}
 use Rattle.refusals.specs.declared.ReadDate.{ReadDate}
 use Rattle.refusals.specs.declared.ReadDate.the-variants.{Accepted, Refused}
 use Rattle.refusals.specs.Refusal.{fileSpan, refusal}
+use Rattle.reading_laws.specs.Lent.{Lent, Optional, lent, optional, absent, three}
 use Rattle.sixfields.specs.Six.{sixFields}
 use Rattle.chars.specs.Ascii as charsAscii
 use Rattle.chars.specs.Classes as charsClasses
@@ -52,17 +53,24 @@ table b = 0 ∷ length b ∷ 0 ∷ length b ∷ []
 abbrev noMath : List ℕ
 noMath = 2 ∷ 0 ∷ 0 ∷ 0 ∷ []
 
+-- a list of one Normal chunk, as one that must be there and as one that may be absent
+abbrev one : List ℕ → Lent
+one b = lent b (table b)
+
+abbrev given : List ℕ → Optional
+given b = optional true b (table b)
+
 -- a byte that no character is
 abbrev bad : List ℕ
 bad = 0xFF ∷ []
 
 -- a year without an end year list, and with a bad end month
 abbrev alone : String → ReadDate
-alone y = sixFields (ascii y) (table (ascii y)) false [] [] false [] [] false [] [] true bad (table bad) false [] []
+alone y = sixFields (three (one (ascii y)) absent absent) false (three (lent [] []) (given bad) absent)
 
 -- a year, an end year list, and an end month
 abbrev listed : String → List ℕ → List ℕ → List ℕ → ReadDate
-listed y end endTable m = sixFields (ascii y) (table (ascii y)) false [] [] false [] [] true end endTable true m (table m) false [] []
+listed y end endTable m = sixFields (three (one (ascii y)) absent absent) true (three (lent end endTable) (given m) absent)
 
 abbrev upto : String → List ℕ → List ℕ → ReadDate
 upto y end m = listed y end (table end) m
@@ -70,8 +78,10 @@ upto y end m = listed y end (table end) m
 -- a year and a month, an end year, an end month and an end day
 abbrev whole : String → String → String → String → String → ReadDate
 whole y m ey em ed =
-    sixFields (ascii y) (table (ascii y)) true (ascii m) (table (ascii m)) false [] []
-    true (ascii ey) (table (ascii ey)) true (ascii em) (table (ascii em)) true (ascii ed) (table (ascii ed))
+    sixFields
+    (three (one (ascii y)) (given (ascii m)) absent)
+    true
+    (three (one (ascii ey)) (given (ascii em)) (given (ascii ed)))
 
 -- a year alone, as a Datetime and as a Date
 abbrev year : ℤ → Datetime

@@ -20,8 +20,6 @@ use Rattle.refusals.specs.declared.Refusal.{Refusal}
 use Rattle.refusals.specs.Offset.{textRefusal}
 use Rattle.chunks.specs.declared.Checked.{Checked}
 use Rattle.chunks.specs.declared.Checked.the-variants.{Clean, Faulty}
-use Rattle.chunks.specs.Check.{checked}
-use Rattle.chunks.specs.Format.{formatted}
 use Rattle.dates.specs.declared.Date.{Date}
 use Rattle.fields.specs.declared.ReadYear.the-variants.{NoYear}
 use Rattle.fields.specs.Year.{onPast, yearDigits, yearFrom, behindSign, yearAt, getYear}
@@ -29,6 +27,7 @@ use Rattle.refusals.specs.declared.ReadDate.{ReadDate}
 use Rattle.refusals.specs.declared.ReadDate.the-variants.{Accepted, Refused}
 use Rattle.datefield.specs.Text.{isBlank}
 use Rattle.reading_laws.specs.Field.{onClean}
+use Rattle.reading_laws.specs.Lent.{Lent, Three, textOf}
 use Rattle.reading_laws.specs.Fields.{fieldsChecked, movedYear, yearOf, partsOf, dated, onYear, readFields, threeFields}
 use Rattle.reader.proofs.Lists.{year-checked}
 use Rattle.sixfields.specs.declared.EndYear.the-variants.{Filled}
@@ -58,9 +57,9 @@ blank-year : (s : List ℕ) → isBlank s ≡ true → getYear s ≡ NoYear (tex
 unfolding isBlank getYear
 blank-year s e = past-year s (eatWhile Whitespace s 0) (leb-true (length s) (eatWhile Whitespace s 0) e)
 
-blank-refused : (b table : List ℕ) (go : ℤ → ReadDate) {d : Date} → blank b table ≡ true → onYear (yearOf b table) go ≡ Accepted d → ⊥
+blank-refused : (l : Lent) (go : ℤ → ReadDate) {d : Date} → blank l ≡ true → onYear (yearOf l) go ≡ Accepted d → ⊥
 unfolding blank yearOf movedYear onYear
-blank-refused b table go e h = not-both (rw (blank-year (formatted b table) e) at h)
+blank-refused l go e h = not-both (rw (blank-year (textOf l) e) at h)
 
 -- what was accepted of a list had no fault
 clean-read : (k : Checked) {r : ReadDate} {d : Date} → onClean k r ≡ Accepted d → (k ≡ Clean) × (r ≡ Accepted d)
@@ -68,17 +67,17 @@ unfolding onClean
 clean-read Clean h = (refl, h)
 clean-read (Faulty e) h = absurd (not-both h)
 
-module _ (b table : List ℕ) (hm : Bool) (m mt : List ℕ) (hd : Bool) (dy dt : List ℕ) {d : Date} (e : threeFields b table hm m mt hd dy dt ≡ Accepted d) where
-  both : (fieldsChecked (checked b table) hm (checked m mt) hd (checked dy dt) ≡ Clean) × (readFields b table hm m mt hd dy dt ≡ Accepted d)
+module _ (t : Three) {d : Date} (e : threeFields t ≡ Accepted d) where
+  both : (fieldsChecked t ≡ Clean) × (readFields t ≡ Accepted d)
   unfolding threeFields
   both = clean-read _ e
 
-  by-blank : (w : Bool) → blank b table ≡ w → judged Clean w ≡ Filled
+  by-blank : (w : Bool) → blank (t .year) ≡ w → judged Clean w ≡ Filled
   unfolding readFields judged pick
-  by-blank true h = absurd (blank-refused b table (λ y. dated y (partsOf hm m mt hd dy dt)) h (both .1))
+  by-blank true h = absurd (blank-refused (t .year) (λ y. dated y (partsOf (t .month) (t .day))) h (both .1))
   by-blank false h = refl
 
   -- the year list has a text
-  pub filled : endYearOf b table ≡ Filled
+  pub filled : endYearOf (t .year) ≡ Filled
   unfolding endYearOf
-  filled = rw (year-checked (checked b table) hm (checked m mt) hd (checked dy dt) (both .0)) (by-blank (blank b table) refl)
+  filled = rw (year-checked t (both .0)) (by-blank (blank (t .year)) refl)

@@ -1,14 +1,13 @@
 -- Six fields never give a season. Assumes nothing.
 use mathlib.Core.Path.{_≡_, refl, subst}
 use mathlib.Core.Bool.{Bool, false}
-use mathlib.Core.List.{List}
-use Prim.Native.Nat.{ℕ}
 use Rattle.chars.proofs.Cases.{by-test}
 use Rattle.dates.specs.declared.Datetime.{Datetime}
 use Rattle.dates.specs.declared.Date.{Date}
 use Rattle.dates.specs.Value.{hasSeason, anySeason}
 use Rattle.refusals.specs.declared.ReadDate.{ReadDate}
 use Rattle.refusals.specs.declared.ReadDate.the-variants.{Accepted, Refused}
+use Rattle.reading_laws.specs.Lent.{Three}
 use Rattle.reading_laws.proofs.Stored.{FieldsIn, fields, no-fields, three-in}
 use Rattle.sixfields.specs.declared.EndYear.{EndYear}
 use Rattle.sixfields.specs.declared.EndYear.the-variants.{Blank, Filled, FaultyYear}
@@ -30,15 +29,14 @@ on-end Blank opened closed h k = h
 on-end Filled opened closed h k = k
 on-end (FaultyYear e) opened closed h k = tt
 
-module _ (hm : Bool) (m mt : List ℕ) (hd : Bool) (d dt : List ℕ) (hem : Bool) (em emt : List ℕ) (hed : Bool) (ed edt : List ℕ) where
-  with-end : (he : Bool) (ey et : List ℕ) (a : Datetime) → hasSeason a ≡ false → None (withEnd a he ey et hem em emt hed ed edt)
-  unfolding withEnd between unmarked
-  with-end he ey et a e =
-      by-test None he
-      (λ _. on-end (endYearOf ey et) _ _ e (on-three (three-in ey et hem em emt hed ed edt) _ λ b g. rw (e, g)))
-      (λ _. e)
+with-end : (has : Bool) (end : Three) (a : Datetime) → hasSeason a ≡ false → None (withEnd a has end)
+unfolding withEnd between unmarked
+with-end has end a e =
+    by-test None has
+    (λ _. on-end (endYearOf (end .year)) _ _ e (on-three (three-in end) _ λ b g. rw (e, g)))
+    (λ _. e)
 
-  -- of every six lists
-  pub six-none : (y yt : List ℕ) (he : Bool) (ey et : List ℕ) {r : Date} → sixFields y yt hm m mt hd d dt he ey et hem em emt hed ed edt ≡ Accepted r → anySeason (r .value) ≡ false
-  unfolding sixFields
-  six-none y yt he ey et {r} e = subst None e (on-three (three-in y yt hm m mt hd d dt) _ λ a g. with-end he ey et a g)
+-- of every six lists
+pub six-none : (start : Three) (has : Bool) (end : Three) {r : Date} → sixFields start has end ≡ Accepted r → anySeason (r .value) ≡ false
+unfolding sixFields
+six-none start has end e = subst None e (on-three (three-in start) _ λ a g. with-end has end a g)

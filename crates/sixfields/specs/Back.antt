@@ -7,9 +7,8 @@ use Rattle.dates.specs.declared.Datetime.{Datetime}
 use Rattle.dates.specs.declared.DateValue.{DateValue}
 use Rattle.dates.specs.declared.DateValue.the-variants.{At, After, Before, Between}
 use Rattle.refusals.specs.declared.ReadDate.{ReadDate}
-use Rattle.writer.specs.Texts.{yearText}
-use Rattle.roundtrip_laws.specs.Domain.{oneChunk}
-use Rattle.roundtrip_laws.specs.Fields.{hasMonth, hasDay, monthValue, dayValue, linesOf}
+use Rattle.reading_laws.specs.Lent.{Three, lent, absent, three}
+use Rattle.roundtrip_laws.specs.Fields.{linesOf, valuesOf}
 use Rattle.sixfields.specs.Six.{sixFields}
 
 -- where in a file the values of an end's fields stand
@@ -35,23 +34,17 @@ valueLinesOf (After a) = linesOf false a
 valueLinesOf (Before a) = linesOf false a
 valueLinesOf (Between a b) = linesOf false a ++ linesOf true b
 
--- the values of one end's lines as six fields, one Normal chunk each: there is no end year
-abbrev pub oneBack : Datetime → Places → ReadDate
-oneBack a p =
-    sixFields (yearText (a .year)) (oneChunk (yearText (a .year)) (p .year .0) (p .year .1))
-    (hasMonth (a .month)) (monthValue (a .month)) (oneChunk (monthValue (a .month)) (p .month .0) (p .month .1))
-    (hasDay (a .day)) (dayValue (a .day)) (oneChunk (dayValue (a .day)) (p .day .0) (p .day .1))
-    false [] [] false [] [] false [] []
+-- the values of an end's lines as three fields, one Normal chunk each
+abbrev pub valuesAt : Datetime → Places → Three
+valuesAt a p = valuesOf a (p .year .0) (p .year .1) (p .month .0) (p .month .1) (p .day .0) (p .day .1)
 
--- the values of both ends' lines
+-- those of one end as six fields: there is no end year
+abbrev pub oneBack : Datetime → Places → ReadDate
+oneBack a p = sixFields (valuesAt a p) false (three (lent [] []) absent absent)
+
+-- those of both ends
 abbrev pub bothBack : Datetime → Places → Datetime → Places → ReadDate
-bothBack a p b q =
-    sixFields (yearText (a .year)) (oneChunk (yearText (a .year)) (p .year .0) (p .year .1))
-    (hasMonth (a .month)) (monthValue (a .month)) (oneChunk (monthValue (a .month)) (p .month .0) (p .month .1))
-    (hasDay (a .day)) (dayValue (a .day)) (oneChunk (dayValue (a .day)) (p .day .0) (p .day .1))
-    true (yearText (b .year)) (oneChunk (yearText (b .year)) (q .year .0) (q .year .1))
-    (hasMonth (b .month)) (monthValue (b .month)) (oneChunk (monthValue (b .month)) (q .month .0) (q .month .1))
-    (hasDay (b .day)) (dayValue (b .day)) (oneChunk (dayValue (b .day)) (q .day .0) (q .day .1))
+bothBack a p b q = sixFields (valuesAt a p) true (valuesAt b q)
 
 -- the values of a Date's lines, read as six fields
 abbrev pub readBack : DateValue → Places → Places → ReadDate

@@ -1,12 +1,8 @@
 -- Six chunk lists as the fields year, month and day of a start and of an end.
-use Prim.Native.Nat.{ℕ}
 use mathlib.Core.Bool.{Bool, false}
-use mathlib.Core.List.{List}
 use Rattle.chars.specs.Pick.{pick}
 use Rattle.chunks.specs.declared.Checked.{Checked}
 use Rattle.chunks.specs.declared.Checked.the-variants.{Clean, Faulty}
-use Rattle.chunks.specs.Check.{checked}
-use Rattle.chunks.specs.Format.{formatted}
 use Rattle.dates.specs.declared.Datetime.{Datetime}
 use Rattle.dates.specs.declared.DateValue.{DateValue}
 use Rattle.dates.specs.declared.DateValue.the-variants.{At, After, Before, Between}
@@ -14,13 +10,14 @@ use Rattle.dates.specs.Value.{date}
 use Rattle.refusals.specs.declared.ReadDate.{ReadDate}
 use Rattle.refusals.specs.declared.ReadDate.the-variants.{Accepted, Refused}
 use Rattle.datefield.specs.Text.{isBlank}
+use Rattle.reading_laws.specs.Lent.{Lent, Three, checkOf, textOf}
 use Rattle.reading_laws.specs.Fields.{threeFields}
 use Rattle.sixfields.specs.declared.EndYear.{EndYear}
 use Rattle.sixfields.specs.declared.EndYear.the-variants.{Blank, Filled, FaultyYear}
 
 -- whether the formatted text of a list is white space alone, or nothing
-unfoldable pub blank : List ℕ → List ℕ → Bool
-blank b table = isBlank (formatted b table)
+unfoldable pub blank : Lent → Bool
+blank l = isBlank (textOf l)
 
 -- a list without a fault is blank or not; else the fault is the answer
 unfoldable pub judged : Checked → Bool → EndYear
@@ -28,8 +25,8 @@ judged Clean white = pick white Blank Filled
 judged (Faulty e) white = FaultyYear e
 
 -- the end year list is checked in full, and then judged by its text
-unfoldable pub endYearOf : List ℕ → List ℕ → EndYear
-endYearOf b table = judged (checked b table) (blank b table)
+unfoldable pub endYearOf : Lent → EndYear
+endYearOf year = judged (checkOf year) (blank year)
 
 -- the Datetime of a single date. Three fields give no other; of a range it is the first one
 unfoldable pub single : DateValue → Datetime
@@ -58,16 +55,11 @@ onEndYear Filled opened closed = closed
 onEndYear (FaultyYear e) opened closed = Refused e
 
 -- a start that was read, and the end: without an end year list there is none, and without a text in it no other list is looked at
-unfoldable pub withEnd : Datetime → Bool → List ℕ → List ℕ → Bool → List ℕ → List ℕ → Bool → List ℕ → List ℕ → ReadDate
-withEnd a hasYear year yearTable hasMonth month monthTable hasDay day dayTable =
-    pick hasYear
-    (onEndYear (endYearOf year yearTable)
-    (unmarked (After a))
-    (between a (threeFields year yearTable hasMonth month monthTable hasDay day dayTable)))
-    (unmarked (At a))
+unfoldable pub withEnd : Datetime → Bool → Three → ReadDate
+withEnd a hasEnd end =
+    pick hasEnd (onEndYear (endYearOf (end .year)) (unmarked (After a)) (between a (threeFields end))) (unmarked (At a))
 
--- the start is checked and read by the rules of three fields before any list of the end is looked at
-unfoldable pub sixFields : List ℕ → List ℕ → Bool → List ℕ → List ℕ → Bool → List ℕ → List ℕ → Bool → List ℕ → List ℕ → Bool → List ℕ → List ℕ → Bool → List ℕ → List ℕ → ReadDate
-sixFields year yearTable hasMonth month monthTable hasDay day dayTable hasEndYear endYear endYearTable hasEndMonth endMonth endMonthTable hasEndDay endDay endDayTable =
-    onThree (threeFields year yearTable hasMonth month monthTable hasDay day dayTable) λ a.
-    withEnd a hasEndYear endYear endYearTable hasEndMonth endMonth endMonthTable hasEndDay endDay endDayTable
+-- the fields of a start, whether there is an end year list, and the fields of an end: the start is checked and read by the rules of three
+-- fields before any list of the end is looked at
+unfoldable pub sixFields : Three → Bool → Three → ReadDate
+sixFields start hasEnd end = onThree (threeFields start) λ a. withEnd a hasEnd end

@@ -6,6 +6,7 @@ ghost use lib.ListN.{length};
 ghost use Rattle.chunks.specs.Chunks.{isShort};
 ghost use Rattle.chunks.specs.Answer.{roomOf};
 ghost use Rattle.datefield.specs.Text as text;
+ghost use Rattle.reading_laws.specs.Lent.{lent, optional, three};
 ghost use Rattle.sixfields.specs.Six as six;
 use chunks::Formatted;
 use dates::Date;
@@ -33,7 +34,7 @@ fn is_blank(s: &[u8]) -> bool
 // An end year list, formatted into a buffer with room for it.
 fn end_year_in(bytes: &[u8], table: &[u64], buf: &mut [u8]) -> EndYear
     requires { ⌜ (isShort (now bytes) (now table) ≡ true → roomOf (now bytes) (now table) ≤ length (now buf)) ⌝ }
-    ensures { λ r. ⌜ r ≡ six.endYearOf (now (bytes .entry)) (now (table .entry)) ⌝ }
+    ensures { λ r. ⌜ r ≡ six.endYearOf (lent (now (bytes .entry)) (now (table .entry))) ⌝ }
 {
     match chunks::format_verbatim(bytes, table, buf) {
         Formatted::Text(n) => {
@@ -48,7 +49,7 @@ fn end_year_in(bytes: &[u8], table: &[u64], buf: &mut [u8]) -> EndYear
 
 // An end year list. A short one is formatted into a small array, which costs less to clear.
 fn end_year_of(bytes: &[u8], table: &[u64]) -> EndYear
-    ensures { λ r. ⌜ r ≡ six.endYearOf (now (bytes .entry)) (now (table .entry)) ⌝ }
+    ensures { λ r. ⌜ r ≡ six.endYearOf (lent (now (bytes .entry)) (now (table .entry))) ⌝ }
 {
     if bytes.len() <= 56 {
         if table.len() <= 16 {
@@ -107,7 +108,7 @@ fn with_end(
     day: &[u8],
     day_table: &[u64],
 ) -> ReadDate
-    ensures { λ r. ⌜ r ≡ six.withEnd start «has_year» (now (year .entry)) (now («year_table» .entry)) «has_month» (now (month .entry)) (now («month_table» .entry)) «has_day» (now (day .entry)) (now («day_table» .entry)) ⌝ }
+    ensures { λ r. ⌜ r ≡ six.withEnd start «has_year» (three (lent (now (year .entry)) (now («year_table» .entry))) (optional «has_month» (now (month .entry)) (now («month_table» .entry))) (optional «has_day» (now (day .entry)) (now («day_table» .entry)))) ⌝ }
 {
     if has_year {
         return match end_year_of(year, year_table) {
@@ -152,7 +153,7 @@ pub fn parse_six_fields(
     end_day: &[u8],
     end_day_table: &[u64],
 ) -> ReadDate
-    ensures { λ r. ⌜ r ≡ six.sixFields (now (year .entry)) (now («year_table» .entry)) «has_month» (now (month .entry)) (now («month_table» .entry)) «has_day» (now (day .entry)) (now («day_table» .entry)) «has_end_year» (now («end_year» .entry)) (now («end_year_table» .entry)) «has_end_month» (now («end_month» .entry)) (now («end_month_table» .entry)) «has_end_day» (now («end_day» .entry)) (now («end_day_table» .entry)) ⌝ }
+    ensures { λ r. ⌜ r ≡ six.sixFields (three (lent (now (year .entry)) (now («year_table» .entry))) (optional «has_month» (now (month .entry)) (now («month_table» .entry))) (optional «has_day» (now (day .entry)) (now («day_table» .entry)))) «has_end_year» (three (lent (now («end_year» .entry)) (now («end_year_table» .entry))) (optional «has_end_month» (now («end_month» .entry)) (now («end_month_table» .entry))) (optional «has_end_day» (now («end_day» .entry)) (now («end_day_table» .entry)))) ⌝ }
 {
     match reader::parse_three_fields(
         year,

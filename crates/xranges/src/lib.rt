@@ -134,17 +134,17 @@ fn behind_months(s: &[u8], c: Cursor, year: u32) -> ReadRange
     requires { ⌜ year < 10000 ⌝ }
     ensures { λ r. ⌜ r ≡ spec.behindMonths (now (s .entry)) (c .0) year ⌝ }
 {
-    let c1 = scanner::eat_whitespace(s, c);
-    if scanner::done(s, c1) {
+    let pos = scanner::eat_whitespace(s, c);
+    if scanner::done(s, pos) {
         return months(year);
     }
-    match get_hyphen(s, c1) {
-        ReadHyphen::Behind(c2) => {
-            let c3 = scanner::eat_while(s, c2, Class::Is(LETTER_X));
-            if len(c2, c3) == 2 {
+    match get_hyphen(s, pos) {
+        ReadHyphen::Behind(day_start) => {
+            let day_end = scanner::eat_while(s, day_start, Class::Is(LETTER_X));
+            if len(day_start, day_end) == 2 {
                 return months(year);
             }
-            ReadRange::NoRange(here(Kind::InvalidFormat, c3))
+            ReadRange::NoRange(here(Kind::InvalidFormat, day_end))
         }
         ReadHyphen::NoHyphen(e) => ReadRange::NoRange(e),
     }
@@ -156,16 +156,16 @@ fn behind_month(s: &[u8], c: Cursor, year: u32, month: Month) -> ReadRange
     ensures { λ r. ⌜ r ≡ spec.behindMonth (now (s .entry)) (c .0) year (month .0) ⌝ }
 {
     match get_hyphen(s, c) {
-        ReadHyphen::Behind(c1) => {
-            let c2 = scanner::eat_while(s, c1, Class::Is(LETTER_X));
-            if len(c1, c2) == 2 {
-                let c3 = scanner::eat_whitespace(s, c2);
-                if scanner::done(s, c3) {
+        ReadHyphen::Behind(day_start) => {
+            let day_end = scanner::eat_while(s, day_start, Class::Is(LETTER_X));
+            if len(day_start, day_end) == 2 {
+                let pos = scanner::eat_whitespace(s, day_end);
+                if scanner::done(s, pos) {
                     return days(year, month);
                 }
-                return ReadRange::NoRange(here(Kind::InvalidFormat, c3));
+                return ReadRange::NoRange(here(Kind::InvalidFormat, pos));
             }
-            ReadRange::NoRange(here(Kind::InvalidFormat, c2))
+            ReadRange::NoRange(here(Kind::InvalidFormat, day_end))
         }
         ReadHyphen::NoHyphen(e) => ReadRange::NoRange(e),
     }
@@ -201,11 +201,11 @@ fn behind_year(s: &[u8], c: Cursor, year: u32) -> ReadRange
 {
     match get_hyphen(s, c) {
         ReadHyphen::Behind(idx) => {
-            let c1 = scanner::eat_while(s, idx, Class::Is(LETTER_X));
-            match len(idx, c1) {
+            let month_end = scanner::eat_while(s, idx, Class::Is(LETTER_X));
+            match len(idx, month_end) {
                 0 => month(s, idx, year),
-                2 => behind_months(s, c1, year),
-                _ => ReadRange::NoRange(refuse_text(Kind::WrongNumberOfDigits, idx, c1)),
+                2 => behind_months(s, month_end, year),
+                _ => ReadRange::NoRange(refuse_text(Kind::WrongNumberOfDigits, idx, month_end)),
             }
         }
         ReadHyphen::NoHyphen(e) => ReadRange::NoRange(e),
@@ -218,24 +218,24 @@ pub fn range_dates(s: &[u8]) -> ReadRange
 {
     let run = scanner::next_run(s, Cursor(0), Class::AsciiDigit);
     let start = run.start;
-    let c = run.end;
-    let sure_digits = len(start, c);
+    let digits_end = run.end;
+    let sure_digits = len(start, digits_end);
     // 10_i32.pow(4 - sure_digits)
     if 4 < sure_digits {
         return ReadRange::NoRange(panics());
     }
     // The run of X is taken only behind two digits or more.
     if sure_digits < 2 {
-        return ReadRange::NoRange(refuse_text(Kind::WrongNumberOfDigits, Cursor(0), c));
+        return ReadRange::NoRange(refuse_text(Kind::WrongNumberOfDigits, Cursor(0), digits_end));
     }
-    let c1 = scanner::eat_while(s, c, Class::Is(LETTER_X));
-    if len(c, c1) != 4 - sure_digits {
-        return ReadRange::NoRange(refuse_text(Kind::WrongNumberOfDigits, Cursor(0), c1));
+    let year_end = scanner::eat_while(s, digits_end, Class::Is(LETTER_X));
+    if len(digits_end, year_end) != 4 - sure_digits {
+        return ReadRange::NoRange(refuse_text(Kind::WrongNumberOfDigits, Cursor(0), year_end));
     }
-    match numbers::parse(scanner::from(s, start, c), 9999) {
+    match numbers::parse(scanner::from(s, start, digits_end), 9999) {
         ParsedNumber::Value(year_part) => {
             if sure_digits == 4 {
-                return behind_year(s, c1, year_part);
+                return behind_year(s, year_end, year_part);
             }
             years(year_part, variable(sure_digits))
         }

@@ -18,8 +18,8 @@ returns c =
     let y = toZ-ofZ w32 (p .args .year) (p .fits .year) in
     simp (← b3 .eat-whitespace .ensures, ← b2 .done .ensures, b1 .if1 .taken, c .new .ensures, y)
 
-enum-known-b : tie.Need-enum-known-b
-enum-known-b c = c .match .keys1
+enum-known-day-start : tie.Need-enum-known-day-start
+enum-known-day-start c = c .match .keys1
 
 enum-known-day : tie.Need-enum-known-day
 enum-known-day c = c .match2 .keys1
@@ -40,7 +40,7 @@ returns-2 c =
     let y = toZ-ofZ w32 (p .args .year) (p .fits .year) in
     let l = rw y at (b2 .days-in-month .ensures) in
     let e = rw y at (c .behind-day .ensures) in
-    simp (← b13 .eat-whitespace .ensures, ← b12 .done .ensures, b11 .if1 .left, ← b10 .parse-hyphen .ensures, b8 .b .given .1, ← b6 .parse-day .ensures, b4 .day .given .1, ← l, lt-ltb _ _ (b1 .if2 .taken), ← e)
+    simp (← b13 .eat-whitespace .ensures, ← b12 .done .ensures, b11 .if1 .left, ← b10 .parse-hyphen .ensures, b8 .day-start .given .1, ← b6 .parse-day .ensures, b4 .day .given .1, ← l, lt-ltb _ _ (b1 .if2 .taken), ← e)
 
 enum-known-e : tie.Need-enum-known-e
 enum-known-e c = c .match2 .keys2
@@ -63,7 +63,7 @@ returns-3 c =
     let p = b13 .before .before in
     let y = toZ-ofZ w32 (p .args .year) (p .fits .year) in
     let l = rw y at (b2 .days-in-month .ensures) in
-    simp (← b13 .eat-whitespace .ensures, ← b12 .done .ensures, b11 .if1 .left, ← b10 .parse-hyphen .ensures, b8 .b .given .1, ← b6 .parse-day .ensures, b4 .day .given .1, ← l, le-ltb _ _ (b1 .if2 .left), c .refuse-text .ensures)
+    simp (← b13 .eat-whitespace .ensures, ← b12 .done .ensures, b11 .if1 .left, ← b10 .parse-hyphen .ensures, b8 .day-start .given .1, ← b6 .parse-day .ensures, b4 .day .given .1, ← l, le-ltb _ _ (b1 .if2 .left), c .refuse-text .ensures)
 
 returns-4 : tie.Need-returns-4
 unfolding behindMonth orEnd onSeparator onPart pick
@@ -75,7 +75,7 @@ returns-4 c =
     let b8 = b7 .before in
     let b9 = b8 .before in
     let b10 = b9 .before in
-    simp (← b10 .eat-whitespace .ensures, ← b9 .done .ensures, b8 .if1 .left, ← b7 .parse-hyphen .ensures, b5 .b .given .1, ← b3 .parse-day .ensures, b1 .e .given .1)
+    simp (← b10 .eat-whitespace .ensures, ← b9 .done .ensures, b8 .if1 .left, ← b7 .parse-hyphen .ensures, b5 .day-start .given .1, ← b3 .parse-day .ensures, b1 .e .given .1)
 
 returns-5 : tie.Need-returns-5
 unfolding behindMonth orEnd onSeparator onPart pick
@@ -88,4 +88,4 @@ returns-5 c =
     simp (← b6 .eat-whitespace .ensures, ← b5 .done .ensures, b4 .if1 .left, ← b3 .parse-hyphen .ensures, b1 .e2 .given .1)
 
 pub behind-month-spec : {M : Type 1} → statement M
-behind-month-spec = tie.close (tie.spec (λ c κs. search needs) (λ c κs. search needs) (λ c κs. search needs) returns (λ c κs. search needs) enum-known-b (λ c κs. search needs) enum-known-day (λ c κs. search needs) (λ c κs. search needs) returns-2 (λ c κs. search needs) enum-known-e enum-known-e-2 returns-3 returns-4 returns-5)
+behind-month-spec = tie.close (tie.spec (λ c κs. search needs) (λ c κs. search needs) (λ c κs. search needs) returns (λ c κs. search needs) enum-known-day-start (λ c κs. search needs) enum-known-day (λ c κs. search needs) (λ c κs. search needs) returns-2 (λ c κs. search needs) enum-known-e enum-known-e-2 returns-3 returns-4 returns-5)

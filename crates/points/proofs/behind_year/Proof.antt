@@ -17,8 +17,8 @@ returns c =
     let y = toZ-ofZ w32 (p .args .year) (p .fits .year) in
     simp (← b3 .eat-whitespace .ensures, ← b2 .done .ensures, b1 .if1 .taken, c .new .ensures, y)
 
-enum-known-b : tie.Need-enum-known-b
-enum-known-b c = c .match .keys1
+enum-known-month-start : tie.Need-enum-known-month-start
+enum-known-month-start c = c .match .keys1
 
 enum-known-month : tie.Need-enum-known-month
 enum-known-month c = c .match2 .keys1
@@ -42,7 +42,7 @@ returns-2 c =
     let p = b11 .before .before in
     let y = toZ-ofZ w32 (p .args .year) (p .fits .year) in
     let e = rw y at (c .behind-month .ensures) in
-    simp (← b11 .eat-whitespace .ensures, ← b10 .done .ensures, b9 .if1 .left, ← b8 .parse-hyphen .ensures, b6 .b .given .1, ← b4 .parse-month .ensures, b2 .month .given .1, ← e)
+    simp (← b11 .eat-whitespace .ensures, ← b10 .done .ensures, b9 .if1 .left, ← b8 .parse-hyphen .ensures, b6 .month-start .given .1, ← b4 .parse-month .ensures, b2 .month .given .1, ← e)
 
 returns-3 : tie.Need-returns-3
 unfolding behindYear orEnd onSeparator onPart pick
@@ -54,7 +54,7 @@ returns-3 c =
     let b8 = b7 .before in
     let b9 = b8 .before in
     let b10 = b9 .before in
-    simp (← b10 .eat-whitespace .ensures, ← b9 .done .ensures, b8 .if1 .left, ← b7 .parse-hyphen .ensures, b5 .b .given .1, ← b3 .parse-month .ensures, b1 .e .given .1)
+    simp (← b10 .eat-whitespace .ensures, ← b9 .done .ensures, b8 .if1 .left, ← b7 .parse-hyphen .ensures, b5 .month-start .given .1, ← b3 .parse-month .ensures, b1 .e .given .1)
 
 returns-4 : tie.Need-returns-4
 unfolding behindYear orEnd onSeparator onPart pick
@@ -67,4 +67,4 @@ returns-4 c =
     simp (← b6 .eat-whitespace .ensures, ← b5 .done .ensures, b4 .if1 .left, ← b3 .parse-hyphen .ensures, b1 .e2 .given .1)
 
 pub behind-year-spec : {M : Type 1} → statement M
-behind-year-spec = tie.close (tie.spec (λ c κs. search needs) (λ c κs. search needs) (λ c κs. search needs) returns (λ c κs. search needs) enum-known-b (λ c κs. search needs) enum-known-month (λ c κs. search needs) enum-known-e enum-known-e-2 returns-2 returns-3 returns-4)
+behind-year-spec = tie.close (tie.spec (λ c κs. search needs) (λ c κs. search needs) (λ c κs. search needs) returns (λ c κs. search needs) enum-known-month-start (λ c κs. search needs) enum-known-month (λ c κs. search needs) enum-known-e enum-known-e-2 returns-2 returns-3 returns-4)

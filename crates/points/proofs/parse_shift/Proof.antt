@@ -17,8 +17,8 @@ returns c =
     let b6 = b4 .before .before in
     simp (← b6 .parse-hour .ensures, b4 .hours .given .1, ← b2 .eat-whitespace .ensures, ← b1 .done .ensures, c .if1 .taken)
 
-enum-known-b : tie.Need-enum-known-b
-enum-known-b c = c .match2 .keys1
+enum-known-minute-start : tie.Need-enum-known-minute-start
+enum-known-minute-start c = c .match2 .keys1
 
 enum-known-minutes : tie.Need-enum-known-minutes
 enum-known-minutes c = c .match3 .keys1
@@ -44,7 +44,7 @@ returns-2 c =
     let b10 = b9 .before in
     let b12 = b10 .before .before in
     let b14 = b12 .before .before in
-    simp (← b14 .parse-hour .ensures, b12 .hours .given .1, ← b10 .eat-whitespace .ensures, ← b9 .done .ensures, b8 .if1 .left, ← b7 .parse-colon .ensures, b5 .b .given .1, ← b3 .parse-minutes-or-seconds .ensures, b1 .minutes .given .1)
+    simp (← b14 .parse-hour .ensures, b12 .hours .given .1, ← b10 .eat-whitespace .ensures, ← b9 .done .ensures, b8 .if1 .left, ← b7 .parse-colon .ensures, b5 .minute-start .given .1, ← b3 .parse-minutes-or-seconds .ensures, b1 .minutes .given .1)
 
 returns-3 : tie.Need-returns-3
 unfolding shiftAt onPart orEnd onSeparator pick
@@ -58,7 +58,7 @@ returns-3 c =
     let b10 = b9 .before in
     let b12 = b10 .before .before in
     let b14 = b12 .before .before in
-    simp (← b14 .parse-hour .ensures, b12 .hours .given .1, ← b10 .eat-whitespace .ensures, ← b9 .done .ensures, b8 .if1 .left, ← b7 .parse-colon .ensures, b5 .b .given .1, ← b3 .parse-minutes-or-seconds .ensures, b1 .e .given .1)
+    simp (← b14 .parse-hour .ensures, b12 .hours .given .1, ← b10 .eat-whitespace .ensures, ← b9 .done .ensures, b8 .if1 .left, ← b7 .parse-colon .ensures, b5 .minute-start .given .1, ← b3 .parse-minutes-or-seconds .ensures, b1 .e .given .1)
 
 returns-4 : tie.Need-returns-4
 unfolding shiftAt onPart orEnd onSeparator pick
@@ -80,4 +80,4 @@ returns-5 c =
     simp (← b3 .parse-hour .ensures, b1 .e3 .given .1)
 
 pub parse-shift-spec : {M : Type 1} → statement M
-parse-shift-spec = tie.close (tie.spec (λ c κs. search needs) enum-known-hours (λ c κs. search needs) (λ c κs. search needs) returns (λ c κs. search needs) enum-known-b (λ c κs. search needs) enum-known-minutes enum-known-e enum-known-e-2 enum-known-e-3 returns-2 returns-3 returns-4 returns-5)
+parse-shift-spec = tie.close (tie.spec (λ c κs. search needs) enum-known-hours (λ c κs. search needs) (λ c κs. search needs) returns (λ c κs. search needs) enum-known-minute-start (λ c κs. search needs) enum-known-minutes enum-known-e enum-known-e-2 enum-known-e-3 returns-2 returns-3 returns-4 returns-5)

@@ -1,59 +1,25 @@
-use Rattle.chunks.proofs.Buffers.{is-fault, is-text}
-use Rattle.chunks.proofs.Proper.{faulty-not}
-use Rattle.reader.proofs.Lists.{as-is}
-use mathlib.Core.Bool.{false}
+use native.Mathlib.Omega.{arith}
 use lib.Seq.{length-take-le}
-use mathlib.Core.Path.{sym, ap, _∙_}
-use Rattle.fields.specs.Month.{monthField}
+use mathlib.Core.Path.{sym, _∙_}
 use borrow.Author.Needs.{needs}
 use Rattle.reader.proofs.month_of.Statement.{statement}
 use Rattle.reader.proofs.month_of.Tie as tie
 
-enum-known-n : tie.Need-enum-known-n
-enum-known-n c = c .match .keys1
-
-slice-reshare-prefix-month-field : tie.Need-slice-reshare-prefix-month-field
-slice-reshare-prefix-month-field c =
-    let a = c .before .before .before .before .before .before .before .before .before .before .args in
-    let e = c .before .before .before .before .before .format-verbatim .ensures in
-    let t = is-text false (a .bytes .now) (a .table .now) (a .buf .now) (e .0) (e .1) (c .before .n .given .1) in
-    t .within
-
 slice-aggregate-month-field : tie.Need-slice-aggregate-month-field
 slice-aggregate-month-field c =
-    let a = c .before .before .before .before .before .before .before .before .before .before .before .args in
-    let e = c .before .before .before .before .before .before .format-verbatim .ensures in
-    let t = is-text false (a .bytes .now) (a .table .now) (a .buf .now) (e .0) (e .1) (c .before .before .n .given .1) in
-    sym (length-take-le _ _ (t .within))
-
-enum-told : tie.Need-enum-told
-enum-told c = c .match .keys2
+    let t = c .before .before .before .text-of in
+    sym (length-take-le _ (t .last .1 .1 .0) (omega (arith, t .ensures .0)))
 
 returns : tie.Need-returns
-returns c =
-    let a = c .before .before .before .before .before .before .before .before .before .before .before .before .args in
-    let e = c .before .before .before .before .before .before .before .format-verbatim .ensures in
-    let t = is-text false (a .bytes .now) (a .table .now) (a .buf .now) (e .0) (e .1) (c .before .before .before .n .given .1) in
-    c .month-field .ensures ∙ ap monthField (as-is (a .bytes .now) (a .table .now) (t .front))
-
-returns-2 : tie.Need-returns-2
-returns-2 c =
-    let a = c .before .before .before .before .before .before .before .before .before .args in
-    let e = c .before .before .before .before .format-verbatim .ensures in
-    let f = is-fault false (a .bytes .now) (a .table .now) (a .buf .now) (e .0) (e .1) (c .enum-told .given .1) (c .before .before .before .before .before .before .before .before .before .pre .roomy) in
-    absurd (faulty-not (sym f ∙ c .before .before .before .before .before .before .before .before .before .pre .clean))
+returns c = c .month-field .ensures ∙ rw (c .before .before .before .before .text-of .ensures .1)
 
 pub month-of-spec : {M : Type 1} → statement M
 month-of-spec =
     tie.close
     (tie.spec
     (λ c κs. search needs)
-    enum-known-n
-    slice-reshare-prefix-month-field
+    (λ c. search needs)
     slice-aggregate-month-field
     (λ c κs. search needs)
-    enum-told
     (λ c. search needs)
-    returns
-    (λ c. search needs)
-    returns-2)
+    returns)

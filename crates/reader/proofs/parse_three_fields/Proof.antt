@@ -1,7 +1,8 @@
-use mathlib.Core.Path.{sym, _∙_}
-use Rattle.chunks.specs.Check.{checked}
+use mathlib.Core.Path.{_≡_, sym, _∙_}
+use Rattle.chunks.specs.declared.Checked.the-variants.{Clean}
 use Rattle.reading_laws.specs.Field.{onClean}
-use Rattle.reading_laws.specs.Fields.{threeFields}
+use Rattle.reading_laws.specs.Lent.{lent, optional, three}
+use Rattle.reading_laws.specs.Fields.{fieldsChecked, threeFields}
 use Rattle.reader.proofs.Lists.{day-checked, year-checked, month-checked}
 use borrow.Author.Needs.{needs}
 use Rattle.reader.proofs.parse_three_fields.Statement.{statement}
@@ -14,13 +15,13 @@ read-clean-requires : tie.Need-read-clean-requires
 read-clean-requires c κs =
     let q = c .before .before in
     let a = q .before .before .before .before .before .before .before .args in
-    let e = sym (q .check-fields .ensures) ∙ c .enum-told .given .1 in
-    let y = checked (a .year .now) (a .year-table .now) in
-    let m = checked (a .month .now) (a .month-table .now) in
-    let d = checked (a .day .now) (a .day-table .now) in (
-      year-checked y (a .has-month) m (a .has-day) d e,
-      (λ h. month-checked y (a .has-month) m (a .has-day) d e h, λ h k. day-checked y (a .has-month) m (a .has-day) d e h k),
-    )
+    let t =
+    three
+    (lent (a .year .now) (a .year-table .now))
+    (optional (a .has-month) (a .month .now) (a .month-table .now))
+    (optional (a .has-day) (a .day .now) (a .day-table .now)) in
+    let e : fieldsChecked t ≡ Clean = sym (q .check-fields .ensures) ∙ c .enum-told .given .1 in
+    (year-checked t e, (λ h. month-checked t e h, λ h k. day-checked t e h k))
 
 enum-known-e : tie.Need-enum-known-e
 enum-known-e c = c .match .keys2

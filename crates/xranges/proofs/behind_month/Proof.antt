@@ -16,7 +16,7 @@ returns c =
     let b6 = b5 .before in
     let b8 = b6 .before .before in
     let b10 = b8 .before .before in
-    simp (← b10 .get-hyphen .ensures, b8 .c1 .given .1, ← b6 .eat-while .ensures, ← b5 .len .ensures, eq-eqb _ _ (b4 .if1 .taken), ← b3 .eat-whitespace .ensures, ← b2 .done .ensures, b1 .if2 .taken, ← c .days .ensures)
+    simp (← b10 .get-hyphen .ensures, b8 .day-start .given .1, ← b6 .eat-while .ensures, ← b5 .len .ensures, eq-eqb _ _ (b4 .if1 .taken), ← b3 .eat-whitespace .ensures, ← b2 .done .ensures, b1 .if2 .taken, ← c .days .ensures)
 
 returns-2 : tie.Need-returns-2
 unfolding behindMonth onHyphen dayRun endOfDays pick
@@ -29,7 +29,7 @@ returns-2 c =
     let b6 = b5 .before in
     let b8 = b6 .before .before in
     let b10 = b8 .before .before in
-    simp (← b10 .get-hyphen .ensures, b8 .c1 .given .1, ← b6 .eat-while .ensures, ← b5 .len .ensures, eq-eqb _ _ (b4 .if1 .taken), ← b3 .eat-whitespace .ensures, ← b2 .done .ensures, b1 .if2 .left, ← c .here .ensures)
+    simp (← b10 .get-hyphen .ensures, b8 .day-start .given .1, ← b6 .eat-while .ensures, ← b5 .len .ensures, eq-eqb _ _ (b4 .if1 .taken), ← b3 .eat-whitespace .ensures, ← b2 .done .ensures, b1 .if2 .left, ← c .here .ensures)
 
 returns-3 : tie.Need-returns-3
 unfolding behindMonth onHyphen dayRun endOfDays pick
@@ -39,7 +39,7 @@ returns-3 c =
     let b3 = b2 .before in
     let b5 = b3 .before .before in
     let b7 = b5 .before .before in
-    simp (← b7 .get-hyphen .ensures, b5 .c1 .given .1, ← b3 .eat-while .ensures, ← b2 .len .ensures, ne-eqb _ _ (b1 .if1 .left), ← c .here2 .ensures)
+    simp (← b7 .get-hyphen .ensures, b5 .day-start .given .1, ← b3 .eat-while .ensures, ← b2 .len .ensures, ne-eqb _ _ (b1 .if1 .left), ← c .here2 .ensures)
 
 returns-4 : tie.Need-returns-4
 unfolding behindMonth onHyphen dayRun endOfDays pick

@@ -24,7 +24,7 @@ returns-2 c =
     let b8 = b7 .before in
     let b9 = b8 .before in
     let b10 = b9 .before in
-    simp (← b10 .eat-whitespace .ensures, ← b9 .done .ensures, b8 .if1 .left, ← b7 .get-hyphen .ensures, b5 .c2 .given .1, ← b3 .eat-while .ensures, ← b2 .len .ensures, eq-eqb _ _ (b1 .if2 .taken), ← c .months2 .ensures)
+    simp (← b10 .eat-whitespace .ensures, ← b9 .done .ensures, b8 .if1 .left, ← b7 .get-hyphen .ensures, b5 .day-start .given .1, ← b3 .eat-while .ensures, ← b2 .len .ensures, eq-eqb _ _ (b1 .if2 .taken), ← c .months2 .ensures)
 
 returns-3 : tie.Need-returns-3
 unfolding behindMonths secondAt onHyphen secondRun pick
@@ -37,7 +37,7 @@ returns-3 c =
     let b8 = b7 .before in
     let b9 = b8 .before in
     let b10 = b9 .before in
-    simp (← b10 .eat-whitespace .ensures, ← b9 .done .ensures, b8 .if1 .left, ← b7 .get-hyphen .ensures, b5 .c2 .given .1, ← b3 .eat-while .ensures, ← b2 .len .ensures, ne-eqb _ _ (b1 .if2 .left), ← c .here .ensures)
+    simp (← b10 .eat-whitespace .ensures, ← b9 .done .ensures, b8 .if1 .left, ← b7 .get-hyphen .ensures, b5 .day-start .given .1, ← b3 .eat-while .ensures, ← b2 .len .ensures, ne-eqb _ _ (b1 .if2 .left), ← c .here .ensures)
 
 returns-4 : tie.Need-returns-4
 unfolding behindMonths secondAt onHyphen secondRun pick
