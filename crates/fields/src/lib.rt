@@ -270,17 +270,17 @@ fn day_digits(s: &[u8], start: Cursor, c: Cursor) -> ReadDay
 pub fn day_in_month_field(s: &[u8], c: Cursor) -> ReadDay
     ensures { λ r. ⌜ r ≡ days.dayInMonthField (now (s .entry)) (c .0) ⌝ }
 {
-    let a = scanner::eat_while(s, c, Class::PlainWhitespace);
-    let start = scanner::eat_while(s, a, Class::Separator);
-    let next = scanner::eat_while(s, start, Class::AsciiDigit);
-    let digits = scanner::from(s, start, next);
+    let pos = scanner::eat_while(s, c, Class::PlainWhitespace);
+    let day_start = scanner::eat_while(s, pos, Class::Separator);
+    let next = scanner::eat_while(s, day_start, Class::AsciiDigit);
+    let digits = scanner::from(s, day_start, next);
     if digits.len() == 0 {
-        if a.0 == start.0 {
+        if pos.0 == day_start.0 {
             return ReadDay::DayRead(OptionDay::NoDay);
         }
-        return ReadDay::NoDayRead(refuse_text(Kind::MissingNumber, start, next));
+        return ReadDay::NoDayRead(refuse_text(Kind::MissingNumber, day_start, next));
     }
-    day_digits(s, start, next)
+    day_digits(s, day_start, next)
 }
 
 // No day, for a reason that has the list's span as its place.
