@@ -1,5 +1,5 @@
-/* Reads, writes and compares the dates of bibliographies, and keeps a
- * chronology of entries. The functions are in libknobstream.a, for x86-64 and
+/* Reads, writes and compares the dates of bibliographies, counts their days,
+ * keeps a chronology of entries, and reads and writes page ranges. The functions are in libknobstream.a, for x86-64 and
  * Arm (aarch64) Linux; their contracts are in crates/knobstream/src/, and each
  * is proved.
  *
@@ -31,11 +31,10 @@ extern "C" {
 
 /* The version of the calls and structs below, and of those in the library: a
  * program that finds them different was made for another library. */
-enum { KNOBSTREAM_VERSION = 4 };
+enum { KNOBSTREAM_VERSION = 5 };
 uint32_t knobstream_version(void);
 
-/* Why a call refuses. 0 is no refusal. 17, 22 and 25 are of calls in Rattle that
- * this library does not have yet. */
+/* Why a call refuses. 0 is no refusal. */
 enum {
     KNOBSTREAM_OK = 0,
     KNOBSTREAM_UNDEFINED_RANGE = 1,       /* a range that is open on both sides */
@@ -102,8 +101,9 @@ static inline const char *knobstream_refusal_name(unsigned refusal)
 }
 
 /* The limits of a chunk list, the room that every written text, all written
- * fields, every text of level one and every answer to a frame have enough of,
- * the entries that a chronology has room for, the numbers that every list of
+ * fields, every text of level one, every text with times and every page range
+ * have enough of, the pieces that are read as page ranges at once, the room for
+ * an answer to a frame, the entries that a chronology has room for, the numbers that every list of
  * them has enough of, and the stack that a call uses at most, one on a
  * chronology, and the one that answers a frame. */
 enum {
@@ -112,6 +112,9 @@ enum {
     KNOBSTREAM_TEXT_ROOM = 40,
     KNOBSTREAM_FIELDS_ROOM = 79,
     KNOBSTREAM_LEVEL_ONE_ROOM = 42,
+    KNOBSTREAM_TIMED_ROOM = 70,
+    KNOBSTREAM_RANGE_ROOM = 21,
+    KNOBSTREAM_MAX_PIECES = 64,
     KNOBSTREAM_LINE_ROOM = 147,
     KNOBSTREAM_ENTRIES = 512,
     KNOBSTREAM_LIST_ROOM = 1536,
@@ -192,6 +195,30 @@ typedef struct {
     uint8_t refusal;
 } knobstream_written;
 
+/* The days that a datetime covers, from the first to the last: those of its year,
+ * of its month, or its one day. If `refusal` is not 0, both are 0. */
+typedef struct {
+    int32_t first, last;
+    uint8_t refusal;
+} knobstream_period;
+
+/* The seconds from the start of day 0 in UTC to an instant; 0 if `refusal` is not
+ * 0. Every day has 86,400 of them. */
+typedef struct {
+    int64_t seconds;
+    uint8_t refusal;
+} knobstream_seconds;
+
+/* What reading page ranges answers. If `refusal` is 0, `ranges` is how many there
+ * are, and the first 2 * `ranges` numbers of `out` are their starts and ends in
+ * turn. Else it is 0, `out` is as it was, and [start, end) is the place as in
+ * knobstream_answer. */
+typedef struct {
+    uint64_t ranges;
+    uint64_t start, end;
+    uint64_t refusal;
+} knobstream_pages;
+
 /* A chronology: up to 512 entries, each with an identifier and its days from a
  * first to a last, in list order: by first day, last day, identifier. Day 0 is
  * 0000-01-01; a day is one of the years -9999 to 9999, from -3652059 to 3652424.
@@ -241,6 +268,9 @@ KNOBSTREAM_HOLDS(offsetof(knobstream_answer, refusal) == 52 && sizeof(knobstream
 KNOBSTREAM_HOLDS(sizeof(knobstream_chronology) == 6152 && offsetof(knobstream_chronology, ids) == 4104);
 KNOBSTREAM_HOLDS(sizeof(knobstream_entries) == 16 && sizeof(knobstream_reply) == 16);
 KNOBSTREAM_HOLDS(offsetof(knobstream_reply, found) == 8 && offsetof(knobstream_reply, refusal) == 9);
+KNOBSTREAM_HOLDS(sizeof(knobstream_period) == 12 && offsetof(knobstream_period, refusal) == 8);
+KNOBSTREAM_HOLDS(sizeof(knobstream_seconds) == 16 && offsetof(knobstream_seconds, refusal) == 8);
+KNOBSTREAM_HOLDS(sizeof(knobstream_pages) == 32 && offsetof(knobstream_pages, refusal) == 24);
 #undef KNOBSTREAM_HOLDS
 #endif
 
@@ -284,6 +314,31 @@ void knobstream_parse_three_fields(
     const uint64_t *day_table, size_t day_table_len,
     knobstream_answer *answer);
 
+/* The fields year, month, day, endyear, endmonth and endday: the first three as
+ * above, and, if there is an end year list, a range. One that is blank leaves the
+ * range open; with any other text the end is read like the start. What is passed
+ * for a list whose `has_` is 0 is not looked at, nor is a list of the end before
+ * the start was read. No mark is set. */
+void knobstream_parse_six_fields(
+    const uint8_t *year, size_t year_len,
+    const uint64_t *year_table, size_t year_table_len,
+    uint8_t has_month,
+    const uint8_t *month, size_t month_len,
+    const uint64_t *month_table, size_t month_table_len,
+    uint8_t has_day,
+    const uint8_t *day, size_t day_len,
+    const uint64_t *day_table, size_t day_table_len,
+    uint8_t has_end_year,
+    const uint8_t *end_year, size_t end_year_len,
+    const uint64_t *end_year_table, size_t end_year_table_len,
+    uint8_t has_end_month,
+    const uint8_t *end_month, size_t end_month_len,
+    const uint64_t *end_month_table, size_t end_month_table_len,
+    uint8_t has_end_day,
+    const uint8_t *end_day, size_t end_day_len,
+    const uint64_t *end_day_table, size_t end_day_table_len,
+    knobstream_answer *answer);
+
 /* How long the text of a date is, for whoever must reserve room before it is
  * written: `length` is what the next call stores. It refuses what that call
  * refuses, apart from NoRoom. The date is passed part by part, so that it goes
@@ -315,6 +370,18 @@ knobstream_written knobstream_measure_level_one(
     uint8_t shape, uint8_t uncertain, uint8_t approximate);
 
 knobstream_written knobstream_write_level_one(
+    knobstream_datetime first, knobstream_datetime second,
+    uint8_t *out, size_t out_len,
+    uint8_t shape, uint8_t uncertain, uint8_t approximate);
+
+/* How long the text of a date with its times is, and that text:
+ * "2000-02-29T12:30:00Z". Both refuse HasSeason, then RustPanics, then BadTime of
+ * either end; the second then NoRoom. */
+knobstream_written knobstream_measure_timed(
+    knobstream_datetime first, knobstream_datetime second,
+    uint8_t shape, uint8_t uncertain, uint8_t approximate);
+
+knobstream_written knobstream_write_timed(
     knobstream_datetime first, knobstream_datetime second,
     uint8_t *out, size_t out_len,
     uint8_t shape, uint8_t uncertain, uint8_t approximate);
@@ -353,6 +420,31 @@ static inline knobstream_written knobstream_date_level_one_text(
                                       date->shape, date->uncertain, date->approximate);
 }
 
+static inline knobstream_written knobstream_date_timed_length(const knobstream_date *date)
+{
+    return knobstream_measure_timed(date->first, date->second,
+                                    date->shape, date->uncertain, date->approximate);
+}
+
+static inline knobstream_written knobstream_date_timed_text(
+    const knobstream_date *date, uint8_t *out, size_t out_len)
+{
+    return knobstream_write_timed(date->first, date->second, out, out_len,
+                                  date->shape, date->uncertain, date->approximate);
+}
+
+/* The first and the last day that a datetime covers, as a chronology counts them.
+ * Refuses HasSeason, then NotACalendarDate. Its time is not looked at. */
+knobstream_period knobstream_days(knobstream_datetime datetime);
+
+/* The instant of a datetime. Refuses HasSeason, then NotACalendarDate, then
+ * BadTime, then NoInstant where there is no day, no time or no offset. */
+knobstream_seconds knobstream_instant(knobstream_datetime datetime);
+
+/* How the first instant stands to the second: -1 before it, 0 at once with it, 1
+ * after it; or the number of the refusal, of the first before the second. */
+int32_t knobstream_compare_instants(knobstream_datetime first, knobstream_datetime second);
+
 /* How the first stands to the second: -1 less, 0 equal, 1 greater, 2 none of
  * these, as 2000 and 2000-02, or times of which one has an offset. Where one of
  * them has a season it is KNOBSTREAM_HAS_SEASON, 24. */
@@ -364,6 +456,24 @@ int32_t knobstream_compare(knobstream_datetime first, knobstream_datetime second
  * 14 and the place 0, 0. docs/RULES.md, section 15, has the format. */
 knobstream_written knobstream_answer_frame(
     const uint8_t *line, size_t line_len,
+    uint8_t *out, size_t out_len);
+
+/* Page ranges: pieces of a pages field, one behind the other, each a chunk list,
+ * and how many chunks each of them has. A piece is a number, or two numbers with a
+ * hyphen, an en dash or an em dash between them; a number has 32 bits. Refuses
+ * TooLong above 64 pieces, BadChunks where counts, table and bytes do not make each
+ * other up, NoRoom where `out` has not two numbers a piece; then what the first
+ * refused piece is refused for. */
+void knobstream_parse_pages(
+    const uint8_t *bytes, size_t bytes_len,
+    const uint64_t *table, size_t table_len,
+    const size_t *counts, size_t counts_len,
+    uint32_t *out, size_t out_len,
+    knobstream_pages *answer);
+
+/* The text of a page range, at the front of `out`: "7-12", "7-7". */
+knobstream_written knobstream_write_range(
+    uint32_t start, uint32_t end,
     uint8_t *out, size_t out_len);
 
 /* The calls on a chronology, on its count and its three columns of
