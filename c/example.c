@@ -46,7 +46,7 @@ static int show_by(const char *name, reader *read, const char *text)
         if (w.refusal != KNOBSTREAM_OK)
             w = knobstream_date_level_one_text(&a.date, out, sizeof out);
         printf("  %-10s %.*s\n", name, (int)w.length, (const char *)out);
-    } else if (a.start == 0 && a.end == 0) {
+    } else if (a.refusal == KNOBSTREAM_RUST_PANICS || a.refusal >= KNOBSTREAM_NOT_STRICT) { /* these name no place */
         printf("  %-10s %s\n", name, knobstream_refusal_name(a.refusal));
     } else {
         printf("  %-10s %s at %llu to %llu\n", name, knobstream_refusal_name(a.refusal),

@@ -67,7 +67,7 @@ enum {
     KNOBSTREAM_NO_ROOM = 13,              /* `out` is too short */
     KNOBSTREAM_BAD_FRAME = 14,
     KNOBSTREAM_BAD_CHUNKS = 15,           /* the table does not fit the bytes */
-    KNOBSTREAM_TOO_LONG = 16,             /* over 64 chunks or 4,096 bytes */
+    KNOBSTREAM_TOO_LONG = 16,             /* over 64 chunks or pieces, or 4,096 bytes */
     KNOBSTREAM_NOT_A_CALENDAR_DATE = 17,  /* no date of the years -9999 to 9999 */
     KNOBSTREAM_BAD_PERIOD = 18,           /* last day before the first, or none of those years */
     KNOBSTREAM_DUPLICATE_ENTRY = 19,      /* the identifier is in the chronology */

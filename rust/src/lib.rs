@@ -318,7 +318,7 @@ kinds! {
     /// Refuses a table of chunks. No list of Rust is refused so.
     BadChunks = 15, "chunks do not fit the text";
     /// More than 64 chunks or 4,096 bytes, or more than 64 pieces. No place.
-    TooLong = 16, "more than 64 chunks or 4,096 bytes";
+    TooLong = 16, "more than 64 chunks or pieces, or 4,096 bytes";
     /// Not a year, month or day of the calendar, or outside the years -9999 to 9999. No place.
     NotACalendarDate = 17, "not a date of the calendar from -9999 to 9999";
     /// The last day is before the first, or a day is outside the years -9999 to 9999. No place.
@@ -361,7 +361,7 @@ impl Display for TypeError {
 impl core::error::Error for TypeError {}
 
 /// A short text of ASCII, so that it can be padded as one. What has no room is
-/// left out; the longest message with its place has 97 bytes.
+/// left out; the longest message with its place has 94 bytes.
 struct Short {
     bytes: [u8; 128],
     length: usize,
