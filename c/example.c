@@ -1,43 +1,67 @@
-/* Reads each argument as a date field, and where that fails by the grammar of
- * level one, and prints what it says; with no arguments, checks each call on a
- * few dates. It ends with 0 if all is as it should be. */
+/* Reads each argument as a date field and prints what the ported reader, the
+ * strict reader and the reader of level one say of it: `example 49 2000-02-30`.
+ * It ends with 0 if one of them takes each. With no arguments it checks each
+ * call on a few values, and ends with 0 if all is as it should be.
+ *
+ * It is C99 and C++17 in one. */
 #include "knobstream.h"
 
 #include <stdio.h>
 #include <string.h>
 
-static knobstream_answer read_text(const char *text)
+typedef void reader(
+    const uint8_t *bytes, size_t bytes_len,
+    const uint64_t *table, size_t table_len,
+    knobstream_answer *answer);
+
+/* What a reader says of a text that begins its file. */
+static knobstream_answer read_by(reader *read, const char *text)
 {
-    const uint64_t n = strlen(text);
+    const size_t n = strlen(text);
     const uint64_t table[4] = { KNOBSTREAM_NORMAL, n, 0, n };
     knobstream_answer a;
-    knobstream_parse((const uint8_t *)text, n, table, 4, &a);
+    read((const uint8_t *)text, n, table, 4, &a);
     return a;
+}
+
+static knobstream_answer read_text(const char *text)
+{
+    return read_by(knobstream_parse, text);
 }
 
 /* The same by the reader that knows seasons and long years. */
 static knobstream_answer read_level_one(const char *text)
 {
-    const uint64_t n = strlen(text);
-    const uint64_t table[4] = { KNOBSTREAM_NORMAL, n, 0, n };
-    knobstream_answer a;
-    knobstream_parse_level_one((const uint8_t *)text, n, table, 4, &a);
-    return a;
+    return read_by(knobstream_parse_level_one, text);
+}
+
+/* Prints the date with its times, or with its seasons; or why there is none. */
+static int show_by(const char *name, reader *read, const char *text)
+{
+    const knobstream_answer a = read_by(read, text);
+    uint8_t out[KNOBSTREAM_TIMED_ROOM];
+    knobstream_written w;
+    if (a.refusal == KNOBSTREAM_OK) {
+        w = knobstream_date_timed_text(&a.date, out, sizeof out);
+        if (w.refusal != KNOBSTREAM_OK)
+            w = knobstream_date_level_one_text(&a.date, out, sizeof out);
+        printf("  %-10s %.*s\n", name, (int)w.length, (const char *)out);
+    } else if (a.refusal == KNOBSTREAM_RUST_PANICS || a.refusal >= KNOBSTREAM_NOT_STRICT) { /* these name no place */
+        printf("  %-10s %s\n", name, knobstream_refusal_name(a.refusal));
+    } else {
+        printf("  %-10s %s at %llu to %llu\n", name, knobstream_refusal_name(a.refusal),
+               (unsigned long long)a.start, (unsigned long long)a.end);
+    }
+    return a.refusal == KNOBSTREAM_OK;
 }
 
 static int show(const char *text)
 {
-    const knobstream_answer a = read_text(text), level_one = read_level_one(text);
-    if (a.refusal != KNOBSTREAM_OK && level_one.refusal != KNOBSTREAM_OK) {
-        printf("%s: %s at %llu to %llu\n", text, knobstream_refusal_name(a.refusal),
-               (unsigned long long)a.start, (unsigned long long)a.end);
-        return 1;
-    }
-    const knobstream_date *date = a.refusal == KNOBSTREAM_OK ? &a.date : &level_one.date;
-    uint8_t out[KNOBSTREAM_LEVEL_ONE_ROOM];
-    const knobstream_written w = knobstream_date_level_one_text(date, out, sizeof out);
-    printf("%s: %.*s\n", text, (int)w.length, (const char *)out);
-    return 0;
+    puts(text);
+    const int ported = show_by("ported", knobstream_parse, text);
+    const int strict = show_by("strict", knobstream_parse_strict, text);
+    const int level_one = show_by("level one", knobstream_parse_level_one, text);
+    return ported || strict || level_one;
 }
 
 static int failures;
@@ -127,6 +151,147 @@ static void self_check_level_one(void)
     memset(out, 0xAA, sizeof out);
     check(knobstream_date_level_one_text(&a.date, out, 14).refusal == KNOBSTREAM_NO_ROOM && out[0] == 0xAA,
           "one byte too few for a season");
+}
+
+/* A list of one Normal chunk that begins at this place of its file. */
+typedef struct {
+    const char *text;
+    uint64_t table[4];
+} field;
+
+static field at(const char *text, uint64_t start)
+{
+    const size_t n = strlen(text);
+    const field f = { text, { KNOBSTREAM_NORMAL, n, start, start + n } };
+    return f;
+}
+
+#define LENT(f) (const uint8_t *)(f).text, strlen((f).text), (f).table, 4
+#define ABSENT NULL, 7, NULL, 9 /* what is absent is not looked at */
+
+static void self_check_six_fields(void)
+{
+    const field y = at("2000", 10), m = at("feb", 20), d = at("29", 30);
+    const field end = at("2001", 40), blank = at(" \n", 40), none = at("x", 50), month = at("3", 60), day = at("31", 70);
+    knobstream_answer a;
+    knobstream_parse_six_fields(LENT(y), 1, LENT(m), 1, LENT(d), 1, LENT(end), 1, LENT(month), 1, LENT(day), &a);
+    check(a.refusal == 0 && a.date.shape == KNOBSTREAM_BETWEEN && a.date.first.month == 1 && a.date.first.day == 28
+              && a.date.second.year == 2001 && a.date.second.month == 2 && a.date.second.day == 30,
+          "six fields");
+    knobstream_parse_six_fields(LENT(y), 0, ABSENT, 0, ABSENT, 0, ABSENT, 0, ABSENT, 0, ABSENT, &a);
+    check(a.refusal == 0 && a.date.shape == KNOBSTREAM_AT && a.date.first.has_month == 0, "a year field alone");
+    knobstream_parse_six_fields(LENT(y), 0, ABSENT, 0, ABSENT, 1, LENT(blank), 1, LENT(none), 0, ABSENT, &a);
+    check(a.refusal == 0 && a.date.shape == KNOBSTREAM_AFTER && a.date.first.year == 2000, "a blank end year");
+    knobstream_parse_six_fields(LENT(y), 0, ABSENT, 0, ABSENT, 1, LENT(none), 0, ABSENT, 0, ABSENT, &a);
+    check(a.refusal == KNOBSTREAM_INVALID_FORMAT && a.start == 50 && a.end == 50, "an end year that is none");
+    knobstream_parse_six_fields(LENT(none), 0, ABSENT, 0, ABSENT, 1, LENT(end), 0, ABSENT, 0, ABSENT, &a);
+    check(a.refusal == KNOBSTREAM_INVALID_FORMAT && a.start == 50, "the start is refused first");
+}
+
+static void self_check_times(void)
+{
+    static const char both[] = "2000-02-29T23:59:59+23:59/2000-03-01T00:00:00Z%";
+    uint8_t out[KNOBSTREAM_TIMED_ROOM + 1];
+    knobstream_answer a = read_text(both);
+    knobstream_written w = knobstream_date_timed_length(&a.date);
+    check(w.refusal == 0 && w.length == strlen(both), "the length of a text with times");
+    memset(out, 0xAA, sizeof out);
+    check(gave(knobstream_date_timed_text(&a.date, out, strlen(both)), out, both), "a text with times");
+    memset(out, 0xAA, sizeof out);
+    w = knobstream_date_timed_text(&a.date, out, strlen(both) - 1);
+    check(w.refusal == KNOBSTREAM_NO_ROOM && w.length == 0 && out[0] == 0xAA, "one byte too few for times");
+    a.date.second.minute = 60;
+    w = knobstream_date_timed_text(&a.date, NULL, 0);
+    check(w.refusal == KNOBSTREAM_BAD_TIME && knobstream_date_timed_length(&a.date).refusal == 22, "minute 60");
+    a.date.first.month = 255;
+    check(knobstream_date_timed_length(&a.date).refusal == KNOBSTREAM_RUST_PANICS, "month 255 comes before it");
+    a.date.second.season = KNOBSTREAM_SPRING;
+    check(knobstream_date_timed_length(&a.date).refusal == KNOBSTREAM_HAS_SEASON, "a season before both");
+    a = read_text("1999");
+    memset(out, 0xAA, sizeof out);
+    check(gave(knobstream_date_timed_text(&a.date, out, sizeof out), out, "1999"), "a text without times");
+}
+
+/* Whether these are the days of a text. */
+static int covers(const char *text, unsigned refusal, int32_t first, int32_t last)
+{
+    const knobstream_period p = knobstream_days(read_level_one(text).date.first);
+    return p.refusal == refusal && p.first == first && p.last == last;
+}
+
+/* Whether this is the instant of a text. */
+static int instant(const char *text, unsigned refusal, int64_t seconds)
+{
+    const knobstream_seconds s = knobstream_instant(read_level_one(text).date.first);
+    return s.refusal == refusal && s.seconds == seconds;
+}
+
+static int32_t instants(const char *one, const char *other)
+{
+    return knobstream_compare_instants(read_level_one(one).date.first, read_level_one(other).date.first);
+}
+
+static void self_check_moments(void)
+{
+    check(covers("0000-01-01", 0, 0, 0) && covers("2000", 0, 730485, 730850) && covers("1900-02", 0, 693992, 694019)
+              && covers("2000-02-29T23:59:59", 0, 730544, 730544) && covers("-9999-01-01", 0, -3652059, -3652059)
+              && covers("9999-12-31", 0, 3652424, 3652424),
+          "days");
+    check(covers("Y12345", KNOBSTREAM_NOT_A_CALENDAR_DATE, 0, 0) && covers("2000-21", KNOBSTREAM_HAS_SEASON, 0, 0),
+          "no days");
+    check(instant("0000-01-01T00:00:00Z", 0, 0) && instant("2000-01-01T23:00:00Z", 0, 63113986800)
+              && instant("2000-01-02T00:30:00+02:00", 0, 63113985000) && instant("0000-01-01T00:00:00+00:01", 0, -60),
+          "instants");
+    check(instant("2000-21", KNOBSTREAM_HAS_SEASON, 0) && instant("Y12345", KNOBSTREAM_NOT_A_CALENDAR_DATE, 0)
+              && instant("2000-01-01T10:20:30", KNOBSTREAM_NO_INSTANT, 0) && instant("2000", KNOBSTREAM_NO_INSTANT, 0),
+          "no instants");
+    knobstream_datetime d = read_text("2000-01-01T10:20:30Z").date.first;
+    d.hour = 24;
+    check(knobstream_instant(d).refusal == KNOBSTREAM_BAD_TIME && knobstream_instant(d).seconds == 0, "hour 24");
+    check(instants("2000-01-01T23:00:00Z", "2000-01-02T00:30:00+02:00") == 1
+              && instants("2000-01-02T00:30:00+02:00", "2000-01-01T23:00:00Z") == -1
+              && instants("2000-01-01T01:00:00+01:00", "2000-01-01T00:00:00Z") == 0,
+          "the order of instants");
+    check(instants("2000", "Y12345") == KNOBSTREAM_NO_INSTANT && instants("2000-01-01T00:00:00Z", "Y12345") == 17,
+          "instants that are none");
+}
+
+static void self_check_pages(void)
+{
+    /* "7", "12" with an en dash and "15", the hyphen of the third in a chunk of its own */
+    static const char text[] = "712\xE2\x80\x93" "153-5";
+    static const uint64_t table[] = { 0, 1, 10, 11, 0, 7, 13, 20, 0, 1, 22, 23, 0, 1, 23, 24, 0, 1, 24, 25 };
+    static const size_t counts[] = { 1, 1, 3 };
+    static const uint32_t ranges[] = { 7, 7, 12, 15, 3, 5 };
+    const uint8_t *bytes = (const uint8_t *)text;
+    uint32_t out[7] = { 0, 0, 0, 0, 0, 0, 99 };
+    knobstream_pages p;
+    knobstream_parse_pages(bytes, strlen(text), table, 20, counts, 3, out, 6, &p);
+    check(p.refusal == 0 && p.ranges == 3 && p.start == 0 && p.end == 0, "three page ranges");
+    check(memcmp(out, ranges, sizeof ranges) == 0 && out[6] == 99, "their numbers");
+    knobstream_parse_pages(NULL, 0, NULL, 0, NULL, 0, NULL, 0, &p);
+    check(p.refusal == 0 && p.ranges == 0, "no pieces, by null pointers");
+
+    memset(out, 0, sizeof out);
+    knobstream_parse_pages(bytes, strlen(text), table, 20, counts, 3, out, 5, &p);
+    check(p.refusal == KNOBSTREAM_NO_ROOM && p.ranges == 0 && p.start == 0 && p.end == 0, "no room for the third");
+    knobstream_parse_pages(bytes, strlen(text), table, 20, counts, 2, out, 6, &p);
+    check(p.refusal == KNOBSTREAM_BAD_CHUNKS, "counts that leave a chunk over");
+    static const size_t many[65] = { 0 };
+    knobstream_parse_pages(NULL, 0, NULL, 0, many, 65, out, 6, &p);
+    check(p.refusal == KNOBSTREAM_TOO_LONG, "65 pieces");
+    static const uint64_t two[] = { 0, 1, 10, 11, 0, 2, 20, 22 };
+    knobstream_parse_pages((const uint8_t *)"75x", 3, two, 8, counts, 2, out, 6, &p);
+    check(p.refusal == KNOBSTREAM_INVALID_NUMBER && p.start == 20 && p.end == 22, "no page range");
+    check(out[0] == 0 && out[1] == 0, "a refusal stores no number");
+
+    uint8_t room[KNOBSTREAM_RANGE_ROOM + 1];
+    memset(room, 0xAA, sizeof room);
+    check(gave(knobstream_write_range(7, 12, room, 4), room, "7-12"), "a page range as text");
+    memset(room, 0xAA, sizeof room);
+    check(knobstream_write_range(7, 12, room, 3).refusal == KNOBSTREAM_NO_ROOM && room[0] == 0xAA, "no room for it");
+    check(gave(knobstream_write_range(UINT32_MAX, UINT32_MAX, room, KNOBSTREAM_RANGE_ROOM), room, "4294967295-4294967295"),
+          "the longest page range");
 }
 
 /* Whether a call on a chronology answered so. */
@@ -270,6 +435,10 @@ static void self_check(void)
     check(w.refusal == KNOBSTREAM_RUST_PANICS && w.length == 0, "month 255 has no length");
 
     self_check_level_one();
+    self_check_six_fields();
+    self_check_times();
+    self_check_moments();
+    self_check_pages();
     self_check_chronology();
 
     const knobstream_datetime year = read_text("2000").date.first, month = read_text("2000-02").date.first,
@@ -295,17 +464,18 @@ static void self_check(void)
 
     check(strcmp(knobstream_refusal_name(KNOBSTREAM_TOO_LONG), "TooLong") == 0 && *knobstream_refusal_name(99) == 0
               && strcmp(knobstream_refusal_name(23), "NotLevelOne") == 0
-              && strcmp(knobstream_refusal_name(24), "HasSeason") == 0,
+              && strcmp(knobstream_refusal_name(24), "HasSeason") == 0
+              && strcmp(knobstream_refusal_name(26), "BadChronology") == 0,
           "the names of refusals");
 }
 
 int main(int argc, char **argv)
 {
     if (argc > 1) {
-        int refused = 0;
+        int taken = 1;
         for (int i = 1; i < argc; i++)
-            refused |= show(argv[i]);
-        return refused;
+            taken &= show(argv[i]);
+        return !taken;
     }
     self_check();
     if (failures == 0)

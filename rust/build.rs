@@ -1,7 +1,9 @@
 //! Links libknobstream.a: from the folder that KNOBSTREAM_LIB_DIR names, or
-//! else made here, by native/make with the Rattle toolchain.
+//! else made here, by native/make with the Rattle toolchain. The build fails
+//! where the library is not of this crate's version.
 
 use std::env;
+use std::fs;
 use std::path::{Path, PathBuf};
 use std::process::Command;
 
@@ -30,8 +32,51 @@ fn main() {
         fail(&format!("there is no {}", library.display()));
     }
     println!("cargo:rerun-if-changed={}", library.display());
+    check_version(&folder, &library);
     println!("cargo:rustc-link-search=native={}", folder.display());
     println!("cargo:rustc-link-lib=static=knobstream");
+}
+
+/// The calls that came with this version: an earlier library has not all of them.
+const NEWEST: [&str; 8] = [
+    "knobstream_parse_six_fields",
+    "knobstream_measure_timed",
+    "knobstream_write_timed",
+    "knobstream_days",
+    "knobstream_instant",
+    "knobstream_compare_instants",
+    "knobstream_parse_pages",
+    "knobstream_write_range",
+];
+
+/// The header says the version: the one beside the library, or else the one of
+/// this repository, if either is there. The library has the calls of that version.
+fn check_version(folder: &Path, library: &Path) {
+    let own = env::var("CARGO_PKG_VERSION_MINOR").unwrap();
+    let here = PathBuf::from(env::var_os("CARGO_MANIFEST_DIR").unwrap());
+    let headers = [folder.join("knobstream.h"), here.join("../c/knobstream.h")];
+    if let Some(header) = headers.iter().find(|h| h.is_file()) {
+        println!("cargo:rerun-if-changed={}", header.display());
+        let text = fs::read_to_string(header).unwrap_or_default();
+        let said = text.split("KNOBSTREAM_VERSION = ").nth(1).unwrap_or("");
+        let version = said.split(|c: char| !c.is_ascii_digit()).next().unwrap_or("");
+        if version != own {
+            fail(&format!(
+                "this crate is made for version {own} of the library, and {} is of version {version}",
+                header.display()
+            ));
+        }
+    }
+    let archive = fs::read(library).unwrap_or_default();
+    for call in NEWEST {
+        let symbol = format!("{call}\0");
+        if !archive.windows(symbol.len()).any(|w| w == symbol.as_bytes()) {
+            fail(&format!(
+                "this crate is made for version {own} of the library, and {} has no {call}",
+                library.display()
+            ));
+        }
+    }
 }
 
 /// Proves the library and makes its archive; gives the folder.

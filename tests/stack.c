@@ -21,10 +21,15 @@ static struct list {
     uint64_t table[4 * CHUNKS];
     size_t length, rows;
 } field, month, day;
+static size_t chunks[KNOBSTREAM_MAX_PIECES], pieces;
 static knobstream_date date;
 static knobstream_answer answer;
 static knobstream_written written;
 static int32_t order;
+static knobstream_period period;
+static knobstream_seconds seconds;
+static knobstream_pages pages;
+static uint32_t ranges[2 * KNOBSTREAM_MAX_PIECES];
 static uint8_t out[KNOBSTREAM_LINE_ROOM];
 static uint8_t line[2 * 8192];
 static size_t digits;
@@ -33,6 +38,7 @@ static knobstream_entries counted;
 static knobstream_reply reply;
 static int64_t list[KNOBSTREAM_LIST_ROOM];
 
+#define COUNT(array) (sizeof(array) / sizeof *(array))
 #define LENT(l) (l).bytes, (l).length, (l).table, (l).rows
 
 /* A call on a thread. It looks at the stack on the spot: what a thread does at its end goes down too. */
@@ -57,11 +63,19 @@ ON_A_THREAD(parse, knobstream_parse(LENT(field), &answer))
 ON_A_THREAD(parse_strict, knobstream_parse_strict(LENT(field), &answer))
 ON_A_THREAD(parse_level_one, knobstream_parse_level_one(LENT(field), &answer))
 ON_A_THREAD(parse_three_fields, knobstream_parse_three_fields(LENT(field), 1, LENT(month), 1, LENT(day), &answer))
+ON_A_THREAD(parse_six_fields, knobstream_parse_six_fields(LENT(field), 1, LENT(month), 1, LENT(day), 1, LENT(field), 1, LENT(month), 1, LENT(day), &answer))
+ON_A_THREAD(parse_pages, knobstream_parse_pages(LENT(field), chunks, pieces, ranges, COUNT(ranges), &pages))
+ON_A_THREAD(write_range, written = knobstream_write_range(UINT32_MAX, UINT32_MAX, out, sizeof out))
 ON_A_THREAD(measure_date, written = knobstream_date_length(&date))
 ON_A_THREAD(write_date, written = knobstream_date_text(&date, out, sizeof out))
 ON_A_THREAD(write_fields, written = knobstream_date_fields(&date, out, sizeof out))
 ON_A_THREAD(measure_level_one, written = knobstream_date_level_one_length(&date))
 ON_A_THREAD(write_level_one, written = knobstream_date_level_one_text(&date, out, sizeof out))
+ON_A_THREAD(measure_timed, written = knobstream_date_timed_length(&date))
+ON_A_THREAD(write_timed, written = knobstream_date_timed_text(&date, out, sizeof out))
+ON_A_THREAD(days, period = knobstream_days(date.first))
+ON_A_THREAD(instant, seconds = knobstream_instant(date.first))
+ON_A_THREAD(compare_instants, order = knobstream_compare_instants(date.first, date.first))
 ON_A_THREAD(answer_frame, written = knobstream_answer_frame(line, digits, out, sizeof out))
 ON_A_THREAD(version, order = (int32_t)knobstream_version())
 ON_A_THREAD(compare, order = knobstream_compare(date.first, date.second))
@@ -81,11 +95,19 @@ static struct {
     { "knobstream_parse_strict", parse_strict, KNOBSTREAM_STACK, 0 },
     { "knobstream_parse_level_one", parse_level_one, KNOBSTREAM_STACK, 0 },
     { "knobstream_parse_three_fields", parse_three_fields, KNOBSTREAM_STACK, 0 },
+    { "knobstream_parse_six_fields", parse_six_fields, KNOBSTREAM_SIX_FIELDS_STACK, 0 },
+    { "knobstream_parse_pages", parse_pages, KNOBSTREAM_STACK, 0 },
+    { "knobstream_write_range", write_range, KNOBSTREAM_STACK, 0 },
     { "knobstream_measure_date", measure_date, KNOBSTREAM_STACK, 0 },
     { "knobstream_write_date", write_date, KNOBSTREAM_STACK, 0 },
     { "knobstream_write_fields", write_fields, KNOBSTREAM_STACK, 0 },
     { "knobstream_measure_level_one", measure_level_one, KNOBSTREAM_STACK, 0 },
     { "knobstream_write_level_one", write_level_one, KNOBSTREAM_STACK, 0 },
+    { "knobstream_measure_timed", measure_timed, KNOBSTREAM_STACK, 0 },
+    { "knobstream_write_timed", write_timed, KNOBSTREAM_STACK, 0 },
+    { "knobstream_days", days, KNOBSTREAM_STACK, 0 },
+    { "knobstream_instant", instant, KNOBSTREAM_STACK, 0 },
+    { "knobstream_compare_instants", compare_instants, KNOBSTREAM_STACK, 0 },
     { "knobstream_compare", compare, KNOBSTREAM_STACK, 0 },
     { "knobstream_answer_frame", answer_frame, KNOBSTREAM_FRAME_STACK, 0 },
     { "knobstream_add_entry", add_entry, KNOBSTREAM_STACK, 0 },
@@ -94,8 +116,6 @@ static struct {
     { "knobstream_list_entries", list_entries, KNOBSTREAM_STACK, 0 },
     { "knobstream_any_dated", any_dated, KNOBSTREAM_STACK, 0 },
 };
-
-#define COUNT(array) (sizeof(array) / sizeof *(array))
 
 static size_t used(void *(*on_a_thread)(void *))
 {
@@ -108,7 +128,7 @@ static size_t used(void *(*on_a_thread)(void *))
         exit(2);
     }
     pthread_attr_destroy(&attr);
-    return top - low;
+    return (size_t)(top - low);
 }
 
 /* Every call, with what is to be passed now. A byte may be stored that looks like paint, so there are two colours. */
@@ -144,8 +164,8 @@ static void fill(struct list *l, const char *text, size_t length, size_t chunks,
 static void put(uint64_t byte)
 {
     if (digits + 2 <= sizeof line) {
-        line[digits++] = "0123456789abcdef"[byte / 16 % 16];
-        line[digits++] = "0123456789abcdef"[byte % 16];
+        line[digits++] = (uint8_t)"0123456789abcdef"[byte / 16 % 16];
+        line[digits++] = (uint8_t)"0123456789abcdef"[byte % 16];
     }
 }
 
@@ -178,7 +198,7 @@ static void put_frame(uint8_t operation)
     }
 }
 
-/* Date fields, then year fields; and month fields. */
+/* Date fields, year fields, page ranges, date fields of level one; and month fields. */
 static const char *const texts[] = {
     "", "2000", "49", "-0049", "2000-02-29", " 2000 - 2 - 9 ~", "2000-02-29T10:20:30Z", "2000-02-29T10:20:30+02:30%",
     "2000-2-9 T 1:2:3 - 2 : 3", "1999/2003", "1999-07-01/2003-08-31", "2000/..", "../2000", "../..",
@@ -186,6 +206,7 @@ static const char *const texts[] = {
     "1900-02-29", "2000/1900-02-29", "2000-13", "2000-02-29T10:20:30+2", "forthcoming", "\xC3\xA9", "2000\xC2\xA0",
     "\xC2\xBD/q", "20\xE2\x80\x93", "20\xE2\x82\xAC", "20\xF0\x9F\x98\x80", "\xFF", "2000\n-02",
     "1000 BC", "5 AD", "5 BCE x", "- 5", "+5 CE", "12345", "0 AD",
+    "7-12", " 7\xE2\x80\x93 12 ", "4294967295-4294967295", "5x", "5-7x", "4294967296",
     "2000-21", "-0044-24~", "Y12345", "Y-123456789", "2000-22/2001-23?", "Y-12345/..", "../2000-24%", "2000-25", "Y1234",
 };
 static const char *const months[] = { "July", "jul-4", "sept", "07", "13", "jul-999", "jul-32", "x" };
@@ -206,7 +227,11 @@ int main(void)
                     if (answer.refusal != KNOBSTREAM_OK)
                         knobstream_parse_level_one(LENT(field), &answer);
                     date = answer.date;
-                    put_frame(i % 5 + 1);
+                    put_frame((uint8_t)(i % 5 + 1));
+                    /* one piece of all chunks, or a piece of each */
+                    pieces = (i + n) % 2 == 0 ? 1 : numbers[m];
+                    for (size_t k = 0; k < pieces; k++)
+                        chunks[k] = numbers[m] / pieces;
                     measure();
                 }
     /* the longest text that a date has, with seasons and without */
@@ -215,6 +240,23 @@ int main(void)
     measure();
     date.first.season = date.second.season = KNOBSTREAM_NO_SEASON;
     measure();
+    /* the same with the longest times, and as many page ranges as there may be */
+    date.first.hour = date.first.offset_hours = 23;
+    date.first.minute = date.first.second = date.first.offset_minutes = 59;
+    date.second = date.first;
+    for (field.length = 0, pieces = 0; pieces < KNOBSTREAM_MAX_PIECES; pieces++) {
+        const uint64_t row[4] = { KNOBSTREAM_NORMAL, 21, 0, 21 };
+        memcpy(field.table + 4 * pieces, row, sizeof row);
+        memcpy(field.bytes + field.length, "4294967295-4294967295", 21);
+        field.length += 21;
+        field.rows = 4 * (pieces + 1);
+        chunks[pieces] = 1;
+    }
+    measure();
+    if (knobstream_date_timed_length(&date).length != KNOBSTREAM_TIMED_ROOM || pages.ranges != KNOBSTREAM_MAX_PIECES) {
+        fputs("what should be the most is not\n", stderr);
+        return 2;
+    }
     /* chronologies: the above were empty, or had the one entry; 511 entries, 512, and what is none. Each of them has both its remainders, by 4096 and by 4093, with another. */
     for (entries.count = 0; entries.count < KNOBSTREAM_ENTRIES - 1; entries.count++) {
         const uint32_t i = (uint32_t)entries.count;

@@ -1,7 +1,8 @@
 //! A chronology of entries, over the calls of the library on a lent store.
 
-use std::fmt::{self, Debug, Formatter};
-use std::ops::RangeInclusive;
+use core::fmt::{self, Debug, Formatter};
+use core::hash::{Hash, Hasher};
+use core::ops::RangeInclusive;
 
 use crate::{ffi, no_place, TypeError};
 
@@ -18,7 +19,7 @@ pub struct Entry {
 }
 
 /// What [`Chronology::any_dated`] answers.
-#[derive(Debug, Copy, Clone, Eq, PartialEq)]
+#[derive(Debug, Copy, Clone, Eq, PartialEq, Hash)]
 pub struct AnyDated {
     /// Whether an entry has a day in common with the period.
     pub found: bool,
@@ -29,8 +30,8 @@ pub struct AnyDated {
 
 /// Up to 512 entries, each with an identifier and its days, in list order.
 ///
-/// Days are numbered: day 0 is 0000-01-01, and 2000-01-01 is 730485. A period is
-/// days of the years -9999 to 9999 ([`Chronology::DAYS`]), the last not before
+/// Days are numbered as [`Datetime::days`](crate::Datetime::days) gives them: day
+/// 0 is 0000-01-01, and 2000-01-01 is 730485. A period is days of the years -9999 to 9999 ([`Chronology::DAYS`]), the last not before
 /// the first. A call that is refused changes nothing, and names no place. The
 /// entries stand in the value itself, which has 6,152 bytes; a call takes up to
 /// 8 KiB of stack.
@@ -172,6 +173,13 @@ impl PartialEq for Chronology {
 }
 
 impl Eq for Chronology {}
+
+impl Hash for Chronology {
+    fn hash<H: Hasher>(&self, state: &mut H) {
+        self.len().hash(state);
+        self.iter().for_each(|e| e.hash(state));
+    }
+}
 
 impl Debug for Chronology {
     fn fmt(&self, f: &mut Formatter) -> fmt::Result {

@@ -1,7 +1,7 @@
 //! The calls of libknobstream.a, as c/knobstream.h has them. All that is
 //! unsafe in this crate stands here.
 
-use std::mem::{offset_of, MaybeUninit};
+use core::mem::{offset_of, size_of, MaybeUninit};
 
 /// A Datetime as plain numbers.
 #[repr(C)]
@@ -51,6 +51,30 @@ pub struct Written {
     pub refusal: u8,
 }
 
+/// The days that a Datetime covers.
+#[repr(C)]
+pub struct Period {
+    pub first: i32,
+    pub last: i32,
+    pub refusal: u8,
+}
+
+/// The seconds of an instant.
+#[repr(C)]
+pub struct Seconds {
+    pub seconds: i64,
+    pub refusal: u8,
+}
+
+/// What reading page ranges answers.
+#[repr(C)]
+pub struct Pages {
+    pub ranges: u64,
+    pub start: u64,
+    pub end: u64,
+    pub refusal: u64,
+}
+
 /// How many entries a chronology has room for.
 pub const ENTRIES: usize = 512;
 
@@ -89,6 +113,9 @@ const _: () = assert!(offset_of!(Answer, date) == 16 && offset_of!(Answer, refus
 const _: () = assert!(size_of::<Store>() == 6152 && offset_of!(Store, ids) == 4104);
 const _: () = assert!(size_of::<Entries>() == 16 && size_of::<Reply>() == 16);
 const _: () = assert!(offset_of!(Reply, found) == 8 && offset_of!(Reply, refusal) == 9);
+const _: () = assert!(size_of::<Period>() == 12 && offset_of!(Period, refusal) == 8);
+const _: () = assert!(size_of::<Seconds>() == 16 && offset_of!(Seconds, refusal) == 8);
+const _: () = assert!(size_of::<Pages>() == 32 && offset_of!(Pages, refusal) == 24);
 const _: () = assert!(cfg!(target_endian = "little"));
 
 /// A reader of one chunk list: its bytes and its table.
@@ -101,7 +128,6 @@ type Measure = unsafe extern "C" fn(Datetime, Datetime, u8, u8, u8) -> Written;
 type Writer = unsafe extern "C" fn(Datetime, Datetime, *mut u8, usize, u8, u8, u8) -> Written;
 
 extern "C" {
-    #[cfg(test)]
     fn knobstream_version() -> u32;
     fn knobstream_parse(
         bytes: *const u8,
@@ -139,6 +165,38 @@ extern "C" {
         day_len: usize,
         day_table: *const u64,
         day_table_len: usize,
+        answer: *mut Answer,
+    );
+    fn knobstream_parse_six_fields(
+        year: *const u8,
+        year_len: usize,
+        year_table: *const u64,
+        year_table_len: usize,
+        has_month: u8,
+        month: *const u8,
+        month_len: usize,
+        month_table: *const u64,
+        month_table_len: usize,
+        has_day: u8,
+        day: *const u8,
+        day_len: usize,
+        day_table: *const u64,
+        day_table_len: usize,
+        has_end_year: u8,
+        end_year: *const u8,
+        end_year_len: usize,
+        end_year_table: *const u64,
+        end_year_table_len: usize,
+        has_end_month: u8,
+        end_month: *const u8,
+        end_month_len: usize,
+        end_month_table: *const u64,
+        end_month_table_len: usize,
+        has_end_day: u8,
+        end_day: *const u8,
+        end_day_len: usize,
+        end_day_table: *const u64,
+        end_day_table_len: usize,
         answer: *mut Answer,
     );
     fn knobstream_measure_date(
@@ -182,6 +240,25 @@ extern "C" {
         uncertain: u8,
         approximate: u8,
     ) -> Written;
+    fn knobstream_measure_timed(
+        first: Datetime,
+        second: Datetime,
+        shape: u8,
+        uncertain: u8,
+        approximate: u8,
+    ) -> Written;
+    fn knobstream_write_timed(
+        first: Datetime,
+        second: Datetime,
+        out: *mut u8,
+        out_len: usize,
+        shape: u8,
+        uncertain: u8,
+        approximate: u8,
+    ) -> Written;
+    fn knobstream_days(datetime: Datetime) -> Period;
+    fn knobstream_instant(datetime: Datetime) -> Seconds;
+    fn knobstream_compare_instants(first: Datetime, second: Datetime) -> i32;
     fn knobstream_compare(first: Datetime, second: Datetime) -> i32;
     fn knobstream_answer_frame(
         line: *const u8,
@@ -189,6 +266,18 @@ extern "C" {
         out: *mut u8,
         out_len: usize,
     ) -> Written;
+    fn knobstream_parse_pages(
+        bytes: *const u8,
+        bytes_len: usize,
+        table: *const u64,
+        table_len: usize,
+        counts: *const usize,
+        counts_len: usize,
+        out: *mut u32,
+        out_len: usize,
+        answer: *mut Pages,
+    );
+    fn knobstream_write_range(start: u32, end: u32, out: *mut u8, out_len: usize) -> Written;
     fn knobstream_add_entry(
         count: *mut usize,
         firsts: *mut i32,
@@ -237,8 +326,16 @@ pub struct List<'a> {
     pub table: &'a [u64],
 }
 
+/// The fields year, month and day.
+pub type Fields<'a> = (List<'a>, Option<List<'a>>, Option<List<'a>>);
+
 /// A list that is not there.
-pub const ABSENT: List = List { bytes: &[], table: &[] };
+const ABSENT: List = List { bytes: &[], table: &[] };
+
+pub fn version() -> u32 {
+    // SAFETY: the call takes nothing.
+    unsafe { knobstream_version() }
+}
 
 pub fn parse(list: List) -> Answer {
     read(knobstream_parse, list)
@@ -290,6 +387,49 @@ pub fn parse_three_fields(year: List, month: Option<List>, day: Option<List>) ->
     }
 }
 
+/// The fields of a start, and of an end.
+pub fn parse_six_fields(start: Fields, end: (Option<List>, Option<List>, Option<List>)) -> Answer {
+    let (year, month, day) = start;
+    let [m, d, ey, em, ed] = [month, day, end.0, end.1, end.2].map(|l| l.unwrap_or(ABSENT));
+    let mut answer = MaybeUninit::uninit();
+    // SAFETY: as for `read`.
+    unsafe {
+        knobstream_parse_six_fields(
+            year.bytes.as_ptr(),
+            year.bytes.len(),
+            year.table.as_ptr(),
+            year.table.len(),
+            month.is_some().into(),
+            m.bytes.as_ptr(),
+            m.bytes.len(),
+            m.table.as_ptr(),
+            m.table.len(),
+            day.is_some().into(),
+            d.bytes.as_ptr(),
+            d.bytes.len(),
+            d.table.as_ptr(),
+            d.table.len(),
+            end.0.is_some().into(),
+            ey.bytes.as_ptr(),
+            ey.bytes.len(),
+            ey.table.as_ptr(),
+            ey.table.len(),
+            end.1.is_some().into(),
+            em.bytes.as_ptr(),
+            em.bytes.len(),
+            em.table.as_ptr(),
+            em.table.len(),
+            end.2.is_some().into(),
+            ed.bytes.as_ptr(),
+            ed.bytes.len(),
+            ed.table.as_ptr(),
+            ed.table.len(),
+            answer.as_mut_ptr(),
+        );
+        answer.assume_init()
+    }
+}
+
 pub fn measure_date(d: Date) -> Result<usize, u8> {
     measure(knobstream_measure_date, d)
 }
@@ -298,8 +438,12 @@ pub fn measure_level_one(d: Date) -> Result<usize, u8> {
     measure(knobstream_measure_level_one, d)
 }
 
+pub fn measure_timed(d: Date) -> Result<usize, u8> {
+    measure(knobstream_measure_timed, d)
+}
+
 fn measure(measure: Measure, d: Date) -> Result<usize, u8> {
-    // SAFETY: `measure` is one of the two above, which take any numbers.
+    // SAFETY: `measure` is one of the three above, which take any numbers.
     let w = unsafe { measure(d.first, d.second, d.shape, d.uncertain, d.approximate) };
     if w.refusal == 0 {
         Ok(w.length)
@@ -320,9 +464,13 @@ pub fn write_level_one(d: Date, out: &mut [u8]) -> Result<&str, u8> {
     write(knobstream_write_level_one, d, out)
 }
 
+pub fn write_timed(d: Date, out: &mut [u8]) -> Result<&str, u8> {
+    write(knobstream_write_timed, d, out)
+}
+
 fn write(writer: Writer, d: Date, out: &mut [u8]) -> Result<&str, u8> {
     let (bytes, room) = (out.as_mut_ptr(), out.len());
-    // SAFETY: `writer` is one of the three above. `out` is readable and writable
+    // SAFETY: `writer` is one of the four above. `out` is readable and writable
     // for the call, which keeps nothing of it and stores within it alone.
     let w = unsafe { writer(d.first, d.second, bytes, room, d.shape, d.uncertain, d.approximate) };
     text(w, out)
@@ -337,12 +485,77 @@ fn text(w: Written, out: &[u8]) -> Result<&str, u8> {
     debug_assert!(text.is_ascii());
     // SAFETY: by the writers' contracts the bytes that they store are digits,
     // letters, signs and line feeds of ASCII.
-    Ok(unsafe { std::str::from_utf8_unchecked(text) })
+    Ok(unsafe { core::str::from_utf8_unchecked(text) })
 }
 
 pub fn compare(first: Datetime, second: Datetime) -> i32 {
     // SAFETY: the call takes any numbers.
     unsafe { knobstream_compare(first, second) }
+}
+
+/// The first and the last day.
+pub fn days(d: Datetime) -> Result<(i32, i32), u8> {
+    // SAFETY: the call takes any numbers.
+    let p = unsafe { knobstream_days(d) };
+    if p.refusal == 0 {
+        Ok((p.first, p.last))
+    } else {
+        Err(p.refusal)
+    }
+}
+
+pub fn instant(d: Datetime) -> Result<i64, u8> {
+    // SAFETY: the call takes any numbers.
+    let s = unsafe { knobstream_instant(d) };
+    if s.refusal == 0 {
+        Ok(s.seconds)
+    } else {
+        Err(s.refusal)
+    }
+}
+
+/// -1, 0, 1, or the number of a refusal, which is above 1.
+pub fn compare_instants(first: Datetime, second: Datetime) -> i32 {
+    // SAFETY: the call takes any numbers.
+    unsafe { knobstream_compare_instants(first, second) }
+}
+
+/// One piece as a page range: its two numbers, or the answer that refuses it.
+pub fn parse_range(List { bytes, table }: List) -> Result<[u32; 2], Pages> {
+    let counts = [table.len() / 4];
+    let mut range = [0; 2];
+    let mut answer = MaybeUninit::uninit();
+    // SAFETY: the slices are readable for the call and `range` readable and
+    // writable, for the two numbers that it has. The call keeps nothing of them
+    // and stores within `range` alone. It takes any bytes and any numbers, and
+    // stores every byte of the answer.
+    let answer = unsafe {
+        knobstream_parse_pages(
+            bytes.as_ptr(),
+            bytes.len(),
+            table.as_ptr(),
+            table.len(),
+            counts.as_ptr(),
+            counts.len(),
+            range.as_mut_ptr(),
+            range.len(),
+            answer.as_mut_ptr(),
+        );
+        answer.assume_init()
+    };
+    if answer.refusal == 0 {
+        Ok(range)
+    } else {
+        Err(answer)
+    }
+}
+
+pub fn write_range(start: u32, end: u32, out: &mut [u8]) -> Result<&str, u8> {
+    let (bytes, room) = (out.as_mut_ptr(), out.len());
+    // SAFETY: `out` is readable and writable for the call, which keeps nothing
+    // of it and stores within it alone.
+    let w = unsafe { knobstream_write_range(start, end, bytes, room) };
+    text(w, out)
 }
 
 pub fn answer_frame<'a>(line: &[u8], out: &'a mut [u8]) -> Result<&'a str, u8> {
@@ -417,13 +630,6 @@ fn counted(e: Entries) -> Result<usize, u8> {
     } else {
         Err(e.refusal)
     }
-}
-
-#[cfg(test)]
-#[test]
-fn the_library_is_of_this_version() {
-    // SAFETY: the call takes nothing.
-    assert_eq!(unsafe { knobstream_version() }, 4);
 }
 
 #[cfg(test)]

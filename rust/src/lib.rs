@@ -1,36 +1,57 @@
 //! Reads, writes and compares the dates of bibliographies as the crate
-//! biblatex does, and keeps a [`Chronology`] of entries, by a static library of
-//! which every function is proved.
+//! biblatex does, counts their days, keeps a [`Chronology`] of entries, and reads
+//! and writes page ranges, by a static library of which every function is
+//! proved.
 //!
 //! ```
 //! use knobstream::{Date, DateValue};
 //!
-//! let date = Date::parse_str("1999/2003-07~")?;
+//! let date: Date = "1999/2003-07~".parse()?;
 //! assert!(date.approximate);
 //! let DateValue::Between(start, end) = date.value else { panic!() };
 //! assert_eq!((start.year, end.month), (1999, Some(6)));
 //! assert!(start < end);
+//! assert_eq!(start.days()?, 730120..=730484);
 //! assert_eq!(date.to_string(), "1999/2003-07~");
 //! # Ok::<(), knobstream::TypeError>(())
 //! ```
 //!
 //! No call allocates, keeps state or panics: what biblatex panics on is refused
-//! as [`TypeErrorKind::RustPanics`].
+//! as [`TypeErrorKind::RustPanics`]. The crate needs `core` alone.
 
-#![warn(missing_docs)]
+#![no_std]
+#![deny(missing_docs)]
 #![deny(unsafe_code)]
 
 mod chronology;
 #[allow(unsafe_code)]
 mod ffi;
+mod moments;
+mod pages;
 
 pub use chronology::{AnyDated, Chronology, Entry};
+pub use moments::Instant;
+pub use pages::{parse_pages, PageRange};
 
-use std::cmp::Ordering;
-use std::fmt::{self, Display, Formatter};
-use std::ops::Range;
+use core::cmp::Ordering;
+use core::fmt::{self, Display, Formatter};
+use core::ops::Range;
+use core::str::FromStr;
 
 use ffi::List;
+
+/// The version of the library's calls that this crate is made for. The build
+/// fails where the header or the library beside it is of another.
+pub const VERSION: u32 = 5;
+
+/// The version that the linked library answers.
+///
+/// ```
+/// assert_eq!(knobstream::library_version(), knobstream::VERSION);
+/// ```
+pub fn library_version() -> u32 {
+    ffi::version()
+}
 
 /// The room that every answer to a frame has enough of, its line feed included.
 pub const LINE_ROOM: usize = 147;
@@ -52,7 +73,7 @@ pub fn answer_frame<'a>(line: &[u8], room: &'a mut [u8; LINE_ROOM]) -> &'a str {
 pub type Span = Range<usize>;
 
 /// A value with its place in the file.
-#[derive(Debug, Clone, Eq, PartialEq)]
+#[derive(Debug, Clone, Eq, PartialEq, Hash)]
 pub struct Spanned<T> {
     /// The value.
     pub v: T,
@@ -77,7 +98,7 @@ impl<T> Spanned<T> {
 }
 
 /// A part of a field's value.
-#[derive(Debug, Copy, Clone, Eq, PartialEq)]
+#[derive(Debug, Copy, Clone, Eq, PartialEq, Hash)]
 pub enum Chunk<'a> {
     /// Text in quotes or single braces.
     Normal(&'a str),
@@ -108,7 +129,7 @@ impl<'a> Chunk<'a> {
 pub type ChunksRef<'a> = &'a [Spanned<Chunk<'a>>];
 
 /// A date or a range of dates, and how sure and how exact it is.
-#[derive(Debug, Copy, Clone, Eq, PartialEq)]
+#[derive(Debug, Copy, Clone, Eq, PartialEq, Hash)]
 pub struct Date {
     /// The date or the range.
     pub value: DateValue,
@@ -119,7 +140,7 @@ pub struct Date {
 }
 
 /// A single date or a range of dates.
-#[derive(Debug, Copy, Clone, Eq, PartialEq)]
+#[derive(Debug, Copy, Clone, Eq, PartialEq, Hash)]
 pub enum DateValue {
     /// A single date.
     At(Datetime),
@@ -132,7 +153,7 @@ pub enum DateValue {
 }
 
 /// A year, and perhaps a month, a day and a time, or a season.
-#[derive(Debug, Copy, Clone, Eq, PartialEq)]
+#[derive(Debug, Copy, Clone, Eq, PartialEq, Hash)]
 pub struct Datetime {
     /// The year: 1 BC is 0, 2 BC is -1.
     pub year: i32,
@@ -148,7 +169,7 @@ pub struct Datetime {
 }
 
 /// A season of a year.
-#[derive(Debug, Copy, Clone, Eq, PartialEq)]
+#[derive(Debug, Copy, Clone, Eq, PartialEq, Hash)]
 pub enum Season {
     /// Written as 21.
     Spring,
@@ -184,7 +205,7 @@ impl Season {
 }
 
 /// A time, with an offset from UTC or without.
-#[derive(Debug, Copy, Clone, Eq, PartialEq)]
+#[derive(Debug, Copy, Clone, Eq, PartialEq, Hash)]
 pub struct Time {
     /// The hour (0-23).
     pub hour: u8,
@@ -197,7 +218,7 @@ pub struct Time {
 }
 
 /// An offset from UTC.
-#[derive(Debug, Copy, Clone, Eq, PartialEq)]
+#[derive(Debug, Copy, Clone, Eq, PartialEq, Hash)]
 pub enum TimeOffset {
     /// UTC itself.
     Utc,
@@ -212,8 +233,8 @@ pub enum TimeOffset {
     },
 }
 
-/// Why a field is not read, a date is not written or a call on a chronology is refused, and where.
-#[derive(Debug, Clone, Eq, PartialEq)]
+/// Why a field is not read, a date is not written, or another call is refused, and where.
+#[derive(Debug, Clone, Eq, PartialEq, Hash)]
 pub struct TypeError {
     /// Where in the file; of [`TypeErrorKind::UnsupportedChar`], and of a day that a
     /// month field holds, where in the field's text. 0 to 0 if the kind names no place.
@@ -226,7 +247,7 @@ pub struct TypeError {
 macro_rules! kinds {
     ($($(#[$doc:meta])* $name:ident = $number:literal, $message:literal;)*) => {
         /// The kinds of refusal, with their numbers.
-        #[derive(Debug, Copy, Clone, Eq, PartialEq)]
+        #[derive(Debug, Copy, Clone, Eq, PartialEq, Hash)]
         #[non_exhaustive]
         pub enum TypeErrorKind {
             $($(#[$doc])* $name,)*
@@ -254,8 +275,8 @@ macro_rules! kinds {
         impl Display for TypeErrorKind {
             fn fmt(&self, f: &mut Formatter) -> fmt::Result {
                 match self {
-                    $(Self::$name => f.write_str($message),)*
-                    Self::Other(number) => write!(f, "refused with the number {number}"),
+                    $(Self::$name => f.pad($message),)*
+                    Self::Other(number) => pad(f, format_args!("refused with the number {number}")),
                 }
             }
         }
@@ -296,10 +317,9 @@ kinds! {
     BadFrame = 14, "not a frame";
     /// Refuses a table of chunks. No list of Rust is refused so.
     BadChunks = 15, "chunks do not fit the text";
-    /// More than 64 chunks or 4,096 bytes. No place.
-    TooLong = 16, "more than 64 chunks or 4,096 bytes";
+    /// More than 64 chunks or 4,096 bytes, or more than 64 pieces. No place.
+    TooLong = 16, "more than 64 chunks or pieces, or 4,096 bytes";
     /// Not a year, month or day of the calendar, or outside the years -9999 to 9999. No place.
-    /// No call of this crate refuses so.
     NotACalendarDate = 17, "not a date of the calendar from -9999 to 9999";
     /// The last day is before the first, or a day is outside the years -9999 to 9999. No place.
     BadPeriod = 18, "not a period of the calendar from -9999 to 9999";
@@ -310,14 +330,12 @@ kinds! {
     /// The identifier is not in the chronology. No place.
     UnknownEntry = 21, "the identifier is not in the chronology";
     /// A time without a day beside a month, or with a part or an offset out of range. No place.
-    /// No call of this crate refuses so.
     BadTime = 22, "not a time of a day";
     /// The text is not one of the grammar of level one. No place.
     NotLevelOne = 23, "not a date of the grammar of level one";
     /// A season, in a call that knows none. No place.
     HasSeason = 24, "a season, which this call does not know";
     /// The day, the time or its offset is absent, so there is no instant. No place.
-    /// No call of this crate refuses so.
     NoInstant = 25, "no day, no time or no offset";
     /// What was lent is no chronology. No place. No [`Chronology`] is refused so.
     BadChronology = 26, "not a chronology";
@@ -333,13 +351,38 @@ impl TypeErrorKind {
 impl Display for TypeError {
     fn fmt(&self, f: &mut Formatter) -> fmt::Result {
         if self.kind.has_place() {
-            return write!(f, "{}: {}-{}", self.kind, self.span.start, self.span.end);
+            let Span { start, end } = self.span;
+            return pad(f, format_args!("{}: {start}-{end}", self.kind));
         }
         self.kind.fmt(f)
     }
 }
 
-impl std::error::Error for TypeError {}
+impl core::error::Error for TypeError {}
+
+/// A short text of ASCII, so that it can be padded as one. What has no room is
+/// left out; the longest message with its place has 94 bytes.
+struct Short {
+    bytes: [u8; 128],
+    length: usize,
+}
+
+impl fmt::Write for Short {
+    fn write_str(&mut self, text: &str) -> fmt::Result {
+        for (to, from) in self.bytes[self.length..].iter_mut().zip(text.bytes()) {
+            *to = from;
+            self.length += 1;
+        }
+        Ok(())
+    }
+}
+
+/// Shows a message in the width that is asked for.
+fn pad(f: &mut Formatter, message: fmt::Arguments) -> fmt::Result {
+    let mut short = Short { bytes: [0; 128], length: 0 };
+    fmt::write(&mut short, message)?;
+    f.pad(core::str::from_utf8(&short.bytes[..short.length]).unwrap_or(""))
+}
 
 impl Date {
     /// The room that the text of every date has enough of.
@@ -351,6 +394,9 @@ impl Date {
     /// The room that the text of every date by the writer of level one has
     /// enough of.
     pub const LEVEL_ONE_ROOM: usize = 42;
+
+    /// The room that the text of every date with its times has enough of.
+    pub const TIMED_ROOM: usize = 70;
 
     /// Reads a text as biblatex reads a date field: "49" is 2049, "0049" the
     /// year 49. The places of a refusal are counted from the start of the text.
@@ -448,13 +494,37 @@ impl Date {
         month: Option<ChunksRef>,
         day: Option<ChunksRef>,
     ) -> Result<Self, TypeError> {
-        with_list(year, |y| match (month, day) {
-            (None, _) => answered(ffi::parse_three_fields(y, None, None)),
-            (Some(month), None) => {
-                with_list(month, |m| answered(ffi::parse_three_fields(y, Some(m), None)))
-            }
-            (Some(month), Some(day)) => with_list(month, |m| {
-                with_list(day, |d| answered(ffi::parse_three_fields(y, Some(m), Some(d))))
+        with_fields(year, month, day, |y, m, d| answered(ffi::parse_three_fields(y, m, d)))
+    }
+
+    /// Reads the fields `year`, `month` and `day` of a start, and `endyear`,
+    /// `endmonth` and `endday` of an end: a single date if there is no end year,
+    /// a range with an open end if the end year is blank, else a range with both
+    /// ends. The fields of an end are not looked at before the start is read, nor
+    /// without an end year.
+    ///
+    /// ```
+    /// # use knobstream::*;
+    /// let text = |text| [Spanned::new(Chunk::Normal(text), 0..4)];
+    /// let (start, end, blank) = (text("1999"), text("2003"), text(" "));
+    /// let read = |end| Date::parse_six_fields(&start, None, None, end, None, None);
+    /// assert_eq!(read(None)?.to_string(), "1999");
+    /// assert_eq!(read(Some(&blank))?.to_string(), "1999/..");
+    /// assert_eq!(read(Some(&end))?.to_string(), "1999/2003");
+    /// # Ok::<(), TypeError>(())
+    /// ```
+    pub fn parse_six_fields(
+        year: ChunksRef,
+        month: Option<ChunksRef>,
+        day: Option<ChunksRef>,
+        end_year: Option<ChunksRef>,
+        end_month: Option<ChunksRef>,
+        end_day: Option<ChunksRef>,
+    ) -> Result<Self, TypeError> {
+        with_fields(year, month, day, |y, m, d| match end_year {
+            None => answered(ffi::parse_six_fields((y, m, d), (None, None, None))),
+            Some(end_year) => with_fields(end_year, end_month, end_day, |ey, em, ed| {
+                answered(ffi::parse_six_fields((y, m, d), (Some(ey), em, ed)))
             }),
         })
     }
@@ -473,7 +543,7 @@ impl Date {
     /// # Ok::<(), TypeError>(())
     /// ```
     pub fn text_length(&self) -> Result<usize, TypeError> {
-        ffi::measure_date(plain_date(self)).map_err(no_place)
+        ffi::measure_date(plain_date(self, plain_day)).map_err(no_place)
     }
 
     /// Writes the text of the date at the front of the buffer, and gives it. The
@@ -490,7 +560,7 @@ impl Date {
     /// # Ok::<(), TypeError>(())
     /// ```
     pub fn write<'o>(&self, out: &'o mut [u8]) -> Result<&'o str, TypeError> {
-        ffi::write_date(plain_date(self), out).map_err(no_place)
+        ffi::write_date(plain_date(self, plain_day), out).map_err(no_place)
     }
 
     /// Writes the fields of the date, a line each, at the front of the buffer,
@@ -504,7 +574,7 @@ impl Date {
     /// # Ok::<(), TypeError>(())
     /// ```
     pub fn write_fields<'o>(&self, out: &'o mut [u8]) -> Result<&'o str, TypeError> {
-        ffi::write_fields(plain_date(self), out).map_err(no_place)
+        ffi::write_fields(plain_date(self, plain_day), out).map_err(no_place)
     }
 
     /// How many bytes the text of the date has by the writer of level one. It
@@ -517,7 +587,7 @@ impl Date {
     /// # Ok::<(), TypeError>(())
     /// ```
     pub fn level_one_length(&self) -> Result<usize, TypeError> {
-        ffi::measure_level_one(plain_date(self)).map_err(no_place)
+        ffi::measure_level_one(plain_date(self, plain_day)).map_err(no_place)
     }
 
     /// Writes the text of the date by the writer of level one at the front of
@@ -536,7 +606,58 @@ impl Date {
     /// # Ok::<(), TypeError>(())
     /// ```
     pub fn write_level_one<'o>(&self, out: &'o mut [u8]) -> Result<&'o str, TypeError> {
-        ffi::write_level_one(plain_date(self), out).map_err(no_place)
+        ffi::write_level_one(plain_date(self, plain_day), out).map_err(no_place)
+    }
+
+    /// How many bytes the text of the date with its times has. It refuses what
+    /// [`Date::write_timed`] refuses, apart from a buffer that is too short.
+    ///
+    /// ```
+    /// # use knobstream::*;
+    /// assert_eq!(Date::parse_str("2000-02-29T10:20")?.timed_length()?, 19);
+    /// # Ok::<(), TypeError>(())
+    /// ```
+    pub fn timed_length(&self) -> Result<usize, TypeError> {
+        ffi::measure_timed(plain_date(self, plain_datetime)).map_err(no_place)
+    }
+
+    /// Writes the text of the date with its times at the front of the buffer,
+    /// and gives it: as [`Date::write`] does, with each time behind its day.
+    ///
+    /// It refuses a season, then a month of 255 and a day of 255 beside a month,
+    /// then a time that is none of a clock or has no day beside a month, and then
+    /// a buffer that is too short; the buffer is then as it was.
+    ///
+    /// ```
+    /// # use knobstream::*;
+    /// let date = Date::parse_str("2000-02-29T10:20:30+02:00?")?;
+    /// assert_eq!(date.write_timed(&mut [0; Date::TIMED_ROOM])?, "2000-02-29T10:20:30+02:00?");
+    /// # Ok::<(), TypeError>(())
+    /// ```
+    pub fn write_timed<'o>(&self, out: &'o mut [u8]) -> Result<&'o str, TypeError> {
+        ffi::write_timed(plain_date(self, plain_datetime), out).map_err(no_place)
+    }
+
+    /// The date, to be shown with its times.
+    ///
+    /// ```
+    /// # use knobstream::*;
+    /// let date = Date::parse_str("2000-02-29T10:20")?;
+    /// assert_eq!(date.to_string(), "2000-02-29");
+    /// assert_eq!(date.timed().to_string(), "2000-02-29T10:20:00");
+    /// # Ok::<(), TypeError>(())
+    /// ```
+    pub fn timed(self) -> Timed {
+        Timed(self)
+    }
+}
+
+/// A text as [`Date::parse_str`] reads it.
+impl FromStr for Date {
+    type Err = TypeError;
+
+    fn from_str(text: &str) -> Result<Self, TypeError> {
+        Self::parse_str(text)
     }
 }
 
@@ -544,6 +665,7 @@ impl Date {
 /// [`Date::write_level_one`] does. A date that has none, for its month is 255, or
 /// its day beside a month, is shown as words that no reader takes for a date;
 /// [`Date::text_length`] says why, or with a season [`Date::level_one_length`].
+/// Width and alignment are honoured.
 impl Display for Date {
     fn fmt(&self, f: &mut Formatter) -> fmt::Result {
         let mut out = [0; Self::LEVEL_ONE_ROOM];
@@ -551,7 +673,27 @@ impl Display for Date {
             Err(e) if e.kind == TypeErrorKind::HasSeason => self.write_level_one(&mut out),
             written => written,
         };
-        f.write_str(text.unwrap_or("(no text: month or day 255)"))
+        f.pad(text.unwrap_or(NO_TEXT))
+    }
+}
+
+/// What is shown of a date that has no text.
+const NO_TEXT: &str = "(no text: month or day 255)";
+
+/// A date that is shown with its times: [`Date::timed`] gives it.
+#[derive(Debug, Copy, Clone, Eq, PartialEq, Hash)]
+pub struct Timed(pub Date);
+
+/// The text of the date, as [`Date::write_timed`] gives it, or as the date is
+/// shown where it has a season. A date that has none is shown as words that no
+/// reader takes for a date; [`Date::timed_length`] says why.
+impl Display for Timed {
+    fn fmt(&self, f: &mut Formatter) -> fmt::Result {
+        match self.0.write_timed(&mut [0; Date::TIMED_ROOM]) {
+            Ok(text) => f.pad(text),
+            Err(e) if e.kind == TypeErrorKind::BadTime => f.pad("(no text: not a time of a day)"),
+            Err(_) => self.0.fmt(f),
+        }
     }
 }
 
@@ -601,6 +743,23 @@ fn with_list<R>(chunks: ChunksRef, call: impl FnOnce(List) -> R) -> R {
         return call(fill(chunks, &mut [0; 4096], &mut [0; 256]));
     }
     call(List { bytes: &[], table: &TOO_LONG })
+}
+
+/// Calls with the lists of the fields year, month and day. A day without a month
+/// is not looked at.
+fn with_fields<R>(
+    year: ChunksRef,
+    month: Option<ChunksRef>,
+    day: Option<ChunksRef>,
+    call: impl FnOnce(List, Option<List>, Option<List>) -> R,
+) -> R {
+    with_list(year, |y| match (month, day) {
+        (None, _) => call(y, None, None),
+        (Some(month), None) => with_list(month, |m| call(y, Some(m), None)),
+        (Some(month), Some(day)) => {
+            with_list(month, |m| with_list(day, |d| call(y, Some(m), Some(d))))
+        }
+    })
 }
 
 /// The bytes and the table of a chunk list, in arrays with the room for them.
@@ -700,8 +859,9 @@ fn plain_datetime(d: &Datetime) -> ffi::Datetime {
     p
 }
 
-/// For the writers, which look at no time, and at the second Datetime of a range with both ends only.
-fn plain_date(d: &Date) -> ffi::Date {
+/// For the writers, which look at the second Datetime of a range with both ends
+/// only; each Datetime with its time or without.
+fn plain_date(d: &Date, plain: fn(&Datetime) -> ffi::Datetime) -> ffi::Date {
     let (shape, first, second) = match &d.value {
         DateValue::At(a) => (0, a, a),
         DateValue::After(a) => (1, a, a),
@@ -709,8 +869,8 @@ fn plain_date(d: &Date) -> ffi::Date {
         DateValue::Between(a, b) => (3, a, b),
     };
     ffi::Date {
-        first: plain_day(first),
-        second: plain_day(second),
+        first: plain(first),
+        second: plain(second),
         shape,
         uncertain: d.uncertain.into(),
         approximate: d.approximate.into(),
@@ -720,7 +880,9 @@ fn plain_date(d: &Date) -> ffi::Date {
 
 #[cfg(test)]
 mod tests {
+    extern crate std;
     use super::*;
+    use std::string::ToString;
 
     #[test]
     fn every_number_has_a_kind() {

@@ -359,7 +359,7 @@ fn every_kind_has_its_number_and_a_message() {
     let e = TypeError { span: 0..0, kind: TooLong };
     assert_eq!(
         (e.kind.number(), e.to_string().as_str()),
-        (16, "more than 64 chunks or 4,096 bytes")
+        (16, "more than 64 chunks or pieces, or 4,096 bytes")
     );
     let e = TypeError { span: 0..0, kind: NotLevelOne };
     assert_eq!(

@@ -26,6 +26,7 @@ use Rattle.dates.specs.Time.{time}
 use Rattle.dates.specs.Value.{seasonNumber, hasSeason, anySeason}
 use Rattle.days.specs.declared.Period.{Period}
 use Rattle.days.specs.Covered.{period}
+use Rattle.instants.specs.Instants.{compared}
 use Rattle.order.specs.declared.Order.{Order}
 use Rattle.order.specs.declared.Order.the-variants.{Less, Equal, Greater, None}
 use Rattle.order.specs.declared.Compared.{Compared}
@@ -92,6 +93,10 @@ made-refused {n = n} h ec en = rw ec (toZ-pos w32 n (omega arith) ∙ ap pos en)
 
 pub made-compared : {a b x y : Datetime} {o : Compared} {r : ℤ} → x ≡ a → y ≡ b → o ≡ partialCmp x y → r ≡ comparedNumber o → toZ w32 (ofZ w32 r) ≡ comparedNumber (partialCmp a b)
 made-compared {a} {b} ex ey eo er = rw (er, eo, ex, ey) (compared-fits a b)
+
+-- what the comparison of instants said
+pub made-instants : {a b x y : Datetime} {o : Compared} → x ≡ a → y ≡ b → o ≡ compared x y → o ≡ compared a b
+made-instants ex ey eo = rw (eo, ex, ey)
 
 -- what a writer said of a Date without its times, as a struct, and what it left in the buffer: the same as with its times
 pub made-written : {d e : Date} (t : Date → List ℕ) (l : List ℕ) {m : List ℕ} {w : Written} {r : PlainWritten}

@@ -39,6 +39,14 @@ use refusals::ReadDate;
 
 // The calls on a chronology.
 mod entries;
+// Six fields.
+mod six;
+// Days and instants.
+mod moments;
+// The text of a Date with its times.
+mod times;
+// Page ranges.
+mod ranges;
 
 // A Datetime. A part that is absent has 0 in its `has_` number and in its own.
 #[repr(C)]
@@ -562,12 +570,12 @@ fn date_of(p: PlainDate) -> Date
 
 // ---- the calls
 
-const VERSION: u32 = 4;
+const VERSION: u32 = 5;
 
 // The version of these calls and of their structs: a caller that was made for another must not go on.
 #[no_mangle]
 pub extern "C" fn knobstream_version() -> u32
-    ensures { λ r. ⌜ r ≡ 4 ⌝ }
+    ensures { λ r. ⌜ r ≡ 5 ⌝ }
 {
     VERSION
 }
