@@ -28,10 +28,9 @@ use Rattle.reading_laws.specs.Fields.{threeFields}
 use Rattle.reading_laws.proofs.Stored.{FieldsIn, fields, three-in}
 use Rattle.writer.specs.Level.{levelText}
 use Rattle.writer.specs.Sizes.{MonthUnder, DayUnder, Narrow, NarrowEnds, LevelNarrow, narrow, seasoned, long}
-use Rattle.writer.proofs.Levels.{level-short, LevelNarrow, narrow, seasoned, long}
+use Rattle.writer.proofs.Levels.{level-short}
 use Rattle.roundtrip_laws.specs.Domain.{ShortMonthRange, days-xx, AllDated}
-use Rattle.roundtrip_laws.proofs.Accepted.{AllDated, accepted-known}
-use Rattle.writer.proofs.Bounds.{MonthUnder, DayUnder, Narrow, NarrowEnds}
+use Rattle.roundtrip_laws.proofs.Accepted.{accepted-known}
 use Rattle.roundtrip_laws.specs.Level.{Given, on-calendar, in-season, long-year}
 use Rattle.roundtrip_laws.proofs.Strictly.{strict-dated}
 use Rattle.roundtrip_laws.proofs.LevelRead.{level-given, each-end}

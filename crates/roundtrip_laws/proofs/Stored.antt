@@ -22,8 +22,9 @@ use Rattle.dates.specs.Domain.{PartsIn, EndIn}
 use Rattle.dates.specs.Value.{isSeason, hasSeason, anySeason}
 use Rattle.dates.proofs.Lengths.{length-most}
 use Rattle.puts.specs.declared.Measured.the-variants.{Length}
+use Rattle.puts.specs.declared.Written.{Written}
 use Rattle.puts.specs.declared.Written.the-variants.{Done}
-use Rattle.puts.specs.Answers.{measured, decided, answer, afterwards}
+use Rattle.puts.specs.Answers.{measured, decided, answer, left}
 use Rattle.writer.specs.Texts.{dayParts, monthParts, partsOf, tooLarge, endPanics, valuePanics, panics, dateText}
 use Rattle.writer.specs.Fields.{endLines, valueLines, fieldsText}
 use Rattle.writer.specs.Answers.{dateMeasured, dateAnswer, dateAfterwards}
@@ -77,10 +78,8 @@ module _ (d : Date) (w : InDomain (d .value)) (t out : List ℕ) (h : length t �
   answered-so = else-as-before d t (has-text d w .0) .1 (length out) ∙ rw (has-text d w .1, le-leb (length t) (length out) h)
 
   front-so : take (length t) (dateAfterwards d t out) ≡ t
-  unfolding afterwards pick
-  front-so =
-      ap (take (length t)) (else-as-before d t (has-text d w .0) .2 out ∙ rw (has-text d w .1, le-leb (length t) (length out) h))
-      ∙ take-append-seam t (drop (length t) out)
+  unfolding dateAfterwards left
+  front-so = ap (λ (a : Written). take (length t) (left a t out)) answered-so ∙ take-append-seam t (drop (length t) out)
 
   stored : (Back : List ℕ → Type 0) → Back t → Stored d t out Back
   stored Back b = record { measures = measured-so; answers = answered-so; back = subst Back (sym front-so) b }
