@@ -1,4 +1,5 @@
 // The fields of a start and of an end.
+ghost use Rattle.reading_laws.specs.Lent.{lent, optional, three};
 ghost use Rattle.sixfields.specs.Six.{sixFields};
 ghost use Rattle.knobstream.specs.Plain as plain;
 ghost use Rattle.knobstream.specs.Layout.{Answered};
@@ -26,7 +27,7 @@ pub extern "C" fn knobstream_parse_six_fields(
     end_day_table: &[u64],
     answer: &mut [u64; 7],
 )
-    ensures { λ _. ⌜ Answered (now (answer .exit)) (plain.read (sixFields (now (year .entry)) (now («year_table» .entry)) (isSet «has_month») (now (month .entry)) (now («month_table» .entry)) (isSet «has_day») (now (day .entry)) (now («day_table» .entry)) (isSet «has_end_year») (now («end_year» .entry)) (now («end_year_table» .entry)) (isSet «has_end_month») (now («end_month» .entry)) (now («end_month_table» .entry)) (isSet «has_end_day») (now («end_day» .entry)) (now («end_day_table» .entry)))) ⌝ }
+    ensures { λ _. ⌜ Answered (now (answer .exit)) (plain.read (sixFields (three (lent (now (year .entry)) (now («year_table» .entry))) (optional (isSet «has_month») (now (month .entry)) (now («month_table» .entry))) (optional (isSet «has_day») (now (day .entry)) (now («day_table» .entry)))) (isSet «has_end_year») (three (lent (now («end_year» .entry)) (now («end_year_table» .entry))) (optional (isSet «has_end_month») (now («end_month» .entry)) (now («end_month_table» .entry))) (optional (isSet «has_end_day») (now («end_day» .entry)) (now («end_day_table» .entry)))))) ⌝ }
 {
     let read = sixfields::parse_six_fields(
         year,
