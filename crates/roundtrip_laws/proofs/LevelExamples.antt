@@ -9,7 +9,7 @@ use lib.IntN.{ℤ, pos, negsuc}
 use lib.ListN.{length}
 use Rattle.chars.specs.Ascii.{ascii}
 use Rattle.refusals.specs.declared.Kind.the-variants.{NotLevelOne}
-use Rattle.refusals.specs.Refusal.{fileSpan, refusal}
+use Rattle.refusals.specs.Refusal.{fileSpan}
 use Rattle.dates.specs.declared.OptionMonth.the-variants.{NoMonth}
 use Rattle.dates.specs.declared.OptionDay.the-variants.{NoDay}
 use Rattle.dates.specs.declared.OptionTime.the-variants.{NoTime}
@@ -51,7 +51,7 @@ abbrev year : ℤ → Datetime
 year y = datetime y NoMonth NoDay NoTime
 
 abbrev refused : ReadDate
-refused = Refused (refusal NotLevelOne (fileSpan 0 0))
+refused = Refused (record { kind = NotLevelOne; place = fileSpan 0 0 })
 
 -- what the writer of level one makes of an answer; nothing of a refusal
 abbrev written : ReadDate → List ℕ
