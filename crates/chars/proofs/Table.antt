@@ -10,7 +10,7 @@ use native.Mathlib.Decide.{decLt}
 use borrow.Author.Tests.{lt-ltb, le-ltb, le-leb, lt-leb}
 use lib.ListN.{length, take, drop, take-append-drop, length-drop}
 use lib.Seq.{take-append-seam}
-use Rattle.chars.specs.Utf8.{isCont, isSurrogate, code2, code3, code4, first, decodeAt}
+use Rattle.chars.specs.Utf8.{isCont, isSurrogate, code3, code4, first, decodeAt}
 use Rattle.chars.specs.Table.{In, WellFormed, Begins}
 use Rattle.chars.specs.Table.WellFormed.{row1, row2, row3, row4, row5, row6, row7, row8, row9}
 use Rattle.chars.specs.Table.Begins.{begins}

@@ -5,7 +5,7 @@ use mathlib.Core.Bool.{true, false}
 use mathlib.Core.List.{List, [], _∷_, _++_, map}
 use Prim.Native.Nat.{ℕ, zero, suc}
 use lib.Dec.{lit≤}
-use lib.ListN.{length, replicate}
+use lib.ListN.{replicate}
 use Rattle.chars.specs.Ascii.{ascii}
 use Rattle.chars.specs.Pick.{pick}
 use Rattle.chars.specs.Classes.{within, isAdmitted, isWhitespace}

@@ -1,7 +1,6 @@
 // Numbers of a text: a run of numeric characters, with white space and a sign before it as the ported code takes them.
 ghost use mathlib.Core.Path.{_≡_};
-ghost use Prim.Native.Nat.{_<_, _≤_, _-_};
-ghost use lib.ListN.{length};
+ghost use Prim.Native.Nat.{_<_, _-_};
 ghost use Rattle.numbers.specs.Number as spec;
 ghost use Rattle.chars.specs.Signs.{signed};
 ghost use Rattle.numbers.specs.Trim as trims;

@@ -8,7 +8,7 @@ use native.Mathlib.Nat.{add-zero, eq-zero-or-pos, pow-succ'}
 use native.Mathlib.Omega.{arith}
 use borrow.Author.Tests.{lt-ltb, le-ltb, le-leb, lt-leb, eq-eqb, ne-eqb, ltb-true, ltb-false}
 use lib.Dec.{lit<, lit≤, ltb}
-use lib.ListN.{length, take, length-append}
+use lib.ListN.{length, length-append}
 use lib.Seq.{take-length}
 use Rattle.chars.specs.Pick.{pick}
 use Rattle.chars.specs.Ascii.{digitOf}

@@ -13,7 +13,6 @@ use Rattle.numbers.specs.declared.ParsedNumber.{ParsedNumber}
 use Rattle.numbers.specs.declared.ParsedNumber.the-variants.{Value, NoValue}
 use Rattle.numbers.specs.Parse.{parse}
 use Rattle.refusals.specs.declared.FileSpan.{FileSpan}
-use Rattle.refusals.specs.declared.Refusal.{Refusal}
 use Rattle.refusals.specs.declared.Kind.the-variants.{InvalidNumber}
 use Rattle.refusals.specs.Refusal.{refusal}
 use Rattle.refusals.specs.Offset.{textRefusal, offsetNumber, untilSpanEnd}

@@ -5,8 +5,6 @@ use mathlib.Core.List.{List}
 use Prim.Native.Nat.{ℕ, zero, suc, _+_, _-_, _*_, _^_, _≤_, _<_}
 use native.Mathlib.Omega.{arith}
 use borrow.Author.Tests.{ltb-false, eqb-false}
-use lib.IntN.{pos}
-use lib.ListN.{length, drop, length-take}
 use Rattle.chars.proofs.Cases.{by-test}
 use Rattle.scanner.specs.declared.Class.the-variants.{Whitespace, AsciiDigit, Is}
 use Rattle.scanner.specs.Scan.{eatWhile, part}

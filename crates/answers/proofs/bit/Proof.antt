@@ -1,8 +1,6 @@
 use Rattle.answers.specs.Answer.{bit}
 use Rattle.answers.proofs.bit.Statement.{statement}
 use Rattle.answers.proofs.bit.Tie as tie
-use Rattle.answers.proofs.bit.Reads as reads
-use Rattle.answers.proofs.bit.Lts as lts
 
 returns : tie.Need-returns
 unfolding bit

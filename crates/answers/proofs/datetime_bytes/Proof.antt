@@ -4,13 +4,6 @@ use Rattle.answers.proofs.Digits.{datetime-is}
 use borrow.Author.Needs.{needs}
 use Rattle.answers.proofs.datetime_bytes.Statement.{statement}
 use Rattle.answers.proofs.datetime_bytes.Tie as tie
-use Rattle.answers.proofs.datetime_bytes.Reads as reads
-use Rattle.answers.proofs.datetime_bytes.Lts as lts
-use Rattle.answers.proofs.day_byte.Reads as day-byte-reads
-use Rattle.answers.proofs.month_byte.Reads as month-byte-reads
-use Rattle.answers.proofs.time_bytes.Reads as time-bytes-reads
-use Rattle.answers.proofs.twos.Reads as twos-reads
-use Rattle.answers.proofs.word.Reads as word-reads
 
 -- src/lib.rt:117:1
 returns : tie.Need-returns

@@ -2,8 +2,6 @@ use Rattle.answers.specs.Answer.{dayByte}
 use borrow.Author.Needs.{needs}
 use Rattle.answers.proofs.day_byte.Statement.{statement}
 use Rattle.answers.proofs.day_byte.Tie as tie
-use Rattle.answers.proofs.day_byte.Reads as reads
-use Rattle.answers.proofs.day_byte.Lts as lts
 
 returns : tie.Need-returns
 unfolding dayByte

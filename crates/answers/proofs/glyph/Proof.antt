@@ -4,8 +4,6 @@ use Rattle.chars.specs.Pick.{pick}
 use borrow.Author.Tests.{lt-ltb, le-ltb}
 use Rattle.answers.proofs.glyph.Statement.{statement}
 use Rattle.answers.proofs.glyph.Tie as tie
-use Rattle.answers.proofs.glyph.Reads as reads
-use Rattle.answers.proofs.glyph.Lts as lts
 
 returns : tie.Need-returns
 unfolding glyph pick

@@ -7,8 +7,6 @@ use Rattle.chars.proofs.Cases.{of-test}
 use borrow.Author.Needs.{needs}
 use Rattle.answers.proofs.is_short.Statement.{statement}
 use Rattle.answers.proofs.is_short.Tie as tie
-use Rattle.answers.proofs.is_short.Reads as reads
-use Rattle.answers.proofs.is_short.Lts as lts
 
 -- src/lib.rt:269:9
 returns : tie.Need-returns

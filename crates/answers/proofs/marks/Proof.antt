@@ -2,9 +2,6 @@ use Rattle.answers.proofs.Digits.{packed}
 use borrow.Author.Needs.{needs}
 use Rattle.answers.proofs.marks.Statement.{statement}
 use Rattle.answers.proofs.marks.Tie as tie
-use Rattle.answers.proofs.marks.Reads as reads
-use Rattle.answers.proofs.marks.Lts as lts
-use Rattle.answers.proofs.bit.Reads as bit-reads
 
 returns : tie.Need-returns
 returns c =

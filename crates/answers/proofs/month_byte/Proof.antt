@@ -2,8 +2,6 @@ use Rattle.answers.specs.Answer.{monthByte}
 use borrow.Author.Needs.{needs}
 use Rattle.answers.proofs.month_byte.Statement.{statement}
 use Rattle.answers.proofs.month_byte.Tie as tie
-use Rattle.answers.proofs.month_byte.Reads as reads
-use Rattle.answers.proofs.month_byte.Lts as lts
 
 returns : tie.Need-returns
 unfolding monthByte

@@ -6,9 +6,6 @@ use Rattle.chars.specs.Pick.{pick}
 use borrow.Author.Needs.{needs}
 use Rattle.answers.proofs.no_room.Statement.{statement}
 use Rattle.answers.proofs.no_room.Tie as tie
-use Rattle.answers.proofs.no_room.Reads as reads
-use Rattle.answers.proofs.no_room.Lts as lts
-use Rattle.refusals.proofs.refuse.Reads as refuse-reads
 
 returns : tie.Need-returns
 unfolding decided pick

@@ -2,9 +2,6 @@ use Rattle.answers.specs.Answer.{offsetBytes}
 use borrow.Author.Needs.{needs}
 use Rattle.answers.proofs.offset_bytes.Statement.{statement}
 use Rattle.answers.proofs.offset_bytes.Tie as tie
-use Rattle.answers.proofs.offset_bytes.Reads as reads
-use Rattle.answers.proofs.offset_bytes.Lts as lts
-use Rattle.answers.proofs.shift_bytes.Reads as shift-bytes-reads
 
 returns : tie.Need-returns
 unfolding offsetBytes

@@ -9,10 +9,6 @@ use Rattle.answers.proofs.Digits.{next-digits, no-digits, length-hex}
 use borrow.Author.Needs.{needs}
 use Rattle.answers.proofs.put_hex.Statement.{statement}
 use Rattle.answers.proofs.put_hex.Tie as tie
-use Rattle.answers.proofs.put_hex.Reads as reads
-use Rattle.answers.proofs.put_hex.Lts as lts
-use Rattle.answers.proofs.high.Reads as high-reads
-use Rattle.answers.proofs.low.Reads as low-reads
 
 abbrev Inv-loop : tie.InvT-loop
 Inv-loop t out₀ at i₀ out i = (sets out (at + 2 * i) (hexText (drop i t)) ≡ sets out₀ at (hexText t)) × (i ≤ length t) × (length out ≡ length out₀)

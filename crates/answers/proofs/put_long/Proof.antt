@@ -5,10 +5,6 @@ use Rattle.answers.proofs.Digits.{hex-both, hex-room, hex-as}
 use borrow.Author.Needs.{needs}
 use Rattle.answers.proofs.put_long.Statement.{statement}
 use Rattle.answers.proofs.put_long.Tie as tie
-use Rattle.answers.proofs.put_long.Reads as reads
-use Rattle.answers.proofs.put_long.Lts as lts
-use Rattle.answers.proofs.put_hex.Reads as put-hex-reads
-use Rattle.answers.proofs.word.Reads as word-reads
 
 put-hex-requires-2 : tie.Need-put-hex-requires-2
 put-hex-requires-2 c κs =

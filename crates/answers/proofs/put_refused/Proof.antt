@@ -4,12 +4,6 @@ use Rattle.answers.proofs.Digits.{hex-both, hex-room, hex-as, line-put,
 use borrow.Author.Needs.{needs}
 use Rattle.answers.proofs.put_refused.Statement.{statement}
 use Rattle.answers.proofs.put_refused.Tie as tie
-use Rattle.answers.proofs.put_refused.Reads as reads
-use Rattle.answers.proofs.put_refused.Lts as lts
-use Rattle.answers.proofs.end_line.Reads as end-line-reads
-use Rattle.answers.proofs.put_hex.Reads as put-hex-reads
-use Rattle.answers.proofs.put_long.Reads as put-long-reads
-use Rattle.refusals.proofs.number.Reads as number-reads
 
 put-long-requires : tie.Need-put-long-requires
 put-long-requires c κs =

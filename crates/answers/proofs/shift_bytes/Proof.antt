@@ -2,8 +2,6 @@ use Rattle.answers.specs.Answer.{shiftBytes}
 use borrow.Author.Needs.{needs}
 use Rattle.answers.proofs.shift_bytes.Statement.{statement}
 use Rattle.answers.proofs.shift_bytes.Tie as tie
-use Rattle.answers.proofs.shift_bytes.Reads as reads
-use Rattle.answers.proofs.shift_bytes.Lts as lts
 
 returns : tie.Need-returns
 unfolding shiftBytes

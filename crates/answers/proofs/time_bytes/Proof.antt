@@ -2,9 +2,6 @@ use Rattle.answers.proofs.Digits.{no-time, some-time}
 use borrow.Author.Needs.{needs}
 use Rattle.answers.proofs.time_bytes.Statement.{statement}
 use Rattle.answers.proofs.time_bytes.Tie as tie
-use Rattle.answers.proofs.time_bytes.Reads as reads
-use Rattle.answers.proofs.time_bytes.Lts as lts
-use Rattle.answers.proofs.offset_bytes.Reads as offset-bytes-reads
 
 -- src/lib.rt:103:1
 returns : tie.Need-returns

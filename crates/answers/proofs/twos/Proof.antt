@@ -5,8 +5,6 @@ use Rattle.dates.proofs.Signs.{fits-abs, not-negative, minus-read, wide-fits, m
 use Rattle.answers.proofs.Digits.{below, above}
 use Rattle.answers.proofs.twos.Statement.{statement}
 use Rattle.answers.proofs.twos.Tie as tie
-use Rattle.answers.proofs.twos.Reads as reads
-use Rattle.answers.proofs.twos.Lts as lts
 
 cast-y : tie.Need-cast-y
 cast-y c =

@@ -2,11 +2,6 @@ use Rattle.answers.proofs.Digits.{at-line, after-line, before-line, bet
 use borrow.Author.Needs.{needs}
 use Rattle.answers.proofs.write_accepted.Statement.{statement}
 use Rattle.answers.proofs.write_accepted.Tie as tie
-use Rattle.answers.proofs.write_accepted.Reads as reads
-use Rattle.answers.proofs.write_accepted.Lts as lts
-use Rattle.answers.proofs.marks.Reads as marks-reads
-use Rattle.answers.proofs.write_one.Reads as write-one-reads
-use Rattle.answers.proofs.write_two.Reads as write-two-reads
 
 -- src/lib.rt:297:1
 returns : tie.Need-returns

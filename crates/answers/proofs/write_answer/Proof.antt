@@ -7,10 +7,6 @@ use Rattle.answers.specs.Answer.{answerLine}
 use borrow.Author.Needs.{needs}
 use Rattle.answers.proofs.write_answer.Statement.{statement}
 use Rattle.answers.proofs.write_answer.Tie as tie
-use Rattle.answers.proofs.write_answer.Reads as reads
-use Rattle.answers.proofs.write_answer.Lts as lts
-use Rattle.answers.proofs.write_date.Reads as write-date-reads
-use Rattle.answers.proofs.write_refused.Reads as write-refused-reads
 
 returns : tie.Need-returns
 returns c =

@@ -7,10 +7,6 @@ use Rattle.answers.specs.Answer.{levelLine}
 use borrow.Author.Needs.{needs}
 use Rattle.answers.proofs.write_level_answer.Statement.{statement}
 use Rattle.answers.proofs.write_level_answer.Tie as tie
-use Rattle.answers.proofs.write_level_answer.Reads as reads
-use Rattle.answers.proofs.write_level_answer.Lts as lts
-use Rattle.answers.proofs.write_level_date.Reads as write-level-date-reads
-use Rattle.answers.proofs.write_refused.Reads as write-refused-reads
 
 returns : tie.Need-returns
 returns c =

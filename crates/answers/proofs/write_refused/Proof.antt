@@ -5,10 +5,6 @@ use Rattle.answers.proofs.Lines.{no-line, line-done}
 use borrow.Author.Needs.{needs}
 use Rattle.answers.proofs.write_refused.Statement.{statement}
 use Rattle.answers.proofs.write_refused.Tie as tie
-use Rattle.answers.proofs.write_refused.Reads as reads
-use Rattle.answers.proofs.write_refused.Lts as lts
-use Rattle.answers.proofs.no_room.Reads as no-room-reads
-use Rattle.answers.proofs.put_refused.Reads as put-refused-reads
 
 returns : tie.Need-returns
 returns c =

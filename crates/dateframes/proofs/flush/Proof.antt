@@ -5,10 +5,6 @@ use borrow.Author.Needs.{needs}
 use lib.Seq.{length-take-le}
 use Rattle.dateframes.proofs.flush.Statement.{statement}
 use Rattle.dateframes.proofs.flush.Tie as tie
-use Rattle.dateframes.proofs.flush.Reads as reads
-use Rattle.dateframes.proofs.flush.Lts as lts
-use Rattle.io.proofs.write_all.Reads as write-all-reads
-use Rattle.os.proofs.fail.Reads as fail-reads
 
 slice-aggregate-write-all : tie.Need-slice-aggregate-write-all
 slice-aggregate-write-all c = sym (length-take-le _ _ (omega arith))

@@ -8,9 +8,6 @@ use Rattle.hexes.proofs.Laws.{and-assoc, and-true, next-is, none-left}
 use borrow.Author.Needs.{needs}
 use Rattle.hexes.proofs.all_digits.Statement.{statement}
 use Rattle.hexes.proofs.all_digits.Tie as tie
-use Rattle.hexes.proofs.all_digits.Reads as reads
-use Rattle.hexes.proofs.all_digits.Lts as lts
-use Rattle.hexes.proofs.is_digit.Reads as is-digit-reads
 
 abbrev Inv-loop : tie.InvT-loop
 Inv-loop line i₀ all₀ i all = (all && allDigits (drop i line) ≡ allDigits line) × (i ≤ length line)

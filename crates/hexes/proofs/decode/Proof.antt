@@ -4,10 +4,6 @@ use Rattle.hexes.proofs.Laws.{odd, long, foreign, good}
 use borrow.Author.Needs.{needs}
 use Rattle.hexes.proofs.decode.Statement.{statement}
 use Rattle.hexes.proofs.decode.Tie as tie
-use Rattle.hexes.proofs.decode.Reads as reads
-use Rattle.hexes.proofs.decode.Lts as lts
-use Rattle.hexes.proofs.all_digits.Reads as all-digits-reads
-use Rattle.hexes.proofs.put_bytes.Reads as put-bytes-reads
 
 returns : tie.Need-returns
 returns c =

@@ -2,8 +2,6 @@ use Rattle.hexes.proofs.Laws.{value-is}
 use borrow.Author.Needs.{needs}
 use Rattle.hexes.proofs.digit.Statement.{statement}
 use Rattle.hexes.proofs.digit.Tie as tie
-use Rattle.hexes.proofs.digit.Reads as reads
-use Rattle.hexes.proofs.digit.Lts as lts
 
 returns : tie.Need-returns
 returns c = value-is (c .args .b) (c .pre)

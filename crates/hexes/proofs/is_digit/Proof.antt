@@ -2,8 +2,6 @@ use mathlib.Core.Path.{refl}
 use Rattle.hexes.specs.Hex.{isDigit}
 use Rattle.hexes.proofs.is_digit.Statement.{statement}
 use Rattle.hexes.proofs.is_digit.Tie as tie
-use Rattle.hexes.proofs.is_digit.Reads as reads
-use Rattle.hexes.proofs.is_digit.Lts as lts
 
 returns : tie.Need-returns
 unfolding isDigit

@@ -9,9 +9,6 @@ use Rattle.hexes.proofs.Laws.{each-digit, next-byte, pairs-done}
 use borrow.Author.Needs.{needs}
 use Rattle.hexes.proofs.put_bytes.Statement.{statement}
 use Rattle.hexes.proofs.put_bytes.Tie as tie
-use Rattle.hexes.proofs.put_bytes.Reads as reads
-use Rattle.hexes.proofs.put_bytes.Lts as lts
-use Rattle.hexes.proofs.digit.Reads as digit-reads
 
 abbrev Inv-loop : tie.InvT-loop
 Inv-loop line frame₀ half i₀ frame i = (sets frame i (bytesOf (drop (2 * i) line)) ≡ sets frame₀ 0 (bytesOf line)) × (i ≤ half) × (length frame ≡ length frame₀)

@@ -1,6 +1,4 @@
 use mathlib.Core.Path.{ap, _∙_}
-use Prim.Native.Nat.{ℕ}
-use mathlib.Core.List.{List}
 use lib.ListN.{length}
 use Rattle.dates.specs.declared.Date.{Date}
 use Rattle.timed.specs.Answers.{timedAnswer, timedAfterwards}
