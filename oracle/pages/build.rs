@@ -1,15 +1,15 @@
-//! Links libpagecalls.a, which oracle/pages/run makes.
+//! Links libknobstream.a from the folder that KNOBSTREAM_LIB_DIR names.
 
 use std::env;
 
 fn main() {
     println!("cargo:rerun-if-changed=build.rs");
-    println!("cargo:rerun-if-env-changed=PAGECALLS_LIB_DIR");
-    let Ok(folder) = env::var("PAGECALLS_LIB_DIR") else {
-        eprintln!("PAGECALLS_LIB_DIR names the folder with libpagecalls.a: call oracle/pages/run");
+    println!("cargo:rerun-if-env-changed=KNOBSTREAM_LIB_DIR");
+    let Ok(folder) = env::var("KNOBSTREAM_LIB_DIR") else {
+        eprintln!("KNOBSTREAM_LIB_DIR names the folder with libknobstream.a: call oracle/run pages");
         std::process::exit(1)
     };
-    println!("cargo:rerun-if-changed={folder}/libpagecalls.a");
+    println!("cargo:rerun-if-changed={folder}/libknobstream.a");
     println!("cargo:rustc-link-search=native={folder}");
-    println!("cargo:rustc-link-lib=static=pagecalls");
+    println!("cargo:rustc-link-lib=static=knobstream");
 }

@@ -10,7 +10,7 @@ use std::process::ExitCode;
 use oracle::published::{Chunk, Spanned, Type};
 
 extern "C" {
-    fn pagecalls_parse(
+    fn knobstream_parse_pages(
         bytes: *const u8,
         bytes_len: usize,
         table: *const u64,
@@ -19,7 +19,7 @@ extern "C" {
         counts_len: usize,
         out: *mut u32,
         out_len: usize,
-        answer: *mut [u64; 3],
+        answer: *mut [u64; 4],
     );
 }
 
@@ -49,10 +49,10 @@ fn ours(pieces: &[Vec<Part>], room: usize) -> Answer {
     }
     let counts: Vec<usize> = pieces.iter().map(Vec::len).collect();
     let mut table = before(room);
-    let mut says = [u64::MAX; 3];
+    let mut answer = [u64::MAX; 4];
     // SAFETY: each pointer is that of a slice, beside its length.
     unsafe {
-        pagecalls_parse(
+        knobstream_parse_pages(
             bytes.as_ptr(),
             bytes.len(),
             rows.as_ptr(),
@@ -61,9 +61,11 @@ fn ours(pieces: &[Vec<Part>], room: usize) -> Answer {
             counts.len(),
             table.as_mut_ptr(),
             table.len(),
-            &mut says,
+            &mut answer,
         );
     }
+    let [ranges, start, end, refusal] = answer;
+    let says = if refusal == 0 { [0, ranges, start + end] } else { [refusal, start, end + ranges] };
     Answer { says, table }
 }
 
