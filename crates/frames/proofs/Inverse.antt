@@ -14,6 +14,7 @@ use Rattle.dates.specs.declared.Datetime.{Datetime}
 use Rattle.dates.specs.Value.{seasonNumber}
 use Rattle.hexes.specs.Hex.{isDigit, digitOf, allDigits, bytesOf}
 use Rattle.answers.specs.Answer.{glyph, hexText, datetimeBytes, endBytes}
+use Rattle.frames.specs.Answers.{AllBytes}
 
 glyph-back : (d : ℕ) → d < 16 → digitOf (glyph d) ≡ d
 unfolding digitOf glyph pick
@@ -27,12 +28,7 @@ glyph-digit : (d : ℕ) → d < 16 → isDigit (glyph d) ≡ true
 unfolding isDigit glyph pick
 glyph-digit d h = holds (isDigit (glyph d)) (at (λ (d : ℕ). isDigit (glyph d)) 16 tt d h)
 
--- bytes
-abbrev pub AllBytes : List ℕ → Type 0
-AllBytes [] = Unit {0}
-AllBytes (b ∷ l) = (b < 256) × AllBytes l
-
--- their digits are digits,
+-- the digits of bytes are digits,
 pub digits-written : (l : List ℕ) → AllBytes l → allDigits (hexText l) ≡ true
 unfolding hexText allDigits
 digits-written [] h = refl

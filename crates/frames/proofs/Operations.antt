@@ -7,23 +7,21 @@ use lib.Dec.{eqb}
 use borrow.Author.Tests.{ne-eqb}
 use Rattle.chars.specs.Pick.{pick}
 use Rattle.chars.proofs.Cases.{by-test, of-test}
-use Rattle.refusals.specs.declared.Kind.the-variants.{RustPanics}
 use Rattle.dates.specs.declared.Date.{Date}
 use Rattle.dates.specs.Value.{anySeason}
 use Rattle.refusals.specs.declared.ReadDate.{ReadDate}
 use Rattle.refusals.specs.declared.ReadDate.the-variants.{Accepted, Refused}
 use Rattle.hexes.specs.Hex.{isHex, bytesOf}
 use Rattle.reading_laws.specs.Field.{parsedLevelOne}
-use Rattle.writer.specs.Texts.{dateText, panics}
-use Rattle.refusals.specs.Refusal.{nowhere}
 use Rattle.roundtrip_laws.proofs.Seasons.{ported-none, strict-none, three-none}
-use Rattle.answers.specs.Answer.{refusedLine, acceptedLine, answerLine, levelLine}
+use Rattle.answers.specs.Answer.{answerLine, levelLine}
 use Rattle.answers.proofs.Lines.{former-line}
 use Rattle.frames.specs.declared.Operation.{Operation}
 use Rattle.frames.specs.declared.Operation.the-variants.{Ported, Strict, LevelOne, ThreeFields, Unknown}
 use Rattle.frames.specs.Lists.{byteAt, listText, listTable}
 use Rattle.frames.specs.Room.{operationOf}
 use Rattle.frames.specs.Frame.{asked, oneFills, formed, badFrame, readOf, frameRead, lineRead, lineBy, frameAnswer, lineAnswer}
+use Rattle.frames.specs.Answers.{formerLine}
 
 -- whether an operation is that of level one
 abbrev pub isLevel : Operation → Bool
@@ -53,12 +51,7 @@ not-level n h = ap isLevel (others-asked n h) ∙ former
     former =
         by-test Other (eqb n 1) (λ _. refl) (λ _. by-test Other (eqb n 2) (λ _. refl) (λ _. by-test Other (eqb n 3) (λ _. refl) (λ _. by-test Other (eqb n 4) (λ _. refl) (λ _. refl))))
 
--- the line of an answer before there were seasons
-abbrev pub formerLine : ReadDate → List ℕ
-formerLine (Accepted d) = pick (panics d) (refusedLine (nowhere RustPanics)) (acceptedLine false d (dateText d))
-formerLine (Refused e) = refusedLine e
-
--- where no season is given it is the line still
+-- where no season is given the line is the former one
 same-line : (r : ReadDate) → ((d : Date) → r ≡ Accepted d → anySeason (d .value) ≡ false) → answerLine r ≡ formerLine r
 unfolding answerLine
 same-line (Accepted d) h = former-line d (h d refl)

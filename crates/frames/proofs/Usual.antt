@@ -18,7 +18,8 @@ use Rattle.quick.specs.declared.UsualText.the-variants.{One, Two}
 use Rattle.quick.specs.Quick.{usualText}
 use Rattle.roundtrip_laws.proofs.Seasons.{ported-none}
 use Rattle.reader.specs.Once.{oneNormal}
-use Rattle.reader.proofs.Quick.{Usually, one-usual, two-usual, both-ported, both-strict, calm}
+use Rattle.reader.specs.Usual.{Usually}
+use Rattle.reader.proofs.Quick.{one-usual, two-usual, both-ported, both-strict, calm}
 use Rattle.answers.specs.Answer.{marks, bit, shape, endsBytes, acceptedBytes, acceptedLine, oneLine, twoLine, answerLine}
 use Rattle.answers.proofs.Lines.{former-line}
 use Rattle.frames.specs.declared.Operation.{Operation}

@@ -1,3 +1,4 @@
 pub mod Lists
 pub mod Room
 pub mod Frame
+pub mod Answers

@@ -7,16 +7,7 @@ use borrow.Author.Tests.{eqb-true, eqb-false}
 use lib.Dec.{eqb}
 use Rattle.chars.specs.Pick.{pick}
 use Rattle.chars.proofs.Cases.{of-test}
-use Rattle.lines.specs.Lines.{linesFrom, restFrom, lineLength, NoFeed}
-
--- no byte is a line feed
-abbrev pub FeedFree : List ℕ → Type 0
-FeedFree [] = Unit {0}
-FeedFree (b ∷ l) = (b ≡ 10 → ⊥) × FeedFree l
-
-abbrev pub AllFree : List (List ℕ) → Type 0
-AllFree [] = Unit {0}
-AllFree (l ∷ ls) = FeedFree l × AllFree ls
+use Rattle.lines.specs.Lines.{linesFrom, restFrom, lineLength, NoFeed, FeedFree, AllFree, joined}
 
 free-then : (k : List ℕ) (x : ℕ) → FeedFree k → (x ≡ 10 → ⊥) → FeedFree (k ++ (x ∷ []))
 free-then [] x h n = (n, tt)
@@ -41,10 +32,6 @@ rest-free k (x ∷ s) h =
     (λ q. rw q (rest-free (k ++ (x ∷ [])) s (free-then k x h (eqb-false x 10 q))))
 
 -- and the lines, each with its line feed, and the rest are the stream
-abbrev pub joined : List (List ℕ) → List ℕ → List ℕ
-joined [] rest = rest
-joined (l ∷ ls) rest = l ++ (10 ∷ joined ls rest)
-
 pub lines-joined : (k s : List ℕ) → joined (linesFrom k s) (restFrom k s) ≡ k ++ s
 unfolding linesFrom restFrom pick
 lines-joined k [] = sym (append-nil k)

@@ -39,3 +39,18 @@ lineLength (b ∷ s) = pick (eqb b 10) 0 (suc (lineLength s))
 -- there is no line feed
 abbrev pub NoFeed : List ℕ → Type 0
 NoFeed s = lineLength s ≡ length s
+
+-- no byte is a line feed
+abbrev pub FeedFree : List ℕ → Type 0
+FeedFree [] = Unit {0}
+FeedFree (b ∷ l) = (b ≡ 10 → ⊥) × FeedFree l
+
+-- no byte of any line is one
+abbrev pub AllFree : List (List ℕ) → Type 0
+AllFree [] = Unit {0}
+AllFree (l ∷ ls) = FeedFree l × AllFree ls
+
+-- the lines, each with its line feed, and what stands behind the last
+abbrev pub joined : List (List ℕ) → List ℕ → List ℕ
+joined [] rest = rest
+joined (l ∷ ls) rest = l ++ (10 ∷ joined ls rest)

@@ -16,9 +16,7 @@ use Rattle.chars.proofs.Spelled.{bytesAt, drop-same, spelled}
 use Rattle.dates.specs.declared.OptionMonth.the-variants.{NoMonth}
 use Rattle.dates.specs.declared.OptionDay.the-variants.{NoDay}
 use Rattle.dates.specs.declared.OptionTime.the-variants.{NoTime}
-use Rattle.dates.specs.declared.Datetime.{Datetime}
 use Rattle.dates.specs.Calendar.{monthLength}
-use Rattle.dates.specs.Domain.{EndIn}
 use Rattle.dates.specs.Value.{datetime, month, day}
 use Rattle.dates.proofs.Lengths.{length-most}
 use Rattle.strict.specs.Digits.{digits}
@@ -26,9 +24,8 @@ use Rattle.strict.specs.Canonical.{yearText, partText, dayText, monthText, cano
 use Rattle.strict.proofs.Digits.{digit}
 use Rattle.quick.specs.declared.UsualPoint.{UsualPoint}
 use Rattle.quick.specs.declared.UsualPoint.the-variants.{Found, NotFound}
-use Rattle.quick.specs.declared.UsualText.{UsualText}
-use Rattle.quick.specs.declared.UsualText.the-variants.{One, Two, Other}
 use Rattle.quick.specs.Quick.{twoOf, fourOf, yearOf, countedFrom, partAt, yearPoint, monthPoint, dayPoint, pointOf, isSlash, slashOf, oneOf, twoPoints, rangeAt, usualText}
+use Rattle.quick.specs.Said.{Said, Finding, SaidTwo, Saying}
 
 -- two digits, and four
 two-digits : (a b : ℕ) → isAsciiDigit a ≡ true → isAsciiDigit b ≡ true → a ∷ b ∷ [] ≡ digits 2 ((a - 48) * 10 + (b - 48))
@@ -87,11 +84,6 @@ part-are s at =
     by-test (λ (n : ℕ). n < 99 → Part s at n) (eqb (getD s at 0) 45)
     (λ t h. record { hyphen = eqb-true _ 45 t; number = counted (twoOf a b) (two-are a b) h })
     (λ t h. absurd (omega arith))
-
--- a Datetime's own text, of a Datetime that has one
-pub record Said (s : List ℕ) (d : Datetime) : Type 0 where
-  pub text-is : s ≡ canonical d
-  pub end-in : EndIn d
 
 -- the text behind a year, a month and a day
 module _ (s : List ℕ) where
@@ -152,26 +144,22 @@ module _ (s : List ℕ) where
       no-more : (t : List ℕ) → t ++ [] ≡ t
       no-more t = append-nil t
 
-  -- what is found
-  abbrev pub Finding : UsualPoint → Type 0
-  Finding (Found d) = Said s d
-  Finding NotFound = Unit {0}
-
-  pub finding : Finding (pointOf s)
+  -- a usual point is the text of the Datetime that is found
+  pub finding : Finding s (pointOf s)
   unfolding pointOf yearPoint monthPoint dayPoint
   finding =
-      by-test Finding (eqb (length s) 4)
-      (λ n. by-test Finding (ltb (yearOf s) 10000) (λ h. year-said (eqb-true _ 4 n) (ltb-true _ _ h)) (λ h. tt))
+      by-test (Finding s) (eqb (length s) 4)
+      (λ n. by-test (Finding s) (ltb (yearOf s) 10000) (λ h. year-said (eqb-true _ 4 n) (ltb-true _ _ h)) (λ h. tt))
       (λ _.
-      by-test Finding (eqb (length s) 7)
+      by-test (Finding s) (eqb (length s) 7)
       (λ n.
-      by-test Finding (ltb (yearOf s) 10000 && ltb (partAt s 4) 12)
+      by-test (Finding s) (ltb (yearOf s) 10000 && ltb (partAt s 4) 12)
       (λ h. let p = and-true (ltb (yearOf s) 10000) _ h in month-said (eqb-true _ 7 n) (ltb-true _ _ (p .0)) (ltb-true _ _ (p .1)))
       (λ h. tt))
       (λ _.
-      by-test Finding (eqb (length s) 10)
+      by-test (Finding s) (eqb (length s) 10)
       (λ n.
-      by-test Finding (ltb (yearOf s) 10000 && (ltb (partAt s 4) 12 && ltb (partAt s 7) (monthLength (partAt s 4) (pos (yearOf s)))))
+      by-test (Finding s) (ltb (yearOf s) 10000 && (ltb (partAt s 4) 12 && ltb (partAt s 7) (monthLength (partAt s 4) (pos (yearOf s)))))
       (λ h.
       let p = and-true (ltb (yearOf s) 10000) _ h in
       let q = and-true (ltb (partAt s 4) 12) _ (p .1) in
@@ -197,17 +185,6 @@ slash-text s k e =
     sym (take-append-drop k s)
     ∙ ap (λ (t : List ℕ). take k s ++ t) (drop-cons s k 0 (slash-in s k e) ∙ cons-same (eqb-true _ 47 e) (drop-same s (suc k) (k + 1) (omega arith)))
 
--- two such texts with a slash between them
-pub record SaidTwo (s : List ℕ) (a b : Datetime) : Type 0 where
-  pub both-texts : s ≡ canonical a ++ 47 ∷ canonical b
-  pub start-in : EndIn a
-  pub end-in : EndIn b
-
-abbrev pub Saying : List ℕ → UsualText → Type 0
-Saying s (One d) = Said s d
-Saying s (Two a b) = SaidTwo s a b
-Saying s Other = Unit {0}
-
 one-saying : (s : List ℕ) (p : UsualPoint) → Finding s p → Saying s (oneOf p)
 unfolding oneOf
 one-saying s (Found d) f = f
@@ -219,6 +196,7 @@ two-saying s l r (Found a) (Found b) e f g = record { both-texts = e ∙ rw (f .
 two-saying s l r (Found a) NotFound e f g = tt
 two-saying s l r NotFound q e f g = tt
 
+-- a usual text is that of what it says
 pub saying : (s : List ℕ) → Saying s (usualText s)
 unfolding usualText rangeAt
 saying s =

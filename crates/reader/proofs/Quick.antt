@@ -29,18 +29,15 @@ use Rattle.writer.specs.Texts.{dayParts, monthParts, partsOf, tooLarge, endPani
 use Rattle.puts.specs.Marks.{markText}
 use Rattle.quick.specs.declared.UsualText.the-variants.{One, Two}
 use Rattle.quick.specs.Quick.{usualText}
-use Rattle.quick.proofs.Laws.{Said, SaidTwo, Saying, saying}
+use Rattle.quick.specs.Said.{Said, SaidTwo, Saying}
+use Rattle.quick.proofs.Laws.{saying}
 use Rattle.roundtrip_laws.specs.Domain.{InDomain, oneChunk}
 use Rattle.roundtrip_laws.proofs.Derived.{canonical-is}
 use Rattle.roundtrip_laws.proofs.Theorems.{date-back, strict-back}
 use Rattle.reader.specs.Once.{oneNormal}
+use Rattle.reader.specs.Usual.{Usually}
 
--- the written text of a Date of the domain
-pub record Usually (b : List ℕ) (d : Date) : Type 0 where
-  pub in-domain : InDomain (d .value)
-  pub text-is : dateText d ≡ b
-
--- a usual text is one
+-- a usual text is the written text of a Date of the domain
 module _ (b : List ℕ) where
   pub one-usual : {d : Datetime} → usualText b ≡ One d → Usually b (fromDatetime d)
   unfolding dateText valueText markText

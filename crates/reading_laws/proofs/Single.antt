@@ -1,14 +1,11 @@
 -- What three fields give: a single date with no mark, or a refusal.
 -- Assumes nothing.
 use lib.IntN.{ℤ}
-use Rattle.refusals.specs.declared.Refusal.{Refusal}
 use Rattle.chunks.specs.declared.Checked.{Checked}
 use Rattle.chunks.specs.declared.Checked.the-variants.{Clean, Faulty}
 use Rattle.dates.specs.declared.OptionTime.the-variants.{NoTime}
-use Rattle.dates.specs.declared.Datetime.{Datetime}
-use Rattle.dates.specs.Value.{datetime, fromDatetime}
+use Rattle.dates.specs.Value.{datetime}
 use Rattle.refusals.specs.declared.ReadDate.{ReadDate}
-use Rattle.refusals.specs.declared.ReadDate.the-variants.{Accepted, Refused}
 use Rattle.reading_laws.specs.declared.FieldYear.{FieldYear}
 use Rattle.reading_laws.specs.declared.FieldYear.the-variants.{YearIs, NoFieldYear}
 use Rattle.reading_laws.specs.declared.Parts.{Parts}
@@ -16,11 +13,7 @@ use Rattle.reading_laws.specs.declared.Parts.the-variants.{PartsAre, NoP
 use Rattle.reading_laws.specs.Field.{onClean}
 use Rattle.reading_laws.specs.Lent.{Three}
 use Rattle.reading_laws.specs.Fields.{partsOf, dated, onYear, readFields, threeFields}
-
--- a single date with no mark, or a refusal
-pub data Single : ReadDate → Type 0 where
-  one : (a : Datetime) → Single (Accepted (fromDatetime a))
-  none : {e : Refusal} → Single (Refused e)
+use Rattle.reading_laws.specs.Single.{Single, one, none}
 
 dated-single : (y : ℤ) (p : Parts) → Single (dated y p)
 unfolding dated

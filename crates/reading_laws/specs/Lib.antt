@@ -1,3 +1,4 @@
 pub mod Field
 pub mod Lent
 pub mod Fields
+pub mod Single

@@ -32,12 +32,13 @@ use Rattle.strict.specs.Grammar.{field, lastDay, Point, Unknown, ddXX, dddX, dd
 use Rattle.strict.specs.Grammar
 use Rattle.reading_laws.specs.Field.{onClean, parsed, parsedStrict}
 use Rattle.roundtrip_laws.specs.Domain.{dddd-mm-XX, ShortText, short-text}
+use Rattle.roundtrip_laws.specs.Ported.{PortedReads}
 use Rattle.roundtrip_laws.proofs.Bytes.{Each, each-append, each-bytes, InValue, ValueText, value-digit, minus-in, alone-text, between-text, after-text, before-text, clear-upper}
 use Rattle.roundtrip_laws.proofs.Bytes.Each.{none, more}
 use Rattle.roundtrip_laws.proofs.Points.{point-read, point-text}
 use Rattle.roundtrip_laws.proofs.Values.{alone-value, between-value, after-value, before-value}
 use Rattle.roundtrip_laws.proofs.Trims.{text-clear, text-marked}
-use Rattle.roundtrip_laws.proofs.Unknown.{Said, days-said, unknown-value}
+use Rattle.roundtrip_laws.proofs.Unknown.{days-said, unknown-value}
 use Rattle.roundtrip_laws.proofs.StrictRead.{strict-accepts}
 
 -- the bytes of a text with an X
@@ -72,7 +73,7 @@ value-text (unknown x) = unknown-text x
 
 -- what the ported reader says of a derived text; of one with an X by that one law
 module _ (span : FileSpan) where
-  value-read : {s : List ℕ} {v : DateValue} → Value Point s v → Said span s v
+  value-read : {s : List ℕ} {v : DateValue} → Value Point s v → PortedReads span s v
   unfolding moved onHalf
   value-read (alone p) = inl (rw (alone-value span (point-text p), point-read p))
   value-read (between p q) = inl (rw (between-value span (point-text p) (point-text q), point-read p, point-read q))
@@ -89,7 +90,7 @@ module _ (span : FileSpan) {s t : List ℕ} {u a : Bool} (k : ValueText s) (m : 
   unfolding marked
   as-read e = text-marked span k m ∙ rw e
 
-  both-read : {v : DateValue} → Said span s v → Both (s ++ t) (date v u a) (parseText span (s ++ t))
+  both-read : {v : DateValue} → PortedReads span s v → Both (s ++ t) (date v u a) (parseText span (s ++ t))
   both-read (inl e) = inl (as-read e)
   both-read (inr (w, x, e)) = inr (date w u a, short-text x m, as-read e)
 

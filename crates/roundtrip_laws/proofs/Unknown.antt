@@ -4,7 +4,7 @@
 use mathlib.Core.Path.{_≡_, ap, _∙_}
 use mathlib.Core.Bool.{true, false}
 use mathlib.Core.List.{List, [], _∷_, _++_}
-use mathlib.Core.Logic.{_⊎_, inl, inr}
+use mathlib.Core.Logic.{inl, inr}
 use Prim.Native.Nat.{ℕ, _+_, _/_, _%_, _≤_, _<_}
 use native.Mathlib.Omega.{arith}
 use native.Mathlib.Decide.{decLt}
@@ -34,7 +34,8 @@ use Rattle.datefield.specs.declared.ReadValue.the-variants.{Read}
 use Rattle.datefield.specs.Value.{xRange, value}
 use Rattle.strict.specs.Grammar.{lastDay, field, Unknown, ddXX, dddX, dddd-XX, dddd-XX-XX}
 use Rattle.strict.specs.Grammar
-use Rattle.roundtrip_laws.specs.Domain.{daysUpto, ShortDays, dddd-mm-XX}
+use Rattle.roundtrip_laws.specs.Domain.{daysUpto, dddd-mm-XX}
+use Rattle.roundtrip_laws.specs.Ported.{PortedReads}
 use Rattle.roundtrip_laws.proofs.Bytes.{Each, each-append, each-bytes, InPoint, point-digit, minus-in, without-x, first-some}
 use Rattle.roundtrip_laws.proofs.Bytes.Each.{none as no-more, more}
 use Rattle.roundtrip_laws.proofs.Runs.{Stops, none, other, run-none, ascii-run, ascii-part, parse-is}
@@ -181,10 +182,6 @@ module _ (n m : ℕ) (h : m < 12) {s : List ℕ} (f : From s 4 (0x2D ∷ bytes (
 four-in : (n : ℕ) {l : List ℕ} → Each InPoint l → Each InPoint (bytes (four n) ++ l)
 four-in n b = each-append (each-bytes point-digit (four n) (four-digits n)) b
 
--- what the ported reader reads of a text with an X: what the derivation says, or, of days in a month under 31 days, the range up to the 31st
-abbrev pub Said : FileSpan → List ℕ → DateValue → Type 0
-Said span s v = (value span s ≡ Read v) ⊎ ((w : DateValue) × ShortDays s v w × (value span s ≡ Read w))
-
 -- the last day of a month of 31 days is the same in both
 last-is : (m n : ℕ) → 31 ≤ monthLength m (pos n) → 30 ≡ lastDay m n
 unfolding lastDay
@@ -200,7 +197,7 @@ module _ (span : FileSpan) where
       has-x span (0x58 ∷ []) (four-in n (more minus-in (each-append (each-bytes point-digit (two (1 + m)) (two-digits (1 + m))) (more minus-in no-more))))
       ∙ rw (whole-year n h f, month-digits n m k g, month-number n m k g, days-x n m k g)
 
-  pub unknown-value : {s : List ℕ} {v : DateValue} → Unknown s v → Said span s v
+  pub unknown-value : {s : List ℕ} {v : DateValue} → Unknown s v → PortedReads span s v
   unfolding xRange years months lastDay
   unknown-value (ddXX n h) = inl (has-x span (0x58 ∷ []) (each-bytes point-digit (two n) (two-digits n)) ∙ rw (century n h (from-start _)))
   unknown-value (dddX n h) = inl (has-x span [] (each-bytes point-digit (three n) (four-digits n .1)) ∙ rw (decade n h (from-start _)))

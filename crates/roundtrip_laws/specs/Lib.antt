@@ -4,3 +4,4 @@ pub mod Level
 pub mod Stored
 pub mod Letters
 pub mod Days
+pub mod Ported

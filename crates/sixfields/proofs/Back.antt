@@ -13,7 +13,8 @@ use Rattle.refusals.specs.declared.ReadDate.{ReadDate}
 use Rattle.refusals.specs.declared.ReadDate.the-variants.{Accepted}
 use Rattle.reading_laws.specs.Lent.{Three}
 use Rattle.reading_laws.specs.Fields.{threeFields}
-use Rattle.reading_laws.proofs.Single.{Single, one, none, three-single}
+use Rattle.reading_laws.specs.Single.{Single, one, none}
+use Rattle.reading_laws.proofs.Single.{three-single}
 use Rattle.writer.specs.Fields.{valueLines, fieldsText}
 use Rattle.roundtrip_laws.specs.Domain.{InDomain}
 use Rattle.roundtrip_laws.proofs.Theorems as three
