@@ -8,7 +8,7 @@ use lib.ListN.{replicate}
 use Rattle.chars.specs.Pick.{pick}
 use Rattle.refusals.specs.declared.Kind.{Kind}
 use Rattle.refusals.specs.declared.Kind.the-variants.{NoRoom, BadPeriod, DuplicateEntry, ChronologyFull, UnknownEntry, BadChronology}
-use Rattle.refusals.specs.Refusal.{fileSpan}
+use Rattle.refusals.specs.Refusal.{fileSpan, refusal}
 use Rattle.days.specs.Covered.{period}
 use Rattle.chronology.specs.declared.Answer.{Answer}
 use Rattle.chronology.specs.declared.Answer.the-variants.{Entries, Refused}
@@ -35,10 +35,10 @@ kept n fs ls ds = store n (days fs) (days ls) (numbers ds)
 
 -- what is answered: no refusal here names a place
 abbrev pub no : Kind → Answer
-no k = Refused (record { kind = k; place = fileSpan 0 0 })
+no k = Refused (refusal k (fileSpan 0 0))
 
 abbrev pub unsaid : Kind → Reply
-unsaid k = Untold (record { kind = k; place = fileSpan 0 0 })
+unsaid k = Untold (refusal k (fileSpan 0 0))
 
 -- three adds from an empty start, the latest first
 pub three : Store
