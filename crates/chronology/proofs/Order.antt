@@ -13,6 +13,7 @@ use Rattle.chars.specs.Pick.{pick}
 use Rattle.dates.proofs.Less.{lt-trans, lt-same, irrefl}
 use Rattle.chronology.specs.declared.Entry.{Entry}
 use Rattle.chronology.specs.Entries.{sooner, precedes, goodDays, idsOf, among, has, beforeNext, keptFirst, wellKept, insert, without}
+use Rattle.chronology.specs.Order.{Before, by-first, by-last, by-id}
 use Rattle.chronology.proofs.Tests.{both}
 
 -- one day before another, or the same day
@@ -54,13 +55,7 @@ sooner-tie : (a b : ℤ) (o : Bool) → a ≡ b → sooner a b o ≡ o
 unfolding sooner pick
 sooner-tie a b o e = rw (e, irrefl b)
 
--- one entry stands before another: by its first day, its last day or its identifier
-pub data Before (a b : Entry) : Type 0 where
-  by-first : ltZ (a .first) (b .first) ≡ true → Before a b
-  by-last : a .first ≡ b .first → ltZ (a .last) (b .last) ≡ true → Before a b
-  by-id : a .first ≡ b .first → a .last ≡ b .last → a .id < b .id → Before a b
-
--- this is what the test says
+-- an entry stands before another where the test says so
 pub before-yes : (a b : Entry) → precedes a b ≡ true → Before a b
 unfolding precedes
 before-yes a b t = go (sooner-yes (a .first) (b .first) _ t)

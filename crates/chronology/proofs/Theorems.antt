@@ -21,9 +21,12 @@ use Rattle.chronology.specs.Calls.{refused, accepted, countAnswer, addAn
 use Rattle.chronology.specs.Asked.{anyTouches, entriesRead, reply}
 use Rattle.chronology.specs.declared.Reply.the-variants.{Told as told-it}
 use Rattle.chronology.specs.History.{Call, adds, removes, counts, lists, asks, accepts, afterCall, afterCalls, told, history, Empty, sorted, idTimes}
+use Rattle.chronology.specs.Order.{Before, AllBefore, InOrder}
+use Rattle.chronology.specs.Order.AllBefore.{last, next}
+use Rattle.chronology.specs.Order.InOrder.{empty, first}
 use Rattle.chronology.proofs.Columns.{Room, contents-length}
 use Rattle.chronology.proofs.Answers.{sound-room, sound-well, sound-kept, place-below, add-says, remove-says, add-done, list-done}
-use Rattle.chronology.proofs.Order.{Before, before-yes, before-then, Kept, kept, has-here, has-on, has-none, has-insert, has-without, insert-keeps, without-keeps, without-here, without-on, without-insert, without-other, insert-length}
+use Rattle.chronology.proofs.Order.{before-yes, before-then, Kept, kept, has-here, has-on, has-none, has-insert, has-without, insert-keeps, without-keeps, without-here, without-on, without-insert, without-other, insert-length}
 use Rattle.chronology.proofs.Contents.{more-room, contents-more, less-room, contents-less}
 
 -- a lent store whose entries are well kept is a chronology
@@ -305,14 +308,6 @@ module _ (h : List Call) (s : Store) (e : Empty s) where
   asked-by-history p g = rw (always-sound h s e, g, always-told h s e)
 
 -- what a chronology holds is in order: each entry stands before all behind it
-pub data AllBefore (e : Entry) : List Entry → Type 0 where
-  last : AllBefore e []
-  next : {x : Entry} {l : List Entry} → Before e x → AllBefore e l → AllBefore e (x ∷ l)
-
-pub data InOrder : List Entry → Type 0 where
-  empty : InOrder []
-  first : {e : Entry} {l : List Entry} → AllBefore e l → InOrder l → InOrder (e ∷ l)
-
 all-before : (e : Entry) (l : List Entry) → beforeNext e l ≡ true → InOrder l → AllBefore e l
 unfolding beforeNext
 all-before e [] t o = last

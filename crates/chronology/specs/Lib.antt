@@ -4,3 +4,4 @@ pub mod Calls
 pub mod Asked
 pub mod History
 pub mod Inside
+pub mod Order

@@ -53,3 +53,7 @@ lastEnd e (c ∷ cs) = lastEnd (c .end) cs
 unfoldable pub spanOf : List Chunk → FileSpan
 spanOf [] = fileSpan 0 0
 spanOf (c ∷ cs) = fileSpan (c .start) (lastEnd (c .end) cs)
+
+-- the table of one Normal chunk with all of the bytes, from any place to any place of a file
+abbrev pub oneChunk : List ℕ → ℕ → ℕ → List ℕ
+oneChunk b start end = 0 ∷ length b ∷ start ∷ end ∷ []

@@ -25,7 +25,7 @@ use Rattle.numbers.specs.declared.ParsedNumber.the-variants.{Value, NoValue}
 use Rattle.numbers.specs.Parse.{wholeValue, digitsFrom, parse}
 use Rattle.numbers.proofs.Reading.{front-ate, hyphen-hyphen}
 use Rattle.refusals.specs.declared.FileSpan.{FileSpan}
-use Rattle.chunks.specs.Chunks.{chunksOf, lengths, spanOf}
+use Rattle.chunks.specs.Chunks.{chunksOf, lengths, spanOf, oneChunk}
 use Rattle.chunks.specs.Format.{formatted, isBreak}
 use Rattle.chars.specs.Classes.{isWhitespace}
 use Rattle.chunks.specs.Plain.{allAscii, plainByte, plainOut, plainText}
@@ -188,10 +188,6 @@ as-shown white [] p = refl
 as-shown white (c ∷ u) p =
     rw (ne-eqb c 0x0A (λ (e : c ≡ 0x0A). omega (arith, p .0 .0)), ne-eqb c 0x0D (λ (e : c ≡ 0x0D). omega (arith, p .0 .0)))
     (ap (λ (l : List ℕ). c ∷ l) (as-shown (isWhitespace c) u (p .1)))
-
--- the table of one Normal chunk with a span in the file
-abbrev pub oneChunk : List ℕ → ℕ → ℕ → List ℕ
-oneChunk u start end = 0 ∷ length u ∷ start ∷ end ∷ []
 
 module _ (a b : ℕ) (ha : a < 4294967296) (hb : b < 4294967296) where
   abbrev s : List ℕ

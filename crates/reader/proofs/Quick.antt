@@ -24,6 +24,7 @@ use Rattle.dates.specs.Value.{date, fromDatetime}
 use Rattle.dates.proofs.Lengths.{length-most}
 use Rattle.refusals.specs.declared.ReadDate.{ReadDate}
 use Rattle.refusals.specs.declared.ReadDate.the-variants.{Accepted}
+use Rattle.chunks.specs.Chunks.{oneChunk}
 use Rattle.reading_laws.specs.Field.{parsed, parsedStrict}
 use Rattle.writer.specs.Texts.{dayParts, monthParts, partsOf, tooLarge, endPanics, valuePanics, panics, datetimeText, valueText, dateText}
 use Rattle.puts.specs.Marks.{markText}
@@ -31,7 +32,7 @@ use Rattle.quick.specs.declared.UsualText.the-variants.{One, Two}
 use Rattle.quick.specs.Quick.{usualText}
 use Rattle.quick.specs.Said.{Said, SaidTwo, Saying}
 use Rattle.quick.proofs.Laws.{saying}
-use Rattle.roundtrip_laws.specs.Domain.{InDomain, oneChunk}
+use Rattle.roundtrip_laws.specs.Domain.{InDomain}
 use Rattle.roundtrip_laws.proofs.Derived.{canonical-is}
 use Rattle.roundtrip_laws.proofs.Theorems.{date-back, strict-back}
 use Rattle.reader.specs.Once.{oneNormal}

@@ -12,6 +12,7 @@ use lib.IntN.{ℤ, pos, negsuc, natAbs}
 use lib.ListN.{length, length-append}
 use Rattle.chars.specs.Pick.{pick}
 use Rattle.chars.specs.Ascii.{ascii}
+use Rattle.chunks.specs.Chunks.{oneChunk}
 use Rattle.chunks.proofs.Plains.{Plainly, plainly}
 use Rattle.dates.specs.declared.OptionTime.the-variants.{NoTime}
 use Rattle.dates.specs.declared.OptionSeason.{OptionSeason}
@@ -39,7 +40,7 @@ use Rattle.puts.specs.Marks.{markText}
 use Rattle.writer.specs.Level.{longSign, behindText, levelEnd, levelValue, levelText, levelEndPanics, levelValuePanics, levelPanics}
 use Rattle.puts.proofs.Counts.{one-more, no-digits, few, padded, unpadded}
 use Rattle.dates.specs.Ends.{EachEnd}
-use Rattle.roundtrip_laws.specs.Domain.{Untimed, oneChunk}
+use Rattle.roundtrip_laws.specs.Domain.{Untimed}
 use Rattle.roundtrip_laws.specs.Level.{LevelIn, of-calendar, of-season, of-long-year, InLevel, Given, on-calendar, in-season, long-year}
 use Rattle.roundtrip_laws.proofs.Bytes.{InPoint, PointText, ValueText, Clear, Each, each-append, point-digit, minus-in, alone-text, between-text, after-text, before-text, clear-text, clear-ascii}
 use Rattle.roundtrip_laws.proofs.Bytes.Each.{none, more}

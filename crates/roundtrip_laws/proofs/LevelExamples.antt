@@ -25,6 +25,7 @@ use Rattle.chars.specs.Classes as charsClasses
 use Rattle.chars.specs.Pick as charsPick
 use Rattle.chars.specs.Utf8 as charsUtf8
 use Rattle.refusals.specs.Refusal as refusalsRefusal
+use Rattle.chunks.specs.Chunks.{oneChunk}
 use Rattle.chunks.specs.Characters as chunksCharacters
 use Rattle.chunks.specs.Check as chunksCheck
 use Rattle.chunks.specs.Chunks as chunksChunks
@@ -40,7 +41,6 @@ use Rattle.puts.specs.Numbers as writerNumbers
 use Rattle.writer.specs.Texts as writerTexts
 use Rattle.puts.specs.Marks.{markText}
 use Rattle.writer.specs.Level as writerLevel
-use Rattle.roundtrip_laws.specs.Domain.{oneChunk}
 
 -- a text, as the reader of level one reads it
 abbrev reads : String → ReadDate

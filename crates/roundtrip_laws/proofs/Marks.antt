@@ -7,7 +7,7 @@ use native.Mathlib.Omega.{arith}
 use lib.ListN.{length, length-append}
 use Rattle.refusals.specs.declared.FileSpan.{FileSpan}
 use Rattle.refusals.specs.Refusal.{fileSpan}
-use Rattle.chunks.specs.Chunks.{chunksOf, lastEnd, spanOf}
+use Rattle.chunks.specs.Chunks.{chunksOf, lastEnd, spanOf, oneChunk}
 use Rattle.chunks.specs.Answer.{textOf}
 use Rattle.chunks.proofs.Plains.{Plainly, plainly}
 use Rattle.dates.specs.declared.Date.{Date}
@@ -17,7 +17,6 @@ use Rattle.reading_laws.proofs.Entries.{parsed-clean}
 use Rattle.strict.specs.Grammar.{Mark}
 use Rattle.writer.specs.Texts.{valueText, dateText}
 use Rattle.puts.specs.Marks.{markText}
-use Rattle.roundtrip_laws.specs.Domain.{oneChunk}
 use Rattle.roundtrip_laws.proofs.Bytes.{Clear, ValueText, clear-text, clear-ascii}
 use Rattle.roundtrip_laws.proofs.Trims.{mark-short, text-clear, text-marked}
 use Rattle.roundtrip_laws.proofs.Derived.{mark-derived}

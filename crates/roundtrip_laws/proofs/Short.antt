@@ -20,10 +20,11 @@ use Rattle.dates.proofs.Months.{some-day}
 use Rattle.points.proofs.Back.{written, point-past}
 use Rattle.datefield.specs.declared.ReadValue.the-variants.{NoValue}
 use Rattle.refusals.specs.declared.ReadDate.the-variants.{Refused}
+use Rattle.chunks.specs.Chunks.{oneChunk}
 use Rattle.datefield.specs.Value.{value, marked}
 use Rattle.reading_laws.specs.Field.{parsed}
 use Rattle.writer.specs.Texts.{valueText, dateText}
-use Rattle.roundtrip_laws.specs.Domain.{InDomain, ShortMonthRange, days-xx, oneChunk}
+use Rattle.roundtrip_laws.specs.Domain.{InDomain, ShortMonthRange, days-xx}
 use Rattle.roundtrip_laws.proofs.Bytes.{ValueText, between-text}
 use Rattle.roundtrip_laws.proofs.Texts.{text-short, written-text}
 use Rattle.roundtrip_laws.proofs.Whole.{second-refused}

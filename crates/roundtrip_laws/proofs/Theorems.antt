@@ -8,6 +8,7 @@ use Prim.Native.Char.{code}
 use Rattle.refusals.specs.declared.Kind.the-variants.{DayOutOfRange}
 use Rattle.refusals.specs.Refusal.{fileSpan, refusal}
 use Rattle.refusals.specs.Offset.{textRefusal, offsetSecond}
+use Rattle.chunks.specs.Chunks.{oneChunk}
 use Rattle.chunks.specs.declared.Checked.the-variants.{Clean}
 use Rattle.chunks.specs.Check.{checked}
 use Rattle.chunks.specs.Format.{formatted}
@@ -24,7 +25,7 @@ use Rattle.reading_laws.specs.Field.{parsed, strictly, parsedStrict}
 use Rattle.reading_laws.proofs.Entries.{strict-clean}
 use Rattle.writer.specs.Texts.{dateText}
 use Rattle.writer.specs.Fields.{endLines}
-use Rattle.roundtrip_laws.specs.Domain.{InDomain, Untimed, ShortMonthRange, ShortText, oneChunk, daysUpto}
+use Rattle.roundtrip_laws.specs.Domain.{InDomain, Untimed, ShortMonthRange, ShortText, daysUpto}
 use Rattle.roundtrip_laws.specs.Days.{DaysText}
 use Rattle.roundtrip_laws.specs.Fields.{linesOf, readBack}
 use Rattle.roundtrip_laws.specs.Letters.{NoByte, NoT, NoX}

@@ -8,6 +8,7 @@ use native.Mathlib.Omega.{arith}
 use borrow.Author.Tests.{ne-eqb}
 use lib.IntN.{ℤ, natAbs}
 use Rattle.chars.specs.Pick.{pick}
+use Rattle.chunks.specs.Chunks.{oneChunk}
 use Rattle.chunks.specs.declared.Checked.the-variants.{Clean}
 use Rattle.chunks.specs.Check.{checked, orElse}
 use Rattle.chunks.specs.Format.{formatted}
@@ -30,7 +31,6 @@ use Rattle.writer.specs.Fields.{partLines, endLines}
 use Rattle.dates.specs.Domain.{PartsIn, EndIn}
 use Rattle.dates.proofs.Lengths.{length-most}
 use Rattle.dates.proofs.Whole.{three-parts}
-use Rattle.roundtrip_laws.specs.Domain.{oneChunk}
 use Rattle.roundtrip_laws.specs.Fields.{hasMonth, hasDay, monthValue, dayValue, lineIf, linesOf, readBack}
 use Rattle.roundtrip_laws.proofs.Bytes.{Piece, bytes-piece, point-clear, clear-text, clear-ascii}
 use Rattle.roundtrip_laws.proofs.Texts.{decimal-is, year-is, year-piece}

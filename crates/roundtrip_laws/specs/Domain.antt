@@ -1,12 +1,11 @@
--- The Dates whose written text is read back, those that are read and not so, and how a text is lent for that.
+-- The Dates whose written text is read back, and those that are read and not so.
 use Prim.Native.Nat.{ℕ, _-_, _<_}
 use Prim.Native.Char.{code}
 use mathlib.Core.Path.{_≡_}
 use mathlib.Core.Bool.{Bool}
-use mathlib.Core.List.{List, [], _∷_, _++_}
+use mathlib.Core.List.{List, _++_}
 use mathlib.Core.Logic.{_⊎_}
 use lib.IntN.{pos}
-use lib.ListN.{length}
 use Rattle.dates.specs.declared.OptionTime.the-variants.{NoTime}
 use Rattle.dates.specs.declared.DateValue.{DateValue}
 use Rattle.dates.specs.declared.DateValue.the-variants.{At, After, Before, Between}
@@ -25,10 +24,6 @@ InDomain (At a) = EndIn a
 InDomain (After a) = EndIn a
 InDomain (Before a) = EndIn a
 InDomain (Between a b) = EndIn a × EndIn b
-
--- the table of one Normal chunk with all of the bytes, from any place to any place of a file
-abbrev pub oneChunk : List ℕ → ℕ → ℕ → List ℕ
-oneChunk b start end = 0 ∷ length b ∷ start ∷ end ∷ []
 
 -- no end of a Date has a time
 abbrev pub Untimed : DateValue → Type 0

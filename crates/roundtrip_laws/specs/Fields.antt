@@ -11,9 +11,9 @@ use Rattle.refusals.specs.declared.ReadDate.{ReadDate}
 use Rattle.reading_laws.specs.Lent.{Three, lent, optional, three}
 use Rattle.reading_laws.specs.Fields.{threeFields}
 use Rattle.chars.specs.Ascii.{ascii}
+use Rattle.chunks.specs.Chunks.{oneChunk}
 use Rattle.writer.specs.Texts.{yearText, partText}
 use Rattle.writer.specs.Fields.{line}
-use Rattle.roundtrip_laws.specs.Domain.{oneChunk}
 
 -- whether there is a month field
 abbrev pub hasMonth : OptionMonth → Bool

@@ -12,11 +12,11 @@ use Rattle.dates.specs.Value.{fromDatetime}
 use Rattle.puts.specs.declared.Measured.the-variants.{Length}
 use Rattle.puts.specs.declared.Written.the-variants.{Done}
 use Rattle.refusals.specs.declared.ReadDate.the-variants.{Accepted}
+use Rattle.chunks.specs.Chunks.{oneChunk}
 use Rattle.reading_laws.specs.Field.{parsed, parsedStrict}
 use Rattle.writer.specs.Texts.{dateText}
 use Rattle.writer.specs.Fields.{fieldsText}
 use Rattle.writer.specs.Answers.{dateMeasured, dateAnswer, dateAfterwards}
-use Rattle.roundtrip_laws.specs.Domain.{oneChunk}
 use Rattle.roundtrip_laws.specs.Fields.{linesOf, readBack}
 
 -- both readers read bytes, as one Normal chunk anywhere in a file, as a Date

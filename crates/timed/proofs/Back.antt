@@ -8,7 +8,7 @@ use native.Mathlib.Omega.{arith}
 use lib.ListN.{length, length-append}
 use Rattle.refusals.specs.declared.FileSpan.{FileSpan}
 use Rattle.refusals.specs.Refusal.{fileSpan}
-use Rattle.chunks.specs.Chunks.{chunksOf, lastEnd, spanOf}
+use Rattle.chunks.specs.Chunks.{chunksOf, lastEnd, spanOf, oneChunk}
 use Rattle.chunks.specs.Answer.{textOf}
 use Rattle.chunks.proofs.Plains.{Plainly, plainly}
 use Rattle.dates.specs.declared.DateValue.{DateValue}
@@ -21,7 +21,6 @@ use Rattle.reading_laws.specs.Field.{parsed, strictly, parsedStrict}
 use Rattle.reading_laws.proofs.Entries.{parsed-clean, strict-clean}
 use Rattle.strict.specs.Grammar.{Mark}
 use Rattle.strict.proofs.Exact.{exact}
-use Rattle.roundtrip_laws.specs.Domain.{oneChunk}
 use Rattle.roundtrip_laws.proofs.Bytes.{Clear, ValueText, alone-text, between-text, after-text, before-text, clear-text, clear-ascii}
 use Rattle.roundtrip_laws.proofs.Points.{point-read, point-text}
 use Rattle.roundtrip_laws.proofs.Values.{alone-value, between-value, after-value, before-value}

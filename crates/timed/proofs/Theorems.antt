@@ -33,7 +33,7 @@ use Rattle.dates.proofs.Lengths.{length-most}
 use Rattle.dates.proofs.Ends.{no-end}
 use Rattle.refusals.specs.declared.ReadDate.the-variants.{Accepted}
 use Rattle.reading_laws.specs.Field.{parsed, parsedStrict}
-use Rattle.roundtrip_laws.specs.Domain.{Untimed, oneChunk}
+use Rattle.roundtrip_laws.specs.Domain.{Untimed}
 use Rattle.puts.specs.declared.Measured.{Measured}
 use Rattle.puts.specs.declared.Measured.the-variants.{Length, NoLength}
 use Rattle.puts.specs.declared.Written.{Written}
@@ -49,6 +49,7 @@ use Rattle.writer.specs.Sizes.{Ends, Stored}
 use Rattle.writer.proofs.Bounds.{text-most}
 use Rattle.timed.specs.Texts.{field, sign, offsetText, zoneText, clockText, timeText, endText, valueText, timedText}
 use Rattle.dates.specs.Clocks.{offsetIn, zoneIn, clockIn, dayBesideMonth, badTime, hasBadTime}
+use Rattle.chunks.specs.Chunks.{oneChunk}
 use Rattle.timed.specs.Answers.{valueBad, plainMeasured, timedMeasured, timedAnswer, timedAfterwards, shown}
 use Rattle.timed.specs.Faults.{Fault, no-month, no-day, hour-above, minute-above, second-above, offset-hours, offset-minutes, EndFault, FaultIn}
 use Rattle.timed.specs.Domain.{ZoneIn, ClockIn, TimeIn, TimedIn, InTimed}
