@@ -5,3 +5,4 @@ pub mod Format
 pub mod Upper
 pub mod Plain
 pub mod Answer
+pub mod Lent

@@ -16,7 +16,7 @@ use Rattle.hexes.specs.Hex.{isHex, bytesOf, half, decoded, decodedInto}
 use Rattle.hexes.proofs.Laws.{length-bytes}
 use Rattle.puts.specs.Answers.{Put}
 use Rattle.puts.proofs.Puts.{kept, both, at-front}
-use Rattle.reading_laws.specs.Lent.{lent, optional, three}
+use Rattle.chunks.specs.Lent.{lent, optional, three}
 use Rattle.reading_laws.specs.Fields.{threeFields}
 use Rattle.refusals.specs.declared.ReadDate.{ReadDate}
 use Rattle.answers.specs.Answer.{answerLine}

@@ -11,7 +11,7 @@ use Rattle.refusals.specs.declared.ReadDate.{ReadDate}
 use Rattle.refusals.specs.declared.ReadDate.the-variants.{Refused}
 use Rattle.hexes.specs.Hex.{isHex, bytesOf}
 use Rattle.reading_laws.specs.Field.{parsed, parsedStrict, parsedLevelOne}
-use Rattle.reading_laws.specs.Lent.{Optional, lent, optional, three}
+use Rattle.chunks.specs.Lent.{Optional, lent, optional, three}
 use Rattle.reading_laws.specs.Fields.{threeFields}
 use Rattle.answers.specs.Answer.{answerLine, levelLine}
 use Rattle.frames.specs.declared.Operation.{Operation}

@@ -8,7 +8,7 @@ use lib.ListN.{length, take, drop}
 use Rattle.chars.specs.Pick.{pick}
 use Rattle.refusals.specs.declared.ReadDate.{ReadDate}
 use Rattle.reading_laws.specs.Field.{parsed, parsedStrict, parsedLevelOne}
-use Rattle.reading_laws.specs.Lent.{lent, optional, three}
+use Rattle.chunks.specs.Lent.{lent, optional, three}
 use Rattle.reading_laws.specs.Fields.{threeFields}
 use Rattle.frames.specs.declared.Unpacked.{Unpacked}
 use Rattle.frames.specs.declared.Operation.{Operation}

@@ -68,9 +68,13 @@ compared a b = both (instantOf a) (instantOf b)
 
 -- what has an instant, and that x is it
 pub record Told (a : Datetime) (x : ℤ) : Type 0 where
+  -- the days that it covers
   pub p : Period
+  -- its day
   pub d : Day
+  -- its time
   pub t : Time
+  -- the offset of that
   pub o : TimeOffset
   -- its days are counted: it has no season and is a date of the calendar
   pub days-are : covered a ≡ Days p

@@ -6,7 +6,7 @@ ghost use mathlib.Core.Bool.{false};
 ghost use Prim.Native.Nat.{_<_};
 ghost use lib.ListN.{length};
 ghost use Rattle.reading_laws.specs.Field.{parsed, parsedStrict, parsedLevelOne};
-ghost use Rattle.reading_laws.specs.Lent.{lent, optional, three};
+ghost use Rattle.chunks.specs.Lent.{lent, optional, three};
 ghost use Rattle.reading_laws.specs.Fields.{threeFields};
 ghost use Rattle.order.specs.Order.{partialCmp};
 ghost use Rattle.writer.specs.Texts.{dateText};

@@ -1,5 +1,5 @@
 // The fields of a start and of an end.
-ghost use Rattle.reading_laws.specs.Lent.{lent, optional, three};
+ghost use Rattle.chunks.specs.Lent.{lent, optional, three};
 ghost use Rattle.sixfields.specs.Six.{sixFields};
 ghost use Rattle.knobstream.specs.Plain as plain;
 ghost use Rattle.knobstream.specs.Layout.{Answered};

@@ -44,10 +44,15 @@ pub data Over (s : List ℕ) (at : ℕ) : Type 0 where
 
 -- a character that is no white space stands at a place, and ends at another
 pub record Solid (s : List ℕ) (at next : ℕ) : Type 0 where
+  -- its code
   pub code : ℕ
+  -- how many bytes it has
   pub len : ℕ
+  -- it stands there
   pub stands : decodeAt s at ≡ Char code len
+  -- it is no white space
   pub solid : inClass Whitespace code ≡ false
+  -- the other place is behind it
   pub ends : at + len ≡ next
 
 -- what is left of a text from place a to place e has no character, or it begins and ends in one that is no white space
@@ -58,11 +63,19 @@ pub data Ended (s : List ℕ) (a e : ℕ) : Type 0 where
 -- t is the text s without the white space at its ends: the part from one place to another, between white space alone, with no white
 -- space at its ends. Behind the last white space no character is left
 pub record Trimmed (s t : List ℕ) : Type 0 where
+  -- where the part starts
   pub start : ℕ
+  -- where it ends
   pub end : ℕ
+  -- where the white space behind it ends
   pub rest : ℕ
+  -- the part is what is left
   pub left : t ≡ part s start end
+  -- before it stands white space alone
   pub before : AllOf Whitespace s 0 start
+  -- and behind it
   pub behind : AllOf Whitespace s end rest
+  -- there no character is left
   pub over : Over s rest
+  -- it begins and ends in no white space
   pub ends : Ended s start end

@@ -17,7 +17,8 @@ use Rattle.pages.specs.declared.ReadRange.{ReadRange}
 use Rattle.pages.specs.declared.ReadRange.the-variants.{Range, NoRange}
 use Rattle.pages.specs.declared.Answer.{Answer}
 use Rattle.pages.specs.declared.Answer.the-variants.{Ranges, Refused}
-use Rattle.pages.specs.Pieces.{total, addsUp, sizeOf, Lent, firstOf, piecesOf, pieceAt, said, isRange, onRange, judged, numbersOf, put, Fits, pagesAnswer, tableAfter, pagesAfterwards}
+use Rattle.chunks.specs.Lent.{Lent}
+use Rattle.pages.specs.Pieces.{total, addsUp, sizeOf, firstOf, piecesOf, pieceAt, said, isRange, onRange, judged, numbersOf, put, Fits, pagesAnswer, tableAfter, pagesAfterwards}
 use Rattle.pages.proofs.Sums.{split}
 use Rattle.pages.proofs.Answers.{isRanges, fitting, by-pieces}
 

@@ -10,6 +10,7 @@ use Rattle.chars.specs.Pick.{pick}
 use Rattle.refusals.specs.declared.Kind.{Kind}
 use Rattle.refusals.specs.declared.Kind.the-variants.{TooLong, BadChunks, NoRoom}
 use Rattle.refusals.specs.Refusal.{nowhere}
+use Rattle.chunks.specs.Lent.{Lent}
 use Rattle.chunks.specs.Chunks.{chunksOf, lengths}
 use Rattle.pages.specs.declared.ReadRange.{ReadRange}
 use Rattle.pages.specs.declared.ReadRange.the-variants.{Range, NoRange}
@@ -30,11 +31,6 @@ addsUp b table counts = eqb (4 * total counts) (length table) && eqb (lengths (c
 -- how many bytes the first n chunks have
 unfoldable pub sizeOf : ℕ → List ℕ → ℕ
 sizeOf n table = lengths (chunksOf (take (4 * n) table))
-
--- a piece: its bytes, and its numbers of the table
-pub record Lent : Type 0 where
-  pub bytes : List ℕ
-  pub table : List ℕ
 
 -- the piece of the first n chunks
 unfoldable pub firstOf : ℕ → List ℕ → List ℕ → Lent

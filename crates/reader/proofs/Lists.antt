@@ -11,7 +11,7 @@ use Rattle.chunks.specs.Format.{formatted}
 use Rattle.chunks.specs.Answer.{textOf}
 use Rattle.chunks.proofs.Answers.{plain-as-is}
 use Rattle.chunks.proofs.Proper.{else-clean}
-use Rattle.reading_laws.specs.Lent.{Three, checkOf}
+use Rattle.chunks.specs.Lent.{Three, checkOf}
 use Rattle.reading_laws.specs.Fields.{partsChecked, fieldsChecked}
 use Rattle.reader.specs.Readable.{Readable, Small}
 use Rattle.chunks.proofs.Buffers.{large-room, small-room}

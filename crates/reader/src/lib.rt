@@ -17,7 +17,7 @@ ghost use Rattle.dates.specs.declared.DateValue.the-variants.{Between};
 ghost use Rattle.fields.specs.Month.{monthField};
 ghost use Rattle.fields.specs.Day.{dayField};
 ghost use Rattle.reading_laws.specs.Field as field;
-ghost use Rattle.reading_laws.specs.Lent.{lent, optional, three};
+ghost use Rattle.chunks.specs.Lent.{lent, optional, three};
 ghost use Rattle.reading_laws.specs.Fields as fieldset;
 ghost use Rattle.reader.specs.Once as once;
 ghost use Rattle.reader.specs.Readable.{Readable, Small};

@@ -21,7 +21,7 @@ use Rattle.refusals.specs.declared.ReadDate.{ReadDate}
 use Rattle.refusals.specs.declared.ReadDate.the-variants.{Accepted, Refused}
 use Rattle.refusals.specs.Refusal.{fileSpan}
 use Rattle.reading_laws.specs.Field.{parsed}
-use Rattle.reading_laws.specs.Lent.{Lent, lent, optional, absent, three}
+use Rattle.chunks.specs.Lent.{Lent, lent, optional, absent, three}
 use Rattle.reading_laws.specs.Fields.{threeFields}
 use Rattle.chars.specs.Ascii as charsAscii
 use Rattle.chars.specs.Classes as charsClasses

@@ -11,7 +11,7 @@ use Rattle.reading_laws.specs.declared.FieldYear.the-variants.{YearIs, N
 use Rattle.reading_laws.specs.declared.Parts.{Parts}
 use Rattle.reading_laws.specs.declared.Parts.the-variants.{PartsAre, NoParts}
 use Rattle.reading_laws.specs.Field.{onClean}
-use Rattle.reading_laws.specs.Lent.{Three}
+use Rattle.chunks.specs.Lent.{Three}
 use Rattle.reading_laws.specs.Fields.{partsOf, dated, onYear, readFields, threeFields}
 use Rattle.reading_laws.specs.Single.{Single, one, none}
 

@@ -23,7 +23,7 @@ use Rattle.refusals.specs.declared.ReadDate.the-variants.{Accepted, Refused}
 use Rattle.reading_laws.specs.declared.Parts.{Parts}
 use Rattle.reading_laws.specs.declared.Parts.the-variants.{PartsAre, NoParts}
 use Rattle.reading_laws.specs.Field.{onClean}
-use Rattle.reading_laws.specs.Lent.{Optional, Three, textOf, placeOf}
+use Rattle.chunks.specs.Lent.{Optional, Three, textOf, placeOf}
 use Rattle.reading_laws.specs.Fields.{movedYear, yearOf, onMonth, insideDay, monthText, monthAlone, fieldDay, monthAndDay, partsOf, dated, onYear, readFields, threeFields}
 
 -- a month and a day, each absent or so small

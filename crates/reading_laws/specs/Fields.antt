@@ -31,7 +31,7 @@ use Rattle.reading_laws.specs.declared.FieldYear.the-variants.{YearIs, N
 use Rattle.reading_laws.specs.declared.Parts.{Parts}
 use Rattle.reading_laws.specs.declared.Parts.the-variants.{PartsAre, NoParts}
 use Rattle.reading_laws.specs.Field.{onClean}
-use Rattle.reading_laws.specs.Lent.{Lent, Optional, Three, checkOf, textOf, placeOf}
+use Rattle.chunks.specs.Lent.{Lent, Optional, Three, checkOf, textOf, placeOf}
 
 -- each list present is checked in full, year, month, day, before any is read; a day list without a month list is never looked at
 unfoldable pub partsChecked : Lent → Optional → Checked

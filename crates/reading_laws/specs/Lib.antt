@@ -1,4 +1,3 @@
 pub mod Field
-pub mod Lent
 pub mod Fields
 pub mod Single

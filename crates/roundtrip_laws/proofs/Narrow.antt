@@ -23,7 +23,7 @@ use Rattle.fields.proofs.Named.{MonthBelow}
 use Rattle.fields.proofs.Ranges.{DayBelow}
 use Rattle.refusals.specs.declared.ReadDate.the-variants.{Accepted}
 use Rattle.reading_laws.specs.Field.{parsed, parsedStrict, parsedLevelOne}
-use Rattle.reading_laws.specs.Lent.{Three}
+use Rattle.chunks.specs.Lent.{Three}
 use Rattle.reading_laws.specs.Fields.{threeFields}
 use Rattle.reading_laws.proofs.Stored.{FieldsIn, fields, three-in}
 use Rattle.writer.specs.Level.{levelText}

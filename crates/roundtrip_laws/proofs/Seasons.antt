@@ -12,7 +12,7 @@ use Rattle.dates.specs.Value.{isSeason, hasSeason, anySeason}
 use Rattle.points.specs.Accepted.{Dated}
 use Rattle.refusals.specs.declared.ReadDate.the-variants.{Accepted}
 use Rattle.reading_laws.specs.Field.{parsed, parsedStrict}
-use Rattle.reading_laws.specs.Lent.{Three}
+use Rattle.chunks.specs.Lent.{Three}
 use Rattle.reading_laws.specs.Fields.{threeFields}
 use Rattle.reading_laws.proofs.Stored.{FieldsIn, fields, three-in}
 use Rattle.roundtrip_laws.specs.Domain.{AllDated, ShortMonthRange, days-xx}

@@ -8,7 +8,7 @@ use Rattle.dates.specs.declared.OptionDay.{OptionDay}
 use Rattle.dates.specs.declared.OptionDay.the-variants.{NoDay, SomeDay}
 use Rattle.dates.specs.declared.Datetime.{Datetime}
 use Rattle.refusals.specs.declared.ReadDate.{ReadDate}
-use Rattle.reading_laws.specs.Lent.{Three, lent, optional, three}
+use Rattle.chunks.specs.Lent.{Three, lent, optional, three}
 use Rattle.reading_laws.specs.Fields.{threeFields}
 use Rattle.chars.specs.Ascii.{ascii}
 use Rattle.chunks.specs.Chunks.{oneChunk}

@@ -11,7 +11,7 @@ use Rattle.dates.specs.declared.DateValue.the-variants.{At, After, Before, Betw
 use Rattle.dates.specs.Value.{date, fromDatetime}
 use Rattle.refusals.specs.declared.ReadDate.{ReadDate}
 use Rattle.refusals.specs.declared.ReadDate.the-variants.{Accepted}
-use Rattle.reading_laws.specs.Lent.{Three}
+use Rattle.chunks.specs.Lent.{Three}
 use Rattle.reading_laws.specs.Fields.{threeFields}
 use Rattle.reading_laws.specs.Single.{Single, one, none}
 use Rattle.reading_laws.proofs.Single.{three-single}

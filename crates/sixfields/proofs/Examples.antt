@@ -20,7 +20,7 @@ use Rattle.dates.specs.Value.{datetime, date, month, day}
 use Rattle.refusals.specs.declared.ReadDate.{ReadDate}
 use Rattle.refusals.specs.declared.ReadDate.the-variants.{Accepted, Refused}
 use Rattle.refusals.specs.Refusal.{fileSpan}
-use Rattle.reading_laws.specs.Lent.{Lent, Optional, lent, optional, absent, three}
+use Rattle.chunks.specs.Lent.{Lent, Optional, lent, optional, absent, three}
 use Rattle.sixfields.specs.Six.{sixFields}
 use Rattle.chars.specs.Ascii as charsAscii
 use Rattle.chars.specs.Classes as charsClasses

@@ -27,7 +27,7 @@ use Rattle.refusals.specs.declared.ReadDate.{ReadDate}
 use Rattle.refusals.specs.declared.ReadDate.the-variants.{Accepted, Refused}
 use Rattle.datefield.specs.Text.{isBlank}
 use Rattle.reading_laws.specs.Field.{onClean}
-use Rattle.reading_laws.specs.Lent.{Lent, Three, textOf}
+use Rattle.chunks.specs.Lent.{Lent, Three, textOf}
 use Rattle.reading_laws.specs.Fields.{fieldsChecked, movedYear, yearOf, partsOf, dated, onYear, readFields, threeFields}
 use Rattle.reader.proofs.Lists.{year-checked}
 use Rattle.sixfields.specs.declared.EndYear.the-variants.{Filled}

@@ -10,7 +10,7 @@ use Rattle.chunks.specs.declared.Checked.the-variants.{Clean, Faulty}
 use Rattle.chunks.specs.Check.{checked}
 use Rattle.chunks.specs.Answer.{textOf}
 use Rattle.datefield.specs.Text.{isBlank}
-use Rattle.reading_laws.specs.Lent.{lent}
+use Rattle.chunks.specs.Lent.{lent}
 use Rattle.reader.proofs.Lists.{as-is}
 use Rattle.sixfields.specs.declared.EndYear.the-variants.{Blank, Filled, FaultyYear}
 use Rattle.sixfields.specs.Six.{blank, judged, endYearOf}

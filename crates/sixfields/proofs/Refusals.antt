@@ -16,7 +16,7 @@ use Rattle.dates.specs.declared.Date.{Date}
 use Rattle.refusals.specs.declared.ReadDate.{ReadDate}
 use Rattle.refusals.specs.declared.ReadDate.the-variants.{Accepted, Refused}
 use Rattle.reading_laws.specs.Field.{onClean}
-use Rattle.reading_laws.specs.Lent.{Three, checkOf}
+use Rattle.chunks.specs.Lent.{Three, checkOf}
 use Rattle.reading_laws.specs.Fields.{fieldsChecked, threeFields}
 use Rattle.sixfields.specs.declared.EndYear.the-variants.{Blank, Filled, FaultyYear}
 use Rattle.sixfields.specs.Six.{blank, judged, endYearOf, single, unmarked, onThree, between, onEndYear, withEnd, sixFields}

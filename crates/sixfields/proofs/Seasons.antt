@@ -7,7 +7,7 @@ use Rattle.dates.specs.declared.Date.{Date}
 use Rattle.dates.specs.Value.{hasSeason, anySeason}
 use Rattle.refusals.specs.declared.ReadDate.{ReadDate}
 use Rattle.refusals.specs.declared.ReadDate.the-variants.{Accepted, Refused}
-use Rattle.reading_laws.specs.Lent.{Three}
+use Rattle.chunks.specs.Lent.{Three}
 use Rattle.reading_laws.proofs.Stored.{FieldsIn, fields, no-fields, three-in}
 use Rattle.sixfields.specs.declared.EndYear.{EndYear}
 use Rattle.sixfields.specs.declared.EndYear.the-variants.{Blank, Filled, FaultyYear}

@@ -7,7 +7,7 @@ use Rattle.dates.specs.declared.Datetime.{Datetime}
 use Rattle.dates.specs.declared.DateValue.{DateValue}
 use Rattle.dates.specs.declared.DateValue.the-variants.{At, After, Before, Between}
 use Rattle.refusals.specs.declared.ReadDate.{ReadDate}
-use Rattle.reading_laws.specs.Lent.{Three, lent, absent, three}
+use Rattle.chunks.specs.Lent.{Three, lent, absent, three}
 use Rattle.roundtrip_laws.specs.Fields.{linesOf, valuesOf}
 use Rattle.sixfields.specs.Six.{sixFields}
 

@@ -4,7 +4,7 @@ use mathlib.Core.Bool.{Bool, true}
 use Rattle.refusals.specs.declared.Refusal.{Refusal}
 use Rattle.dates.specs.declared.Date.{Date}
 use Rattle.refusals.specs.declared.ReadDate.the-variants.{Accepted, Refused}
-use Rattle.reading_laws.specs.Lent.{Three}
+use Rattle.chunks.specs.Lent.{Three}
 use Rattle.reading_laws.specs.Fields.{threeFields}
 use Rattle.sixfields.specs.declared.EndYear.the-variants.{Blank}
 use Rattle.sixfields.specs.Six.{endYearOf}

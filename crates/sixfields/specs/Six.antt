@@ -10,7 +10,7 @@ use Rattle.dates.specs.Value.{date}
 use Rattle.refusals.specs.declared.ReadDate.{ReadDate}
 use Rattle.refusals.specs.declared.ReadDate.the-variants.{Accepted, Refused}
 use Rattle.datefield.specs.Text.{isBlank}
-use Rattle.reading_laws.specs.Lent.{Lent, Three, checkOf, textOf}
+use Rattle.chunks.specs.Lent.{Lent, Three, checkOf, textOf}
 use Rattle.reading_laws.specs.Fields.{threeFields}
 use Rattle.sixfields.specs.declared.EndYear.{EndYear}
 use Rattle.sixfields.specs.declared.EndYear.the-variants.{Blank, Filled, FaultyYear}

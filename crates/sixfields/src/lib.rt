@@ -6,7 +6,7 @@ ghost use lib.ListN.{length};
 ghost use Rattle.chunks.specs.Chunks.{isShort};
 ghost use Rattle.chunks.specs.Answer.{roomOf};
 ghost use Rattle.datefield.specs.Text as text;
-ghost use Rattle.reading_laws.specs.Lent.{lent, optional, three};
+ghost use Rattle.chunks.specs.Lent.{lent, optional, three};
 ghost use Rattle.sixfields.specs.Six as six;
 use chunks::Formatted;
 use dates::Date;

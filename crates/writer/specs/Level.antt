@@ -65,8 +65,11 @@ NoText d = (hasSeason d ≡ false) × Unwritten (d .month) (d .day)
 
 -- ends of the same year and season, and without a season of the same month and day
 pub record Alike (d e : Datetime) : Type 0 where
+  -- the same year
   pub years : d .year ≡ e .year
+  -- the same season, or none
   pub seasons : d .season ≡ e .season
+  -- without a season the same month and day
   pub parts : hasSeason d ≡ false → (d .month ≡ e .month) × (d .day ≡ e .day)
 
 -- points, or ranges of one kind, with such ends

@@ -1,7 +1,7 @@
 use mathlib.Core.Path.{_≡_, sym, _∙_}
 use Rattle.chunks.specs.declared.Checked.the-variants.{Clean}
 use Rattle.reading_laws.specs.Field.{onClean}
-use Rattle.reading_laws.specs.Lent.{lent, optional, three}
+use Rattle.chunks.specs.Lent.{lent, optional, three}
 use Rattle.reading_laws.specs.Fields.{fieldsChecked, threeFields}
 use Rattle.reader.proofs.Lists.{day-checked, year-checked, month-checked}
 use borrow.Author.Needs.{needs}

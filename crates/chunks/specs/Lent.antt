@@ -3,25 +3,32 @@ use Prim.Native.Nat.{ℕ}
 use mathlib.Core.Bool.{Bool, false}
 use mathlib.Core.List.{List, []}
 use Rattle.refusals.specs.declared.FileSpan.{FileSpan}
 use Rattle.chunks.specs.declared.Checked.{Checked}
 use Rattle.chunks.specs.Chunks.{chunksOf, spanOf}
 use Rattle.chunks.specs.Check.{checked}
 use Rattle.chunks.specs.Format.{formatted}
 
 -- a chunk list: its bytes, and the table of its chunks
 pub record Lent : Type 0 where
+  -- the text, chunk behind chunk
   pub bytes : List ℕ
+  -- four numbers a chunk
   pub table : List ℕ
 
 -- a list that may be absent; what is lent for an absent one is not looked at
 pub record Optional : Type 0 where
+  -- whether it is there
   pub present : Bool
+  -- what is lent for it
   pub list : Lent
 
 -- the fields year, month and day
 pub record Three : Type 0 where
+  -- the year is always there
   pub year : Lent
+  -- the month may be absent
   pub month : Optional
+  -- and so may the day
   pub day : Optional
 
 -- a list of these bytes and this table
