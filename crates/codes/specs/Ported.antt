@@ -1,7 +1,7 @@
 -- Texts that the ported reader alone reads, or refuses, at once: no year, a year of two digits, X ranges, and days that no month has. Places count
 -- from the text's start.
 use Prim.Native.Char.{code}
-use Prim.Native.Nat.{ℕ, _+_, _*_}
+use Prim.Native.Nat.{ℕ, _+_, _-_, _*_}
 use mathlib.Core.Bool.{Bool, true, false, not, _&&_, _||_}
 use mathlib.Core.List.{List, [], _∷_}
 use lib.Dec.{eqb, ltb, leb}
@@ -14,6 +14,7 @@ use Rattle.dates.specs.declared.OptionDay.the-variants.{NoDay}
 use Rattle.dates.specs.declared.OptionTime.the-variants.{NoTime}
 use Rattle.dates.specs.declared.Datetime.{Datetime}
 use Rattle.dates.specs.declared.DateValue.the-variants.{At, Between}
+use Rattle.dates.specs.Calendar.{monthLength}
 use Rattle.dates.specs.Value.{datetime, date, month, day}
 use Rattle.refusals.specs.declared.Kind.{Kind}
 use Rattle.refusals.specs.declared.Kind.the-variants.{InvalidFormat, MonthOutOfRange, DayOutOfRange}
@@ -77,12 +78,12 @@ daysOf s =
     (range (datetime (pos (yearOf s)) (month (partAt s 4)) (day 0) NoTime) (datetime (pos (yearOf s)) (month (partAt s 4)) (day 30) NoTime)))
     none
 
--- a written month and a written day that are no day of the year: the month is none of twelve, the day none of 31, or not in that month
-unfoldable pub badParts : ℕ → ℕ → ℕ → ReadDate
-badParts at m d =
-    pick (eqb m 0 || ltb 12 m) (refusedAt MonthOutOfRange (at + 5) (at + 7))
-    (pick (eqb d 0 || ltb 31 d) (refusedAt DayOutOfRange (at + 8) (at + 10))
-    (refusedAt DayOutOfRange at (at + 10)))
+-- a written month and a written day that are no day of a year: the month is none of twelve, the day none of 31, or not in that month
+unfoldable pub badParts : ℕ → ℕ → ℕ → ℕ → Option ReadDate
+badParts at y m d =
+    pick (eqb m 0 || ltb 12 m) (some (refusedAt MonthOutOfRange (at + 5) (at + 7)))
+    (pick (eqb d 0 || ltb 31 d) (some (refusedAt DayOutOfRange (at + 8) (at + 10)))
+    (pick (ltb (d - 1) (monthLength (m - 1) (pos y))) none (some (refusedAt DayOutOfRange at (at + 10)))))
 
 -- whether a text has the form dddd-dd-dd
 unfoldable pub isDayForm : List ℕ → Bool
@@ -90,9 +91,9 @@ isDayForm s =
     ltb (yearOf s) 10000
     && (eqb (getD s 4 0) (code "-") && (ltb (twoAt s 5) 100 && (eqb (getD s 7 0) (code "-") && ltb (twoAt s 8) 100)))
 
--- a text of that form which is no point, at a place behind which it begins
+-- a text of that form which is no point, and begins at a place
 unfoldable pub badDay : ℕ → List ℕ → Option ReadDate
-badDay at s = pick (isDayForm s) (some (badParts at (twoAt s 5) (twoAt s 8))) none
+badDay at s = pick (isDayForm s) (badParts at (yearOf s) (twoAt s 5) (twoAt s 8)) none
 
 -- a day that is none, or one that is unknown
 unfoldable pub dayOrDays : List ℕ → Option ReadDate
