@@ -1,3 +1,4 @@
 pub mod Points
 pub mod Typed
 pub mod Texts
+pub mod Written
