@@ -52,14 +52,14 @@ two-digits a b ea eb =
     let k = db .high in
     ap (λ (x : ℕ). x ∷ b ∷ []) (omega arith) ∙ ap (λ (x : ℕ). (48 + ((a - 48) * 10 + (b - 48)) / 10 % 10) ∷ x ∷ []) (omega arith)
 
-two-are : (a b : ℕ) → twoOf a b < 100 → a ∷ b ∷ [] ≡ digits 2 (twoOf a b)
+pub two-are : (a b : ℕ) → twoOf a b < 100 → a ∷ b ∷ [] ≡ digits 2 (twoOf a b)
 unfolding twoOf
 two-are a b =
     by-test (λ (n : ℕ). n < 100 → a ∷ b ∷ [] ≡ digits 2 n) (isAsciiDigit a && isAsciiDigit b)
     (λ t h. two-digits a b (and-true (isAsciiDigit a) _ t .0) (and-true (isAsciiDigit a) _ t .1))
     (λ t h. absurd (omega arith))
 
-cons-same : {a b : ℕ} {s t : List ℕ} → a ≡ b → s ≡ t → a ∷ s ≡ b ∷ t
+pub cons-same : {a b : ℕ} {s t : List ℕ} → a ≡ b → s ≡ t → a ∷ s ≡ b ∷ t
 cons-same e f = rw (e, f)
 
 joined : (h l : ℕ) → h < 100 → l < 100 → digits 2 h ++ digits 2 l ≡ digits 4 (h * 100 + l)
@@ -76,9 +76,9 @@ four-are a b c d =
     (λ t h. absurd (omega arith))
 
 -- a byte and two digits behind it
-record Part (s : List ℕ) (at c n : ℕ) : Type 0 where
-  sign : getD s at 0 ≡ c
-  number : getD s (at + 1) 0 ∷ getD s (at + 2) 0 ∷ [] ≡ digits 2 n
+pub record Part (s : List ℕ) (at c n : ℕ) : Type 0 where
+  pub sign : getD s at 0 ≡ c
+  pub number : getD s (at + 1) 0 ∷ getD s (at + 2) 0 ∷ [] ≡ digits 2 n
 
 counted : {a b : ℕ} (n : ℕ) → (n < 100 → a ∷ b ∷ [] ≡ digits 2 n) → countedFrom n < 99 → a ∷ b ∷ [] ≡ digits 2 (1 + countedFrom n)
 unfolding countedFrom
@@ -125,14 +125,14 @@ from-zero {c} {last} {n} h = subst (λ (k : ℕ). Field c 0 last (c ∷ digits 2
 
 -- the text behind a year, a month and a day
 module _ (s : List ℕ) where
-  ended : (n : ℕ) → length s ≡ n → drop n s ≡ []
+  pub ended : (n : ℕ) → length s ≡ n → drop n s ≡ []
   ended n e = drop-of-length-le s {i = n} (omega arith)
 
-  year-text : 4 ≤ length s → yearOf s < 10000 → s ≡ digits 4 (yearOf s) ++ drop 4 s
+  pub year-text : 4 ≤ length s → yearOf s < 10000 → s ≡ digits 4 (yearOf s) ++ drop 4 s
   unfolding yearOf
   year-text n h = spelled 4 0 s (omega arith) ∙ ap (λ (t : List ℕ). t ++ drop 4 s) (four-are (getD s 0 0) (getD s 1 0) (getD s 2 0) (getD s 3 0) h)
 
-  field-text : (i : ℕ) {c n : ℕ} → 3 + i ≤ length s → Part s i c n → drop i s ≡ (c ∷ digits 2 n) ++ drop (3 + i) s
+  pub field-text : (i : ℕ) {c n : ℕ} → 3 + i ≤ length s → Part s i c n → drop i s ≡ (c ∷ digits 2 n) ++ drop (3 + i) s
   field-text i l p = spelled 3 i s l ∙ ap (λ (t : List ℕ). t ++ drop (3 + i) s) (cons-same (p .sign) (same i ∙ p .number))
     where
       same : (i : ℕ) → bytesAt 2 (suc i) s ≡ getD s (i + 1) 0 ∷ getD s (i + 2) 0 ∷ []
@@ -144,7 +144,7 @@ module _ (s : List ℕ) where
           two-more : (i : ℕ) → suc (i + 1) ≡ i + 2
           two-more i = omega arith
 
-  part-text : (i : ℕ) → 3 + i ≤ length s → partAt s i < 99 → drop i s ≡ partText (partAt s i) ++ drop (3 + i) s
+  pub part-text : (i : ℕ) → 3 + i ≤ length s → partAt s i < 99 → drop i s ≡ partText (partAt s i) ++ drop (3 + i) s
   unfolding partText
   part-text i n h = field-text i n (part-are s i h)
 
@@ -234,7 +234,7 @@ Timing s none = Unit {0}
 
 module _ (s : List ℕ) where
   -- a byte and two digits behind it, of a number below a bound
-  below : (i c last : ℕ) → getD s i 0 ≡ c → twoAt s (i + 1) < last → last ≤ 100 → Part s i c (twoAt s (i + 1))
+  pub below : (i c last : ℕ) → getD s i 0 ≡ c → twoAt s (i + 1) < last → last ≤ 100 → Part s i c (twoAt s (i + 1))
   below i c last e h l =
       record { sign = e; number = ap (λ (k : ℕ). getD s (i + 1) 0 ∷ getD s k 0 ∷ []) (one-more i) ∙ two-are _ _ (omega arith) }
     where
