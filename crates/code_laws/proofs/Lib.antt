@@ -1,0 +1,4 @@
+pub mod Says
+pub mod Spelled
+pub mod Short
+pub mod NoYear
