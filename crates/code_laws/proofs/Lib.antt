@@ -1,4 +1,4 @@
+pub mod Points
 pub mod Says
-pub mod Spelled
 pub mod Short
 pub mod NoYear

@@ -33,8 +33,8 @@ use Rattle.datefield.specs.Value.{moved, onHalf, value}
 use Rattle.roundtrip_laws.proofs.Bytes.{Each, each-bytes, each-of, InPoint, ValueText, point-digit, without-x, without-slash, first-none}
 use Rattle.codes.specs.Points.{twoAt}
 use Rattle.codes.specs.Ported.{shortYear}
+use Rattle.code_laws.proofs.Points.{two-are}
 use Rattle.code_laws.proofs.Says.{Says, Saying, value-says}
-use Rattle.code_laws.proofs.Spelled.{two-are}
 
 -- the year is of its type
 near : (n : ℕ) → n < 100 → mag (windowed (pos n)) < 2147483648
