@@ -2,3 +2,4 @@ pub mod Points
 pub mod Says
 pub mod Short
 pub mod NoYear
+pub mod Unknown
