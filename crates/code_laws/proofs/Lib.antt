@@ -3,3 +3,4 @@ pub mod Says
 pub mod Short
 pub mod NoYear
 pub mod Unknown
+pub mod BadDays

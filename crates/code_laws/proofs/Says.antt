@@ -71,7 +71,7 @@ module _ {s : List ℕ} (k : ValueText s) where
   unmarked-text : (span : FileSpan) → parseText span s ≡ marked false false (value span s)
   unmarked-text span = ap (parseText span) (sym (append-nil s)) ∙ text-marked span k no-mark
 
-  of-text : {r : ReadDate} → ((span : FileSpan) → Early (span .0) → marked false false (value span s) ≡ movedBy (span .0) r)
+  pub of-text : {r : ReadDate} → ((span : FileSpan) → Early (span .0) → marked false false (value span s) ≡ movedBy (span .0) r)
       → ((start : ℕ) → Early start → Typed (movedBy start r)) → Says s r
   of-text f t =
       let c : Clear s = each-of value-clear (k .in-value) in
