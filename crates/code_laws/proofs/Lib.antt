@@ -4,3 +4,4 @@ pub mod Short
 pub mod NoYear
 pub mod Unknown
 pub mod BadDays
+pub mod Ported
