@@ -2,3 +2,9 @@ pub mod Points
 pub mod Typed
 pub mod Texts
 pub mod Written
+pub mod Says
+pub mod Short
+pub mod NoYear
+pub mod Unknown
+pub mod BadDays
+pub mod Ported

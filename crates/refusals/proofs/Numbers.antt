@@ -1,34 +1,38 @@
--- The numbers of the refusals are bytes. Assumes nothing.
-use Prim.Native.Nat.{_<_}
-use native.Mathlib.Omega.{arith}
+-- Which kinds name a place, told by their numbers.
+-- Assumes nothing.
+use mathlib.Core.Path.{_≡_, refl}
+use mathlib.Core.Bool.{false}
+use lib.Dec.{ltb, eqb}
+use Rattle.chars.specs.Pick.{pick}
 use Rattle.refusals.specs.declared.Kind.{Kind}
 use Rattle.refusals.specs.declared.Kind.the-variants.{UndefinedRange, DayOutOfRange, MonthOutOfRange, InvalidNumber, MissingNumber, WrongNumberOfDigits, InvalidFormat, YearZeroCE, RustPanics, BadUtf8, UnsupportedChar, NotStrict, NoRoom, BadFrame, BadChunks, TooLong, NotACalendarDate, BadPeriod, DuplicateEntry, ChronologyFull, UnknownEntry, BadTime, NotLevelOne, HasSeason, NoInstant, BadChronology}
-use Rattle.refusals.specs.Refusal.{number}
+use Rattle.refusals.specs.Refusal.{number, hasPlace}
 
-pub number-byte : (k : Kind) → number k < 256
-number-byte UndefinedRange = omega arith
-number-byte DayOutOfRange = omega arith
-number-byte MonthOutOfRange = omega arith
-number-byte InvalidNumber = omega arith
-number-byte MissingNumber = omega arith
-number-byte WrongNumberOfDigits = omega arith
-number-byte InvalidFormat = omega arith
-number-byte YearZeroCE = omega arith
-number-byte RustPanics = omega arith
-number-byte BadUtf8 = omega arith
-number-byte UnsupportedChar = omega arith
-number-byte NotStrict = omega arith
-number-byte NoRoom = omega arith
-number-byte BadFrame = omega arith
-number-byte BadChunks = omega arith
-number-byte TooLong = omega arith
-number-byte NotACalendarDate = omega arith
-number-byte BadPeriod = omega arith
-number-byte DuplicateEntry = omega arith
-number-byte ChronologyFull = omega arith
-number-byte UnknownEntry = omega arith
-number-byte BadTime = omega arith
-number-byte NotLevelOne = omega arith
-number-byte HasSeason = omega arith
-number-byte NoInstant = omega arith
-number-byte BadChronology = omega arith
+pub by-number : (k : Kind) → hasPlace k ≡ pick (eqb (number k) 9) false (ltb (number k) 12)
+unfolding pick
+by-number UndefinedRange = refl
+by-number DayOutOfRange = refl
+by-number MonthOutOfRange = refl
+by-number InvalidNumber = refl
+by-number MissingNumber = refl
+by-number WrongNumberOfDigits = refl
+by-number InvalidFormat = refl
+by-number YearZeroCE = refl
+by-number RustPanics = refl
+by-number BadUtf8 = refl
+by-number UnsupportedChar = refl
+by-number NotStrict = refl
+by-number NoRoom = refl
+by-number BadFrame = refl
+by-number BadChunks = refl
+by-number TooLong = refl
+by-number NotACalendarDate = refl
+by-number BadPeriod = refl
+by-number DuplicateEntry = refl
+by-number ChronologyFull = refl
+by-number UnknownEntry = refl
+by-number BadTime = refl
+by-number NotLevelOne = refl
+by-number HasSeason = refl
+by-number NoInstant = refl
+by-number BadChronology = refl
