@@ -277,36 +277,37 @@ value-last v u a = go v (flag u) (flag a) (flag-most u) (flag-most a)
 pub accepted-last : (d : Date) → wordsOf (Accepted d) .last < 4294967296
 accepted-last d = value-last (d .value) (d .uncertain) (d .approximate)
 
-number-least : (k : Kind) → 1 ≤ number k
-number-least UndefinedRange = lit≤ tt
-number-least DayOutOfRange = lit≤ tt
-number-least MonthOutOfRange = lit≤ tt
-number-least InvalidNumber = lit≤ tt
-number-least MissingNumber = lit≤ tt
-number-least WrongNumberOfDigits = lit≤ tt
-number-least InvalidFormat = lit≤ tt
-number-least YearZeroCE = lit≤ tt
-number-least RustPanics = lit≤ tt
-number-least BadUtf8 = lit≤ tt
-number-least UnsupportedChar = lit≤ tt
-number-least NotStrict = lit≤ tt
-number-least NoRoom = lit≤ tt
-number-least BadFrame = lit≤ tt
-number-least BadChunks = lit≤ tt
-number-least TooLong = lit≤ tt
-number-least NotACalendarDate = lit≤ tt
-number-least BadPeriod = lit≤ tt
-number-least DuplicateEntry = lit≤ tt
-number-least ChronologyFull = lit≤ tt
-number-least UnknownEntry = lit≤ tt
-number-least BadTime = lit≤ tt
-number-least NotLevelOne = lit≤ tt
-number-least HasSeason = lit≤ tt
-number-least NoInstant = lit≤ tt
-number-least BadChronology = lit≤ tt
+-- the number of a refusal is a byte, and not 0
+pub number-in : (k : Kind) → (1 ≤ number k) × (number k < 256)
+number-in UndefinedRange = (lit≤ tt, lit≤ tt)
+number-in DayOutOfRange = (lit≤ tt, lit≤ tt)
+number-in MonthOutOfRange = (lit≤ tt, lit≤ tt)
+number-in InvalidNumber = (lit≤ tt, lit≤ tt)
+number-in MissingNumber = (lit≤ tt, lit≤ tt)
+number-in WrongNumberOfDigits = (lit≤ tt, lit≤ tt)
+number-in InvalidFormat = (lit≤ tt, lit≤ tt)
+number-in YearZeroCE = (lit≤ tt, lit≤ tt)
+number-in RustPanics = (lit≤ tt, lit≤ tt)
+number-in BadUtf8 = (lit≤ tt, lit≤ tt)
+number-in UnsupportedChar = (lit≤ tt, lit≤ tt)
+number-in NotStrict = (lit≤ tt, lit≤ tt)
+number-in NoRoom = (lit≤ tt, lit≤ tt)
+number-in BadFrame = (lit≤ tt, lit≤ tt)
+number-in BadChunks = (lit≤ tt, lit≤ tt)
+number-in TooLong = (lit≤ tt, lit≤ tt)
+number-in NotACalendarDate = (lit≤ tt, lit≤ tt)
+number-in BadPeriod = (lit≤ tt, lit≤ tt)
+number-in DuplicateEntry = (lit≤ tt, lit≤ tt)
+number-in ChronologyFull = (lit≤ tt, lit≤ tt)
+number-in UnknownEntry = (lit≤ tt, lit≤ tt)
+number-in BadTime = (lit≤ tt, lit≤ tt)
+number-in NotLevelOne = (lit≤ tt, lit≤ tt)
+number-in HasSeason = (lit≤ tt, lit≤ tt)
+number-in NoInstant = (lit≤ tt, lit≤ tt)
+number-in BadChronology = (lit≤ tt, lit≤ tt)
 
 pub refused-last : (e : Refusal) → 4294967296 ≤ wordsOf (Refused e) .last
-refused-last e = let n = number-least (e .kind) in omega arith
+refused-last e = let n = number-in (e .kind) .0 in omega arith
 
 pub last-accepted : (r : ReadDate) → wordsOr (some r) .last < 4294967296 → (d : Date) × (r ≡ Accepted d)
 last-accepted (Accepted d) h = (d, refl)

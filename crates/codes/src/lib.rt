@@ -277,7 +277,7 @@ fn slash_of(s: &[u8]) -> usize
 }
 
 // Nothing is said.
-fn no_words() -> Words
+pub fn no_words() -> Words
     ensures { λ r. ⌜ r ≡ words.wordsOr none ⌝ }
 {
     Words {

@@ -32,6 +32,7 @@ use Rattle.refusals.specs.declared.ReadDate.the-variants.{Accepted, Refused}
 use Rattle.refusals.specs.Refusal.{number}
 use Rattle.codes.specs.Words.{twos, flag, hasMonth, hasDay, hasTime, offsetSort, clockOf, shapeOf, fourBytes, lastWord, wordsOf}
 use Rattle.codes.specs.Typed.{Bytes, DatetimeTyped, Typed}
+use Rattle.codes.proofs.Laws.{number-in}
 use Rattle.knobstream.specs.declared.PlainDatetime.{PlainDatetime}
 use Rattle.knobstream.specs.declared.PlainRead.{PlainRead}
 use Rattle.knobstream.specs.Plain.{datetime, noDatetime, noDate, accepted, date, read, dayWord, timeWord, words}
@@ -187,7 +188,7 @@ accepted-words d (Between a b) e = rw e
 pub read-answered : (r : ReadDate) → Typed r → {ws : List ℕ} → ws ≡ listed (wordsOf r) → Answered ws (read r)
 unfolding twos
 read-answered (Accepted d) t e = answered (accepted (date d)) (accepted-fits d (d .value) refl t) (e ∙ accepted-words d (d .value) refl)
-read-answered (Refused q) t e = answered _ (refused-fits (q .place .0) (q .place .1) (number (q .kind)) (t .0) (t .1) (number-fits (q .kind))) e
+read-answered (Refused q) t e = answered _ (refused-fits (q .place .0) (q .place .1) (number (q .kind)) (t .0) (t .1) (number-in (q .kind) .1)) e
 
 -- the struct has 56 bytes
 pub size : (r : PlainRead) → length (answerStruct r) ≡ 56

@@ -568,7 +568,16 @@ fn three_at_once(
     let y = year_at_once(year, year_table);
     let m = month_at_once(has_month, month, month_table);
     let d = day_at_once(has_month, has_day, day, day_table);
-    codes::joined(y, m, d)
+    if y == NOTHING {
+        return codes::no_words();
+    }
+    if m == NOTHING {
+        return codes::no_words();
+    }
+    if d == NOTHING {
+        return codes::no_words();
+    }
+    codes::day_words(y + m + d)
 }
 
 // Three fields by the way for all. A list that is not present is not looked at, whatever is passed for it; nor is a day list without a month list.
