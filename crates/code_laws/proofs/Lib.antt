@@ -8,3 +8,6 @@ pub mod NoYear
 pub mod Unknown
 pub mod BadDays
 pub mod Ported
+pub mod Parts
+pub mod Three
+pub mod PartsExamples
