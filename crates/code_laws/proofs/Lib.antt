@@ -1,4 +1,7 @@
 pub mod Points
+pub mod Typed
+pub mod Texts
+pub mod Written
 pub mod Says
 pub mod Short
 pub mod NoYear
