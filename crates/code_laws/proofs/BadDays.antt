@@ -5,16 +5,15 @@ use mathlib.Core.Bool.{true, false, false≢true, _&&_, _||_}
 use mathlib.Core.List.{List, [], _∷_, _++_, append-nil}
 use mathlib.Core.Logic.{_⊎_, ⊎-elim, inl, inr}
 use mathlib.Core.Option.{Option, none, some}
-use Prim.Native.Nat.{ℕ, suc, _+_, _-_, _/_, _%_, _≤_, _<_}
+use Prim.Native.Nat.{ℕ, _+_, _-_, _/_, _%_, _≤_, _<_}
 use native.Mathlib.Nat.{add-zero}
 use native.Mathlib.Omega.{arith}
 use borrow.Author.Tests.{eqb-true, eqb-false, ltb-true, ltb-false}
 use lib.Dec.{eqb, ltb, lit≤}
 use lib.IntN.{ℤ, pos}
-use lib.ListN.{length, getD, take, drop, length-drop, take-append-drop}
-use lib.Seq.{drop-cons, length-take-le}
+use lib.ListN.{length, getD, take, drop, length-drop}
+use lib.Seq.{length-take-le}
 use Rattle.chars.proofs.Cases.{by-test, of-test, and-true}
-use Rattle.chars.proofs.Spelled.{drop-same}
 use Rattle.scanner.proofs.Front.{From, from-start, from-behind, front-rest}
 use Rattle.refusals.specs.declared.Kind.{Kind}
 use Rattle.refusals.specs.declared.Kind.the-variants.{MonthOutOfRange, DayOutOfRange}
@@ -52,7 +51,8 @@ use Rattle.codes.specs.Points.{twoAt, yearOf, onSome, pointOf}
 use Rattle.codes.specs.Texts.{isSlash}
 use Rattle.codes.specs.Ported.{refusedAt, movedBy, badParts, isDayForm, badDay, badRange}
 use Rattle.codes.specs.Typed.{Typed}
-use Rattle.code_laws.proofs.Points.{cons-same, Said, Finding, finding, ended, year-text, field-text, below}
+use Rattle.code_laws.proofs.Points.{Said, Finding, finding, ended, year-text, field-text, below}
+use Rattle.code_laws.proofs.Texts.{slash-text}
 use Rattle.code_laws.proofs.Says.{Early, Says, Saying, place-moves, place-typed, of-text}
 
 -- a written number that is none from 1 to the highest, or is one
@@ -230,13 +230,6 @@ second-says {u} {v} {d} {r} a f =
     (f .typed)
 
 module _ (s : List ℕ) (k : ℕ) (h : k ≤ 80) (t : isSlash s k ≡ true) (n : length s ≡ k + 11) where
-  slash-text : take k s ++ 0x2F ∷ drop (k + 1) s ≡ s
-  unfolding isSlash
-  slash-text =
-      sym
-      (sym (take-append-drop k s)
-      ∙ ap (λ (u : List ℕ). take k s ++ u) (drop-cons s k 0 (omega arith) ∙ cons-same (eqb-true _ 0x2F t) (drop-same s (suc k) (k + 1) (omega arith))))
-
   before : length (take k s) ≡ k
   before = length-take-le k s (omega arith)
 
@@ -246,7 +239,7 @@ module _ (s : List ℕ) (k : ℕ) (h : k ≤ 80) (t : isSlash s k ≡ true) (n :
   range-says : {d : Datetime} → Said (take k s) d → (x : Option ReadDate) → Refusing (drop (k + 1) s) (k + 1) x → Saying s x
   range-says a none f = tt
   range-says a (some r) f =
-      subst (λ (u : List ℕ). Says u r) slash-text (second-says a (subst (λ (i : ℕ). Refuses (drop (k + 1) s) (i + 1) r) (sym before) f))
+      subst (λ (u : List ℕ). Says u r) (slash-text s k t) (second-says a (subst (λ (i : ℕ). Refuses (drop (k + 1) s) (i + 1) r) (sym before) f))
 
   half-says : (x : Option Datetime) → Finding (take k s) x → Saying s (onSome x λ d. badDay (k + 1) (drop (k + 1) s))
   unfolding onSome

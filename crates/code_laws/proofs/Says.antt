@@ -1,16 +1,13 @@
 -- What is said at once of a text that the ported reader alone reads: what each case has to show, and what then holds of a list of one Normal chunk.
 -- Assumes nothing.
-use mathlib.Core.Path.{_≡_, refl, sym, ap, _∙_}
+use mathlib.Core.Path.{_≡_, sym, ap, _∙_}
 use mathlib.Core.Bool.{true, false}
-use mathlib.Core.List.{List, [], _∷_, append-nil}
+use mathlib.Core.List.{List, append-nil}
 use mathlib.Core.Option.{Option, none, some}
 use Prim.Native.Nat.{ℕ, _+_, _≤_, _<_}
 use native.Mathlib.Omega.{arith}
-use borrow.Author.Tests.{eqb-true}
-use lib.Dec.{eqb}
 use lib.ListN.{length, getD}
 use Rattle.chars.specs.Pick.{pick}
-use Rattle.chars.proofs.Cases.{and-true}
 use Rattle.refusals.specs.declared.Kind.{Kind}
 use Rattle.refusals.specs.declared.FileSpan.{FileSpan}
 use Rattle.refusals.specs.declared.ReadDate.{ReadDate}
@@ -23,7 +20,6 @@ use Rattle.dates.specs.Ends.{EachEnd}
 use Rattle.dates.specs.Value.{date}
 use Rattle.chunks.specs.Chunks.{chunksOf, spanOf}
 use Rattle.chunks.specs.Plain.{allAscii, plainText}
-use Rattle.chunks.proofs.Plains.{plainly}
 use Rattle.datefield.specs.declared.ReadValue.the-variants.{Read}
 use Rattle.datefield.specs.Value.{value, marked, parseText}
 use Rattle.strict.specs.Grammar.{no-mark}
@@ -34,6 +30,7 @@ use Rattle.roundtrip_laws.proofs.Trims.{text-marked}
 use Rattle.codes.specs.Ported.{refusedAt, movedBy}
 use Rattle.codes.specs.Lists.{oneNormal}
 use Rattle.codes.specs.Typed.{DatetimeTyped, Typed}
+use Rattle.code_laws.proofs.Lists.{span-start, plain-list}
 
 -- where a list may start, so that no place becomes too large
 abbrev pub Early : ℕ → Type 0
@@ -87,23 +84,10 @@ module _ {s : List ℕ} (k : ValueText s) where
   value-says {v} f t = of-text (λ span h. rw (f span)) (λ start h. t)
 
 -- of a list of one Normal chunk
-span-start : (t : List ℕ) → length t ≡ 4 → spanOf (chunksOf t) .0 ≡ getD t 2 0
-unfolding spanOf chunksOf
-span-start [] h = absurd (omega arith)
-span-start (a ∷ []) h = absurd (omega arith)
-span-start (a ∷ b ∷ []) h = absurd (omega arith)
-span-start (a ∷ b ∷ c ∷ []) h = absurd (omega arith)
-span-start (a ∷ b ∷ c ∷ d ∷ []) h = refl
-span-start (a ∷ b ∷ c ∷ d ∷ e ∷ t) h = absurd (omega arith)
-
 pub parsed-says : (b table : List ℕ) {r : ReadDate} → oneNormal b table ≡ true → Early (getD table 2 0) → Says b r → parsed b table ≡ movedBy (getD table 2 0) r
-unfolding oneNormal
 parsed-says b table {r} o h k =
-    let p = and-true (eqb (length table) 4) _ o in
-    let q = and-true (eqb (getD table 0 0) 0) _ (p .1) in
-    let four = eqb-true _ 4 (p .0) in
-    let l = plainly b table (record { four = four; normal-kind = eqb-true _ 0 (q .0); whole = eqb-true _ _ (q .1); small = k .small; ascii = k .ascii }) in
-    let e = span-start table four in
+    let l = plain-list b table o (k .small) (k .ascii) in
+    let e = span-start b table o in
     sym (parsed-clean b table (l .clean) (sym (l .text true)))
     ∙ k .text (spanOf (chunksOf table)) (rw e h)
     ∙ ap (λ (n : ℕ). movedBy n r) e
