@@ -50,10 +50,9 @@ use Rattle.strict.proofs.Written.{derived}
 use Rattle.codes.specs.Points.{twoAt, yearOf, onSome, pointOf}
 use Rattle.codes.specs.Texts.{isSlash}
 use Rattle.codes.specs.Ported.{refusedAt, movedBy, badParts, isDayForm, badDay, badRange}
-use Rattle.codes.specs.Typed.{Typed}
 use Rattle.code_laws.proofs.Points.{Said, Finding, finding, ended, year-text, field-text, below}
 use Rattle.code_laws.proofs.Texts.{slash-text}
-use Rattle.code_laws.proofs.Says.{Early, Says, Saying, place-moves, place-typed, of-text}
+use Rattle.code_laws.proofs.Says.{Early, Near, Says, Saying, place-moves, place-near, of-text}
 
 -- a written number that is none from 1 to the highest, or is one
 out-of : (n top : ℕ) → eqb n 0 || ltb top n ≡ true → (n < 1) ⊎ (top < n)
@@ -145,7 +144,7 @@ pub record Refuses (s : List ℕ) (at : ℕ) (r : ReadDate) : Type 0 where
   pub refused : TextRefusal
   pub point-is : point s ≡ NoPoint refused
   pub moves : (start amount : ℕ) → amount ≡ start + at → Early start → Refused (offset refused amount) ≡ movedBy start r
-  pub typed : (start : ℕ) → Early start → Typed (movedBy start r)
+  pub near : Near r
 
 abbrev pub Refusing : List ℕ → ℕ → Option ReadDate → Type 0
 Refusing s at none = Unit {0}
@@ -158,8 +157,8 @@ module _ {s : List ℕ} (t : PointText s) (k : Kind) (p : hasPlace k ≡ true) (
         of-point = t;
         refused = textRefusal k a b;
         point-is = g;
-        moves = λ start amount j i. place-moves k p c d start h l i a b amount (omega arith) (omega arith);
-        typed = λ start i. place-typed k p c d start h l i;
+        moves = λ start amount j i. place-moves k p c d h l start a b amount i (omega arith) (omega arith);
+        near = place-near k p c d h l;
       }
 
 bad-parts : (at y m d : ℕ) → at ≤ 90 → y < 10000 → m < 100 → d < 100 → Refusing (dayForm y m d) at (badParts at y m d)
@@ -206,7 +205,7 @@ bad-day s at q n =
 refused-says : {s : List ℕ} {r : ReadDate} → Refuses s 0 r → Says s r
 unfolding marked moved onHalf
 refused-says {s} {r} f =
-    of-text (alone-text (f .of-point)) (λ span h. rw (alone-value span (f .of-point), f .point-is) (f .moves (span .0) (span .0) (sym (add-zero (span .0))) h)) (f .typed)
+    of-text (alone-text (f .of-point)) (λ span h. rw (alone-value span (f .of-point), f .point-is) (f .moves (span .0) (span .0) (sym (add-zero (span .0))) h)) (f .near)
 
 -- alone
 pub bad-says : (s : List ℕ) → length s ≡ 10 → Saying s (badDay 0 s)
@@ -227,7 +226,7 @@ second-says {u} {v} {d} {r} a f =
     (λ span h.
     rw (between-value span p q, point-read x, f .point-is, second-fits (f .refused) (span .0) (length u) (omega (arith, p .short)))
     (f .moves (span .0) (span .0 + length u + 1) (omega arith) h))
-    (f .typed)
+    (f .near)
 
 module _ (s : List ℕ) (k : ℕ) (h : k ≤ 80) (t : isSlash s k ≡ true) (n : length s ≡ k + 11) where
   before : length (take k s) ≡ k

@@ -6,8 +6,10 @@ use mathlib.Core.List.{List, append-nil}
 use mathlib.Core.Option.{Option, none, some}
 use Prim.Native.Nat.{ℕ, _+_, _≤_, _<_}
 use native.Mathlib.Omega.{arith}
+use lib.Dec.{lit<}
 use lib.ListN.{length, getD}
 use Rattle.chars.specs.Pick.{pick}
+use Rattle.chars.proofs.Cases.{by-test}
 use Rattle.refusals.specs.declared.Kind.{Kind}
 use Rattle.refusals.specs.declared.FileSpan.{FileSpan}
 use Rattle.refusals.specs.declared.ReadDate.{ReadDate}
@@ -36,12 +38,26 @@ use Rattle.code_laws.proofs.Lists.{span-start, plain-list}
 abbrev pub Early : ℕ → Type 0
 Early start = start < 0x8000000000000000
 
--- the ported reader says it of the text in upper case, wherever the list starts; and the numbers of it are of their types
+-- the numbers of a Date are of their types, and a place is near the text's front
+abbrev pub Near : ReadDate → Type 0
+Near (Accepted d) = EachEnd DatetimeTyped (d .value)
+Near (Refused e) = (e .place .0 ≤ 100) × (e .place .1 ≤ 100)
+
+-- so the numbers are of their types wherever the list starts
+pub near-typed : (r : ReadDate) (start : ℕ) → Near r → Early start → Typed (movedBy start r)
+unfolding movedBy refusal
+near-typed (Accepted d) start n h = n
+near-typed (Refused e) start n h =
+    by-test (λ (p : FileSpan). (p .0 < 18446744073709551616) × (p .1 < 18446744073709551616)) (hasPlace (e .kind))
+    (λ _. (omega (arith, n .0), omega (arith, n .1)))
+    (λ _. (lit< tt, lit< tt))
+
+-- the ported reader says it of the text in upper case, wherever the list starts
 pub record Says (s : List ℕ) (r : ReadDate) : Type 0 where
   pub small : length s ≤ 4096
   pub ascii : allAscii s ≡ true
   pub text : (span : FileSpan) → Early (span .0) → parseText span (plainText true false s) ≡ movedBy (span .0) r
-  pub typed : (start : ℕ) → Early start → Typed (movedBy start r)
+  pub near : Near r
 
 -- the same of what is said, if anything is
 abbrev pub Saying : List ℕ → Option ReadDate → Type 0
@@ -49,39 +65,38 @@ Saying s none = Unit {0}
 Saying s (some r) = Says s r
 
 -- a place near the text's front, moved by the list's start
-module _ (k : Kind) (p : hasPlace k ≡ true) (c d start : ℕ) (h : c ≤ 100) (l : d ≤ 100) (e : Early start) where
-  moved-is : movedBy start (refusedAt k c d) ≡ Refused (refusal k (fileSpan (c + start) (d + start)))
+module _ (k : Kind) (p : hasPlace k ≡ true) (c d : ℕ) (h : c ≤ 100) (l : d ≤ 100) where
+  moved-is : (start : ℕ) → movedBy start (refusedAt k c d) ≡ Refused (refusal k (fileSpan (c + start) (d + start)))
   unfolding movedBy refusal pick
-  moved-is = rw p
+  moved-is start = rw p
 
   -- as the offset rule says, by the list's start and what stands before the part that is refused
-  pub place-moves : (a b amount : ℕ) → a + amount ≡ c + start → b + amount ≡ d + start → Refused (offset (textRefusal k a b) amount) ≡ movedBy start (refusedAt k c d)
+  pub place-moves : (start a b amount : ℕ) → Early start → a + amount ≡ c + start → b + amount ≡ d + start → Refused (offset (textRefusal k a b) amount) ≡ movedBy start (refusedAt k c d)
   unfolding offset
-  place-moves a b amount f g = rw (sum-fits a amount (omega arith), sum-fits b amount (omega arith), f, g) (sym moved-is)
+  place-moves start a b amount e f g = rw (sum-fits a amount (omega arith), sum-fits b amount (omega arith), f, g) (sym (moved-is start))
 
-  pub place-typed : Typed (movedBy start (refusedAt k c d))
-  unfolding movedBy refusal pick
-  place-typed = rw p (omega arith, omega arith)
+  pub place-near : Near (refusedAt k c d)
+  unfolding refusal pick
+  place-near = rw p (h, l)
 
 -- a text that is a value's, with no mark
 module _ {s : List ℕ} (k : ValueText s) where
   unmarked-text : (span : FileSpan) → parseText span s ≡ marked false false (value span s)
   unmarked-text span = ap (parseText span) (sym (append-nil s)) ∙ text-marked span k no-mark
 
-  pub of-text : {r : ReadDate} → ((span : FileSpan) → Early (span .0) → marked false false (value span s) ≡ movedBy (span .0) r)
-      → ((start : ℕ) → Early start → Typed (movedBy start r)) → Says s r
+  pub of-text : {r : ReadDate} → ((span : FileSpan) → Early (span .0) → marked false false (value span s) ≡ movedBy (span .0) r) → Near r → Says s r
   of-text f t =
       let c : Clear s = each-of value-clear (k .in-value) in
       record {
         small = omega (arith, k .short);
         ascii = clear-ascii c;
         text = λ span h. rw (clear-text true false c) (unmarked-text span ∙ f span h);
-        typed = t;
+        near = t;
       }
 
   pub value-says : {v : DateValue} → ((span : FileSpan) → value span s ≡ Read v) → EachEnd DatetimeTyped v → Says s (Accepted (date v false false))
   unfolding marked movedBy
-  value-says {v} f t = of-text (λ span h. rw (f span)) (λ start h. t)
+  value-says {v} f t = of-text (λ span h. rw (f span)) t
 
 -- of a list of one Normal chunk
 pub parsed-says : (b table : List ℕ) {r : ReadDate} → oneNormal b table ≡ true → Early (getD table 2 0) → Says b r → parsed b table ≡ movedBy (getD table 2 0) r
