@@ -5,16 +5,15 @@ use mathlib.Core.Bool.{true, false, false≢true, _&&_, _||_}
 use mathlib.Core.List.{List, [], _∷_, _++_, append-nil}
 use mathlib.Core.Logic.{_⊎_, ⊎-elim, inl, inr}
 use mathlib.Core.Option.{Option, none, some}
-use Prim.Native.Nat.{ℕ, suc, _+_, _-_, _/_, _%_, _≤_, _<_}
+use Prim.Native.Nat.{ℕ, _+_, _-_, _/_, _%_, _≤_, _<_}
 use native.Mathlib.Nat.{add-zero}
 use native.Mathlib.Omega.{arith}
 use borrow.Author.Tests.{eqb-true, eqb-false, ltb-true, ltb-false}
 use lib.Dec.{eqb, ltb, lit≤}
 use lib.IntN.{ℤ, pos}
-use lib.ListN.{length, getD, take, drop, length-drop, take-append-drop}
-use lib.Seq.{drop-cons, length-take-le}
+use lib.ListN.{length, getD, take, drop, length-drop}
+use lib.Seq.{length-take-le}
 use Rattle.chars.proofs.Cases.{by-test, of-test, and-true}
-use Rattle.chars.proofs.Spelled.{drop-same}
 use Rattle.scanner.proofs.Front.{From, from-start, from-behind, front-rest}
 use Rattle.refusals.specs.declared.Kind.{Kind}
 use Rattle.refusals.specs.declared.Kind.the-variants.{MonthOutOfRange, DayOutOfRange}
@@ -51,9 +50,9 @@ use Rattle.strict.proofs.Written.{derived}
 use Rattle.codes.specs.Points.{twoAt, yearOf, onSome, pointOf}
 use Rattle.codes.specs.Texts.{isSlash}
 use Rattle.codes.specs.Ported.{refusedAt, movedBy, badParts, isDayForm, badDay, badRange}
-use Rattle.codes.specs.Typed.{Typed}
-use Rattle.code_laws.proofs.Points.{cons-same, Said, Finding, finding, ended, year-text, field-text, below}
-use Rattle.code_laws.proofs.Says.{Early, Says, Saying, place-moves, place-typed, of-text}
+use Rattle.code_laws.proofs.Points.{Said, Finding, finding, ended, year-text, field-text, below}
+use Rattle.code_laws.proofs.Texts.{slash-text}
+use Rattle.code_laws.proofs.Says.{Early, Near, Says, Saying, place-moves, place-near, of-text}
 
 -- a written number that is none from 1 to the highest, or is one
 out-of : (n top : ℕ) → eqb n 0 || ltb top n ≡ true → (n < 1) ⊎ (top < n)
@@ -145,7 +144,7 @@ pub record Refuses (s : List ℕ) (at : ℕ) (r : ReadDate) : Type 0 where
   pub refused : TextRefusal
   pub point-is : point s ≡ NoPoint refused
   pub moves : (start amount : ℕ) → amount ≡ start + at → Early start → Refused (offset refused amount) ≡ movedBy start r
-  pub typed : (start : ℕ) → Early start → Typed (movedBy start r)
+  pub near : Near r
 
 abbrev pub Refusing : List ℕ → ℕ → Option ReadDate → Type 0
 Refusing s at none = Unit {0}
@@ -158,8 +157,8 @@ module _ {s : List ℕ} (t : PointText s) (k : Kind) (p : hasPlace k ≡ true) (
         of-point = t;
         refused = textRefusal k a b;
         point-is = g;
-        moves = λ start amount j i. place-moves k p c d start h l i a b amount (omega arith) (omega arith);
-        typed = λ start i. place-typed k p c d start h l i;
+        moves = λ start amount j i. place-moves k p c d h l start a b amount i (omega arith) (omega arith);
+        near = place-near k p c d h l;
       }
 
 bad-parts : (at y m d : ℕ) → at ≤ 90 → y < 10000 → m < 100 → d < 100 → Refusing (dayForm y m d) at (badParts at y m d)
@@ -206,7 +205,7 @@ bad-day s at q n =
 refused-says : {s : List ℕ} {r : ReadDate} → Refuses s 0 r → Says s r
 unfolding marked moved onHalf
 refused-says {s} {r} f =
-    of-text (alone-text (f .of-point)) (λ span h. rw (alone-value span (f .of-point), f .point-is) (f .moves (span .0) (span .0) (sym (add-zero (span .0))) h)) (f .typed)
+    of-text (alone-text (f .of-point)) (λ span h. rw (alone-value span (f .of-point), f .point-is) (f .moves (span .0) (span .0) (sym (add-zero (span .0))) h)) (f .near)
 
 -- alone
 pub bad-says : (s : List ℕ) → length s ≡ 10 → Saying s (badDay 0 s)
@@ -227,16 +226,9 @@ second-says {u} {v} {d} {r} a f =
     (λ span h.
     rw (between-value span p q, point-read x, f .point-is, second-fits (f .refused) (span .0) (length u) (omega (arith, p .short)))
     (f .moves (span .0) (span .0 + length u + 1) (omega arith) h))
-    (f .typed)
+    (f .near)
 
 module _ (s : List ℕ) (k : ℕ) (h : k ≤ 80) (t : isSlash s k ≡ true) (n : length s ≡ k + 11) where
-  slash-text : take k s ++ 0x2F ∷ drop (k + 1) s ≡ s
-  unfolding isSlash
-  slash-text =
-      sym
-      (sym (take-append-drop k s)
-      ∙ ap (λ (u : List ℕ). take k s ++ u) (drop-cons s k 0 (omega arith) ∙ cons-same (eqb-true _ 0x2F t) (drop-same s (suc k) (k + 1) (omega arith))))
-
   before : length (take k s) ≡ k
   before = length-take-le k s (omega arith)
 
@@ -246,7 +238,7 @@ module _ (s : List ℕ) (k : ℕ) (h : k ≤ 80) (t : isSlash s k ≡ true) (n :
   range-says : {d : Datetime} → Said (take k s) d → (x : Option ReadDate) → Refusing (drop (k + 1) s) (k + 1) x → Saying s x
   range-says a none f = tt
   range-says a (some r) f =
-      subst (λ (u : List ℕ). Says u r) slash-text (second-says a (subst (λ (i : ℕ). Refuses (drop (k + 1) s) (i + 1) r) (sym before) f))
+      subst (λ (u : List ℕ). Says u r) (slash-text s k t) (second-says a (subst (λ (i : ℕ). Refuses (drop (k + 1) s) (i + 1) r) (sym before) f))
 
   half-says : (x : Option Datetime) → Finding (take k s) x → Saying s (onSome x λ d. badDay (k + 1) (drop (k + 1) s))
   unfolding onSome

@@ -1,4 +1,5 @@
 pub mod Points
+pub mod Lists
 pub mod Typed
 pub mod Texts
 pub mod Written

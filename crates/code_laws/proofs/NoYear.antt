@@ -37,7 +37,7 @@ use Rattle.chunks.specs.Format.{isBreak}
 use Rattle.chunks.specs.Plain.{allAscii, plainByte, plainOut, plainText}
 use Rattle.chunks.proofs.Plains.{plain-high}
 use Rattle.codes.specs.Ported.{refusedAt, isWordByte, areWordBytes, noYear}
-use Rattle.code_laws.proofs.Says.{Says, Saying, place-moves, place-typed}
+use Rattle.code_laws.proofs.Says.{Says, Saying, place-moves, place-near}
 
 -- a byte of words in upper case: ASCII, no X, no slash
 abbrev Word : ℕ → Type 0
@@ -199,8 +199,8 @@ no-year-says s n e h =
     record {
       small = n;
       ascii = words-ascii s e;
-      text = λ span l. no-text span (plainText true false s) (text-wordy false s e) h ∙ place-moves InvalidFormat refl 0 0 (span .0) (omega arith) (omega arith) l 0 0 (span .0) refl refl;
-      typed = λ start l. place-typed InvalidFormat refl 0 0 start (omega arith) (omega arith) l;
+      text = λ span l. no-text span (plainText true false s) (text-wordy false s e) h ∙ place-moves InvalidFormat refl 0 0 (omega arith) (omega arith) (span .0) 0 0 (span .0) l refl refl;
+      near = place-near InvalidFormat refl 0 0 (omega arith) (omega arith);
     }
 
 pub empty-says : (s : List ℕ) → length s ≡ 0 → Says s (refusedAt InvalidFormat 0 0)

@@ -34,6 +34,7 @@ use Rattle.roundtrip_laws.proofs.Bytes.{Each, each-bytes, each-of, InPoint, Val
 use Rattle.codes.specs.Points.{twoAt}
 use Rattle.codes.specs.Ported.{shortYear}
 use Rattle.code_laws.proofs.Points.{two-are}
+use Rattle.code_laws.proofs.Typed.{untimed-typed}
 use Rattle.code_laws.proofs.Says.{Says, Saying, value-says}
 
 -- the year is of its type
@@ -66,7 +67,7 @@ module _ (n : ℕ) (h : n < 100) where
   pub short-text : Says text (Accepted (date (At (datetime (windowed (pos n)) NoMonth NoDay NoTime)) false false))
   short-text =
       let k : ValueText text = record { in-value = each-of (λ x (p : InPoint x). p .in-value) in-point; some = omega arith; short = omega arith } in
-      value-says k value-is (record { year-typed = near n h; bytes-typed = (lit< tt, (lit< tt, (lit< tt, (lit< tt, (lit< tt, (lit< tt, (lit< tt, tt))))))) })
+      value-says k value-is (untimed-typed (windowed (pos n)) NoMonth NoDay (near n h) (lit< tt) (lit< tt))
 
 pub short-says : (s : List ℕ) → length s ≡ 2 → Saying s (shortYear s)
 unfolding shortYear

@@ -175,7 +175,7 @@ byte-in s k h =
     let z = List·getD-eq-default s 0 (ltb-false k (length s) t) in
     absurd (omega arith)
 
-slash-text : (s : List ℕ) (k : ℕ) → isSlash s k ≡ true → take k s ++ 47 ∷ drop (k + 1) s ≡ s
+pub slash-text : (s : List ℕ) (k : ℕ) → isSlash s k ≡ true → take k s ++ 47 ∷ drop (k + 1) s ≡ s
 unfolding isSlash
 slash-text s k e =
     let c = eqb-true (getD s k 0) 47 e in

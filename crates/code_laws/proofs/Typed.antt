@@ -1,4 +1,4 @@
--- The numbers of a derived point are of their types. Assumes nothing.
+-- The numbers of a derived point, and of one without a time, are of their types. Assumes nothing.
 use mathlib.Core.List.{List, [], _∷_}
 use Prim.Native.Nat.{ℕ, _<_}
 use native.Mathlib.Omega.{arith}
@@ -9,12 +9,13 @@ use Rattle.dates.specs.declared.OptionMonth.{OptionMonth}
 use Rattle.dates.specs.declared.OptionDay.{OptionDay}
 use Rattle.dates.specs.declared.OptionOffset.{OptionOffset}
 use Rattle.dates.specs.declared.OptionTime.{OptionTime}
+use Rattle.dates.specs.declared.OptionTime.the-variants.{NoTime}
 use Rattle.dates.specs.declared.Time.{Time}
 use Rattle.dates.specs.declared.Datetime.{Datetime}
 use Rattle.dates.specs.Value.{datetime}
 use Rattle.dates.proofs.Lengths.{length-most}
 use Rattle.strict.specs.Grammar.{field, Zone, no-zone, ahead, behind, Clock, no-time, hh:mm:ss, no-day, -dd, InYear, no-month, -mm, Point, point}
-use Rattle.codes.specs.Words.{clockOf, shiftOf, hoursOf, minutesOf}
+use Rattle.codes.specs.Words.{monthNumber, dayNumber, clockOf, shiftOf, hoursOf, minutesOf}
 use Rattle.codes.specs.Typed.{Bytes, stored, DatetimeTyped}
 use Rattle.roundtrip_laws.proofs.Strictly.{year-in}
 
@@ -47,3 +48,7 @@ parts-typed {y} (-mm (field m h) (-dd (field d k) c)) = let l = length-most m y 
 
 pub point-typed : {s : List ℕ} {d : Datetime} → Point s d → DatetimeTyped d
 point-typed (point {y = y} a p) = record { year-typed = year-small y (year-in a); bytes-typed = parts-typed p }
+
+-- any year of an i32, month and day of a byte, without a time
+pub untimed-typed : (y : ℤ) (m : OptionMonth) (d : OptionDay) → mag y < 2147483648 → monthNumber m < 256 → dayNumber d < 256 → DatetimeTyped (datetime y m d NoTime)
+untimed-typed y m d h l k = record { year-typed = h; bytes-typed = (l, (k, clock-typed no-time)) }

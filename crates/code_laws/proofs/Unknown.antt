@@ -12,7 +12,9 @@ use lib.IntN.{pos}
 use lib.ListN.{length, getD, drop}
 use Rattle.chars.proofs.Cases.{by-test, and-true}
 use Rattle.chars.proofs.Spelled.{bytesAt, spelled, entries}
+use Rattle.dates.specs.declared.OptionMonth.{OptionMonth}
 use Rattle.dates.specs.declared.OptionMonth.the-variants.{NoMonth}
+use Rattle.dates.specs.declared.OptionDay.{OptionDay}
 use Rattle.dates.specs.declared.OptionDay.the-variants.{NoDay}
 use Rattle.dates.specs.declared.OptionTime.the-variants.{NoTime}
 use Rattle.dates.specs.declared.DateValue.{DateValue}
@@ -33,20 +35,15 @@ use Rattle.roundtrip_laws.proofs.Agrees.{unknown-text}
 use Rattle.roundtrip_laws.proofs.Unknown.{days-said, unknown-value}
 use Rattle.codes.specs.Points.{twoAt, yearOf, partAt}
 use Rattle.codes.specs.Ported.{isUnknown, yearsOf, monthsOf, daysOf, range}
-use Rattle.codes.specs.Words.{hasDay}
+use Rattle.codes.specs.Words.{hasDay, monthNumber, dayNumber}
 use Rattle.codes.specs.Typed.{DatetimeTyped}
 use Rattle.code_laws.proofs.Points.{two-are, cons-same, ended, year-text, part-text}
+use Rattle.code_laws.proofs.Typed.{untimed-typed}
 use Rattle.code_laws.proofs.Says.{Says, Saying, value-says}
 
 -- a year of four digits, and a month and a day that are bytes, are of their types
-year-typed : (y : ℕ) → y < 10000 → DatetimeTyped (datetime (pos y) NoMonth NoDay NoTime)
-year-typed y h = record { year-typed = omega arith; bytes-typed = (lit< tt, (lit< tt, (lit< tt, (lit< tt, (lit< tt, (lit< tt, (lit< tt, tt))))))) }
-
-month-typed : (y m : ℕ) → y < 10000 → m < 256 → DatetimeTyped (datetime (pos y) (month m) NoDay NoTime)
-month-typed y m h l = record { year-typed = omega arith; bytes-typed = (l, (lit< tt, (lit< tt, (lit< tt, (lit< tt, (lit< tt, (lit< tt, tt))))))) }
-
-day-typed : (y m d : ℕ) → y < 10000 → m < 256 → d < 256 → DatetimeTyped (datetime (pos y) (month m) (day d) NoTime)
-day-typed y m d h l k = record { year-typed = omega arith; bytes-typed = (l, (k, (lit< tt, (lit< tt, (lit< tt, (lit< tt, (lit< tt, tt))))))) }
+four-typed : (y : ℕ) (m : OptionMonth) (d : OptionDay) → y < 10000 → monthNumber m < 256 → dayNumber d < 256 → DatetimeTyped (datetime (pos y) m d NoTime)
+four-typed y m d h l k = untimed-typed (pos y) m d (omega arith) l k
 
 -- where two X stand
 unknown-there : (s : List ℕ) (at : ℕ) → isUnknown s at ≡ true → (getD s at 0 ≡ 0x58) × (getD s (at + 1) 0 ≡ 0x58)
@@ -87,7 +84,7 @@ years-say s n =
     ∙ entries 4 s n
     in
     subst (λ (l : List ℕ). Says l (range (datetime (pos (y * 100)) NoMonth NoDay NoTime) (datetime (pos (y * 100 + 99)) NoMonth NoDay NoTime))) e
-    (derived-says (ddXX y h) refl (year-typed (y * 100) (omega arith), year-typed (y * 100 + 99) (omega arith))))
+    (derived-says (ddXX y h) refl (four-typed (y * 100) NoMonth NoDay (omega arith) (lit< tt) (lit< tt), four-typed (y * 100 + 99) NoMonth NoDay (omega arith) (lit< tt) (lit< tt))))
     (λ _. tt)
 
 -- a hyphen and two X at the end of a text
@@ -110,7 +107,7 @@ months-say s n =
     year-text s (omega arith) h ∙ ap (λ (l : List ℕ). digits 4 y ++ l) (end-is s 4 n (three-are (eqb-true _ 0x2D (q .1)) (unknown-there s 5 (p .0))))
     in
     subst (λ (l : List ℕ). Says l (range (datetime (pos y) (month 0) NoDay NoTime) (datetime (pos y) (month 11) NoDay NoTime))) (sym e)
-    (derived-says (dddd-XX y h) refl (month-typed y 0 h (lit< tt), month-typed y 11 h (lit< tt))))
+    (derived-says (dddd-XX y h) refl (four-typed y (month 0) NoDay h (lit< tt) (lit< tt), four-typed y (month 11) NoDay h (lit< tt) (lit< tt))))
     (λ _. tt)
 
 -- the days of a month: 31 of them, whatever its length
@@ -133,5 +130,5 @@ days-say s n u =
     ∙ ap (λ (l : List ℕ). (0x2D ∷ digits 2 (1 + m)) ++ l) (end-is s 7 n (three-are (eqb-true _ 0x2D (q .1)) (unknown-there s 8 u))))
     in
     subst (λ (l : List ℕ). Says l (range (datetime (pos y) (month m) (day 0) NoTime) (datetime (pos y) (month m) (day 30) NoTime))) (sym e)
-    (value-says (unknown-text (Grammar.dddd-mm-XX y h (field m k))) (λ span. days-said span y m h k) (day-typed y m 0 h (omega arith) (lit< tt), day-typed y m 30 h (omega arith) (lit< tt))))
+    (value-says (unknown-text (Grammar.dddd-mm-XX y h (field m k))) (λ span. days-said span y m h k) (four-typed y (month m) (day 0) h (omega arith) (lit< tt), four-typed y (month m) (day 30) h (omega arith) (lit< tt))))
     (λ _. tt)

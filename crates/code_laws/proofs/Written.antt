@@ -7,15 +7,13 @@ use mathlib.Core.List.{List}
 use mathlib.Core.Option.{Option, some}
 use Prim.Native.Nat.{ℕ, _≤_}
 use native.Mathlib.Omega.{arith}
-use lib.Dec.{eqb}
-use lib.ListN.{length, getD, length-append}
-use borrow.Author.Tests.{eqb-true}
-use Rattle.chars.proofs.Cases.{by-test, and-true}
+use lib.ListN.{length, length-append}
+use Rattle.chars.proofs.Cases.{by-test}
 use Rattle.refusals.specs.declared.FileSpan.{FileSpan}
 use Rattle.refusals.specs.declared.ReadDate.{ReadDate}
 use Rattle.refusals.specs.declared.ReadDate.the-variants.{Accepted}
 use Rattle.chunks.specs.Chunks.{chunksOf, spanOf}
-use Rattle.chunks.proofs.Plains.{Plainly, plainly}
+use Rattle.chunks.proofs.Plains.{Plainly}
 use Rattle.dates.specs.declared.OptionTime.{OptionTime}
 use Rattle.dates.specs.declared.OptionTime.the-variants.{NoTime, SomeTime}
 use Rattle.dates.specs.declared.Datetime.{Datetime}
@@ -37,6 +35,7 @@ use Rattle.roundtrip_laws.specs.Domain.{InDomain, Untimed}
 use Rattle.roundtrip_laws.proofs.Agrees.{value-text}
 use Rattle.roundtrip_laws.proofs.Bytes.{Clear, clear-text, clear-ascii}
 use Rattle.roundtrip_laws.proofs.Trims.{text-clear, mark-short}
+use Rattle.code_laws.proofs.Lists
 use Rattle.code_laws.proofs.Texts.{Ranged, TextSaid, Answer, answer, said}
 
 -- ---- the text
@@ -113,18 +112,7 @@ pub written-short : (s : List ℕ) {r : ReadDate} → written s ≡ some r → l
 written-short s e = answer-usual (said e) .short
 
 plain-list : (b table : List ℕ) → oneNormal b table ≡ true → Usual b → Plainly b table
-unfolding oneNormal
-plain-list b table o u =
-    let p = and-true (eqb (length table) 4) _ o in
-    let q = and-true (eqb (getD table 0 0) 0) _ (p .1) in
-    plainly b table
-    (record {
-      four = eqb-true _ 4 (p .0);
-      normal-kind = eqb-true _ 0 (q .0);
-      whole = eqb-true _ _ (q .1);
-      small = omega (arith, u .short);
-      ascii = clear-ascii (u .clear);
-    })
+plain-list b table o u = Lists.plain-list b table o (omega (arith, u .short)) (clear-ascii (u .clear))
 
 module _ (b table : List ℕ) {r : ReadDate} where
   -- what is said of a list is said of the text of one Normal chunk
