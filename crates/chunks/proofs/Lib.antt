@@ -6,6 +6,7 @@ pub mod Room
 pub mod Cased
 pub mod Faults
 pub mod Plains
+pub mod Whole
 pub mod Turn
 pub mod Proper
 pub mod Answers

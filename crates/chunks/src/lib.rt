@@ -1,7 +1,7 @@
 // Chunk lists: the checks before a list is read, its span, and its formatted text.
 // A list is lent bytes and a lent table of four numbers a chunk: kind (0 Normal, 1 Verbatim, 2 Math), length, span start, span end.
 ghost use mathlib.Core.Path.{_≡_};
-ghost use mathlib.Core.Bool.{true, false, _&&_};
+ghost use mathlib.Core.Bool.{true, false, not, _&&_};
 ghost use Prim.Native.Nat.{_+_, _%_, _^_, _<_, _≤_};
 ghost use lib.Dec.{eqb};
 ghost use lib.ListN.{length};
@@ -145,6 +145,9 @@ pub fn check(bytes: &[u8], table: &[u64]) -> Checked
 {
     if fits(bytes, table) {
         if is_short(bytes, table) {
+            if all_ascii(bytes) {
+                return Checked::Clean;
+            }
             return check_characters(bytes, table);
         }
         return Checked::Faulty(nowhere(Kind::TooLong));
@@ -226,7 +229,7 @@ fn put_one(buf: &mut [u8], n: usize, white: bool, code: u32) -> Put
 }
 
 // Puts a Normal chunk, a character at a time, as a line break goes by what came before it.
-fn put_normal(buf: &mut [u8], n: usize, t: &[u8], white: bool) -> Put
+fn put_normal_each(buf: &mut [u8], n: usize, t: &[u8], white: bool) -> Put
     requires { ⌜ n + length (now t) ≤ length (now buf) ⌝ }
     ensures { λ r. ⌜ (r .n ≡ n + length (format_.normal white (codes (now (t .entry))))) × (r .«prev_was_whitespace» ≡ format_.lastWhite white (codes (now (t .entry)))) × (now (buf .exit) ≡ sets (now (buf .entry)) n (format_.normal white (codes (now (t .entry))))) ⌝ }
 {
@@ -257,6 +260,24 @@ fn put_normal(buf: &mut [u8], n: usize, t: &[u8], white: bool) -> Put
     }
 }
 
+// Puts a Normal chunk: as it is, if nothing in it changes.
+fn put_normal(buf: &mut [u8], n: usize, t: &[u8], white: bool) -> Put
+    requires { ⌜ n + length (now t) ≤ length (now buf) ⌝ }
+    ensures { λ r. ⌜ (r .n ≡ n + length (format_.normal white (codes (now (t .entry))))) × (r .«prev_was_whitespace» ≡ format_.lastWhite white (codes (now (t .entry)))) × (now (buf .exit) ≡ sets (now (buf .entry)) n (format_.normal white (codes (now (t .entry))))) ⌝ }
+{
+    if all_ascii(t) {
+        if all_unbroken(t) {
+            let m = put_bytes(buf, n, t);
+            let w = last_byte_white(t, white);
+            return Put {
+                n: m,
+                prev_was_whitespace: w,
+            };
+        }
+    }
+    put_normal_each(buf, n, t, white)
+}
+
 // Puts bytes as they are: a line break in Verbatim or Math stays one.
 fn put_bytes(buf: &mut [u8], n: usize, t: &[u8]) -> usize
     requires { ⌜ n + length (now t) ≤ length (now buf) ⌝ }
@@ -272,8 +293,8 @@ fn put_bytes(buf: &mut [u8], n: usize, t: &[u8]) -> usize
     m
 }
 
-// Whether the last character is white space; of no characters it is not.
-fn last_white(t: &[u8]) -> bool
+// Whether the last character is white space; of no characters it is not. `last_white` is the same and quicker.
+fn last_white_each(t: &[u8]) -> bool
     ensures { λ r. ⌜ r ≡ format_.lastWhite false (codes (now (t .entry))) ⌝ }
 {
     let mut w = false;
@@ -292,6 +313,27 @@ fn last_white(t: &[u8]) -> bool
             }
         }
     }
+}
+
+// The same, with a look at the last byte alone where each byte is a character.
+fn last_white(t: &[u8]) -> bool
+    ensures { λ r. ⌜ r ≡ format_.lastWhite false (codes (now (t .entry))) ⌝ }
+{
+    if all_ascii(t) {
+        return last_byte_white(t, false);
+    }
+    last_white_each(t)
+}
+
+// Whether the last byte is white space; of no bytes what is given.
+fn last_byte_white(t: &[u8], white: bool) -> bool
+    ensures { λ r. ⌜ r ≡ format_.lastWhite white (now (t .entry)) ⌝ }
+{
+    let n = t.len();
+    if n == 0 {
+        return white;
+    }
+    chars::is_whitespace(wide(t[n - 1]))
 }
 
 // Puts a chunk of a kind: Normal, Verbatim, or Math between dollar signs.
@@ -356,7 +398,7 @@ fn put_upper(buf: &mut [u8], n: usize, code: u32) -> usize
 }
 
 // Puts a text in upper case, in place: no character's upper case has another number of bytes.
-fn upper_all(buf: &mut [u8])
+fn upper_each(buf: &mut [u8])
     ensures { λ _. ⌜ now (buf .exit) ≡ sets (now (buf .entry)) 0 (upper_.uppercase (now (buf .entry))) ⌝ }
 {
     let mut i = 0;
@@ -375,18 +417,62 @@ fn upper_all(buf: &mut [u8])
     }
 }
 
-// Whether each byte is a character by itself, so that nothing need be decoded.
+// The same of a text whose bytes are characters.
+fn upper_bytes(buf: &mut [u8])
+    requires { ⌜ plain_.allAscii (now buf) ≡ true ⌝ }
+    ensures { λ _. ⌜ now (buf .exit) ≡ sets (now (buf .entry)) 0 (upper_.uppercase (now (buf .entry))) ⌝ }
+{
+    let mut i = 0;
+    while i < buf.len() {
+        let b = buf[i];
+        buf[i] = plain_byte(true, b);
+        i = i + 1;
+    }
+}
+
+// The same of any text.
+fn upper_all(buf: &mut [u8])
+    ensures { λ _. ⌜ now (buf .exit) ≡ sets (now (buf .entry)) 0 (upper_.uppercase (now (buf .entry))) ⌝ }
+{
+    if all_ascii(buf) {
+        upper_bytes(buf);
+        return;
+    }
+    upper_each(buf);
+}
+
+// Whether each byte is a character by itself, so that nothing need be decoded. No byte decides where the loop goes on: the compiler then
+// takes many at once.
 fn all_ascii(t: &[u8]) -> bool
     ensures { λ r. ⌜ r ≡ plain_.allAscii (now (t .entry)) ⌝ }
 {
+    let mut ok = true;
     let mut i = 0;
     while i < t.len() {
-        if 0x80 <= t[i] {
-            return false;
-        }
+        ok = ok & (t[i] < 0x80);
         i = i + 1;
     }
-    true
+    ok
+}
+
+// Whether a byte is no line break.
+fn is_unbroken(b: u8) -> bool
+    ensures { λ r. ⌜ r ≡ not (format_.isBreak b) ⌝ }
+{
+    (b != b'\n') & (b != b'\r')
+}
+
+// Whether no byte is a line break, many at once as well.
+fn all_unbroken(t: &[u8]) -> bool
+    ensures { λ r. ⌜ r ≡ plain_.allUnbroken (now (t .entry)) ⌝ }
+{
+    let mut ok = true;
+    let mut i = 0;
+    while i < t.len() {
+        ok = ok & is_unbroken(t[i]);
+        i = i + 1;
+    }
+    ok
 }
 
 // Whether a list is one Normal chunk of ASCII within the limits: the usual one, which is formatted in one pass.
@@ -454,8 +540,8 @@ fn put_plain_byte(buf: &mut [u8], n: usize, upper: bool, white: bool, b: u8) -> 
     }
 }
 
-// Puts a plain list in one pass, in upper case where that is asked.
-fn put_plain(buf: &mut [u8], t: &[u8], upper: bool) -> usize
+// Puts a plain list in one pass, in upper case where that is asked. `put_plain` is the same, and quicker on a long one.
+fn put_plain_each(buf: &mut [u8], t: &[u8], upper: bool) -> usize
     requires { ⌜ (length (now t) ≤ length (now buf)) × (plain_.allAscii (now t) ≡ true) ⌝ }
     ensures { λ r. ⌜ (r ≡ length (plain_.plainText upper false (now (t .entry)))) × (now (buf .exit) ≡ sets (now (buf .entry)) 0 (plain_.plainText upper false (now (t .entry)))) ⌝ }
 {
@@ -469,6 +555,32 @@ fn put_plain(buf: &mut [u8], t: &[u8], upper: bool) -> usize
         i = i + 1;
     }
     m
+}
+
+// Puts a text without a line break: a copy, in upper case where that is asked.
+fn put_whole(buf: &mut [u8], t: &[u8], upper: bool) -> usize
+    requires { ⌜ (length (now t) ≤ length (now buf)) × (plain_.allAscii (now t) ≡ true) ⌝ }
+    requires { ⌜ plain_.allUnbroken (now t) ≡ true ⌝ }
+    ensures { λ r. ⌜ (r ≡ length (plain_.plainText upper false (now (t .entry)))) × (now (buf .exit) ≡ sets (now (buf .entry)) 0 (plain_.plainText upper false (now (t .entry)))) ⌝ }
+{
+    let n = put_bytes(buf, 0, t);
+    if upper {
+        upper_bytes(&mut buf[..n]);
+    }
+    n
+}
+
+// Puts a plain list. A look at each byte before it is copied pays on a long one.
+fn put_plain(buf: &mut [u8], t: &[u8], upper: bool) -> usize
+    requires { ⌜ (length (now t) ≤ length (now buf)) × (plain_.allAscii (now t) ≡ true) ⌝ }
+    ensures { λ r. ⌜ (r ≡ length (plain_.plainText upper false (now (t .entry)))) × (now (buf .exit) ≡ sets (now (buf .entry)) 0 (plain_.plainText upper false (now (t .entry)))) ⌝ }
+{
+    if 32 <= t.len() {
+        if all_unbroken(t) {
+            return put_whole(buf, t, upper);
+        }
+    }
+    put_plain_each(buf, t, upper)
 }
 
 // The text of any list.
