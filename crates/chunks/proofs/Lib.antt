@@ -7,6 +7,7 @@ pub mod Cased
 pub mod Faults
 pub mod Plains
 pub mod Whole
+pub mod Latins
 pub mod Turn
 pub mod Proper
 pub mod Answers

@@ -44,7 +44,7 @@ module _ (b : ℕ) (t : List ℕ) (e : allAscii (b ∷ t) ≡ true) where
   unfolding andThen
   ascii-characters = characters-are (b ∷ t) ∙ rw (first-ascii b t front-low)
 
-no-characters : characters [] ≡ []
+pub no-characters : characters [] ≡ []
 unfolding characters upTo
 no-characters = refl
 

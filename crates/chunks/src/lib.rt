@@ -10,12 +10,13 @@ ghost use Rattle.chars.specs.Utf8.{encode};
 ghost use Rattle.chars.specs.Classes.{isWhitespace};
 ghost use Rattle.refusals.specs.Refusal.{bytesAt};
 ghost use Rattle.chunks.specs.declared.Checked.the-variants.{Faulty};
-ghost use Rattle.chunks.specs.Characters.{codes};
+ghost use Rattle.chunks.specs.Characters.{characters, codes};
 ghost use Rattle.chunks.specs.Chunks as chunks_;
 ghost use Rattle.chunks.specs.Check as check_;
 ghost use Rattle.chunks.specs.Format as format_;
 ghost use Rattle.chunks.specs.Upper as upper_;
 ghost use Rattle.chunks.specs.Plain as plain_;
+ghost use Rattle.chunks.specs.Latin as latin_;
 ghost use Rattle.chunks.specs.Answer as answer_;
 use chars::Decoded;
 use chars::Upper;
@@ -84,41 +85,64 @@ fn fits(bytes: &[u8], table: &[u64]) -> bool
     false
 }
 
-// The first ill-formed or unsupported character: the chunks and their characters in turn, left at the first fault.
+// The first ill-formed or unsupported character of a chunk's text, which stands at a place of the lent bytes.
+fn check_each(t: &[u8], at: usize) -> Checked
+    requires { ⌜ at + length (now t) + 1 < 2 ^ 64 ⌝ }
+    ensures { λ r. ⌜ r ≡ check_.faultIn at (characters (now (t .entry))) ⌝ }
+{
+    let mut i = 0;
+    loop {
+        match chars::decode_at(t, i) {
+            Decoded::Char { code, len: n } => {
+                if chars::is_admitted(code) {
+                    i = i + n;
+                } else {
+                    return faulty(Kind::UnsupportedChar, at + i, n);
+                }
+            }
+            Decoded::Bad => {
+                return faulty(Kind::BadUtf8, at + i, 1);
+            }
+            Decoded::End => {
+                return Checked::Clean;
+            }
+        }
+    }
+}
+
+// The same. A look at each byte before any is decoded pays on a long one: there is none in a text of characters up to U+00FF.
+fn check_text(t: &[u8], at: usize) -> Checked
+    requires { ⌜ at + length (now t) + 1 < 2 ^ 64 ⌝ }
+    ensures { λ r. ⌜ r ≡ check_.faultIn at (characters (now (t .entry))) ⌝ }
+{
+    if 32 <= t.len() {
+        if all_latin(t) {
+            return Checked::Clean;
+        }
+    }
+    check_each(t, at)
+}
+
+// The first ill-formed or unsupported character of a list: of the chunks in turn, left at the first fault.
 fn check_characters(bytes: &[u8], table: &[u64]) -> Checked
     requires { ⌜ chunks_.fits (now bytes) (now table) ≡ true ⌝ }
     ensures { λ r. ⌜ r ≡ check_.faultOf 0 (now (bytes .entry)) (chunks_.chunksOf (now (table .entry))) ⌝ }
 {
     let mut at = 0;
     let mut k = 0;
-    let mut found = Checked::Clean;
-    'chunks: while k < table.len() {
+    while k < table.len() {
         let len = table[k + 1] as usize;
-        let t = &bytes[at..at + len];
-        let mut i = 0;
-        'characters: loop {
-            match chars::decode_at(t, i) {
-                Decoded::Char { code, len: n } => {
-                    if chars::is_admitted(code) {
-                        i = i + n;
-                    } else {
-                        found = faulty(Kind::UnsupportedChar, at + i, n);
-                        break 'chunks;
-                    }
-                }
-                Decoded::Bad => {
-                    found = faulty(Kind::BadUtf8, at + i, 1);
-                    break 'chunks;
-                }
-                Decoded::End => {
-                    break 'characters;
-                }
+        match check_text(&bytes[at..at + len], at) {
+            Checked::Faulty(e) => {
+                return Checked::Faulty(e);
+            }
+            Checked::Clean => {
+                at = at + len;
+                k = k + 4;
             }
         }
-        at = at + len;
-        k = k + 4;
     }
-    found
+    Checked::Clean
 }
 
 // A fault at a place of the lent bytes.
@@ -453,6 +477,39 @@ fn all_ascii(t: &[u8]) -> bool
         i = i + 1;
     }
     ok
+}
+
+// Whether a byte begins a character from U+0080 to U+00FF.
+fn is_lead(b: u8) -> bool
+    ensures { λ r. ⌜ r ≡ latin_.isLead b ⌝ }
+{
+    (0xC2 <= b) & (b <= 0xC3)
+}
+
+// Whether a byte may stand behind another in a text of characters up to U+00FF.
+fn may_follow(p: u8, b: u8) -> bool
+    ensures { λ r. ⌜ r ≡ latin_.mayFollow p b ⌝ }
+{
+    let open = is_lead(p);
+    let opens = is_lead(b);
+    (open & ((0x80 <= b) & (b < 0xC0))) | (!open & ((b < 0x80) | opens))
+}
+
+// Whether a text has such characters alone, many bytes at once as well.
+fn all_latin(t: &[u8]) -> bool
+    ensures { λ r. ⌜ r ≡ latin_.allLatin 0 (now (t .entry)) ⌝ }
+{
+    let mut ok = true;
+    let mut p = 0;
+    let mut i = 0;
+    while i < t.len() {
+        let b = t[i];
+        ok = ok & may_follow(p, b);
+        p = b;
+        i = i + 1;
+    }
+    let open = is_lead(p);
+    ok & !open
 }
 
 // Whether a byte is no line break.
