@@ -1,25 +1,27 @@
--- ASCII texts as a whole: cut in chunks, without a line break, and by their last byte.
+-- Texts as a whole: of ASCII, cut in chunks, and without a line break.
 -- Assumes nothing.
 use mathlib.Core.Path.{_≡_, refl, sym, ap, _∙_}
 use mathlib.Core.Bool.{Bool, true, false, not, _&&_}
-use mathlib.Core.List.{List, [], _∷_}
-use Prim.Native.Nat.{ℕ, zero, suc, _+_, _-_, _≤_, _<_}
+use mathlib.Core.List.{List, [], _∷_, _++_}
+use Prim.Native.Nat.{ℕ, zero, suc, _+_, _≤_, _<_}
+use native.Mathlib.Decide.{decLt}
 use native.Mathlib.Numerals.{add-one}
 use native.Mathlib.Omega.{arith}
-use borrow.Author.Tests.{lt-ltb}
+use borrow.Author.Tests.{lt-ltb, ne-eqb}
 use lib.ListN.{length, getD, take, drop, drop-of-length-le}
 use lib.Seq.{drop-cons}
 use Rattle.chars.specs.Pick.{pick}
+use Rattle.chars.specs.Utf8.{encode, encodeAll}
 use Rattle.chars.specs.Classes.{isWhitespace}
 use Rattle.chars.proofs.Cases.{and-true}
+use Rattle.chars.proofs.Encode.{encode-one}
 use Rattle.chunks.specs.declared.Checked.the-variants.{Clean}
-use Rattle.chunks.specs.Characters.{codes}
 use Rattle.chunks.specs.Chunks.{Chunk, chunksOf, fits, isShort}
 use Rattle.chunks.specs.Check.{orElse, faultOf, checked}
-use Rattle.chunks.specs.Format.{isBreak, normal, lastWhite}
+use Rattle.chunks.specs.Format.{isBreak, oneOut, normal}
 use Rattle.chunks.specs.Upper.{uppers, uppercase}
 use Rattle.chunks.specs.Plain.{allAscii, allUnbroken, plainByte, plainOut, plainText}
-use Rattle.chunks.proofs.Plains.{front-low, rest-ascii, ascii-codes, ascii-clean, normal-plain, upper-ascii, upper-plain}
+use Rattle.chunks.proofs.Plains.{front-low, rest-ascii, ascii-clean, upper-ascii, upper-plain}
 
 take-ascii : (n : ℕ) (t : List ℕ) → allAscii t ≡ true → allAscii (take n t) ≡ true
 unfolding allAscii
@@ -43,22 +45,6 @@ pub ascii-checked : (b t : List ℕ) → fits b t ≡ true → isShort b t ≡ t
 unfolding checked pick
 ascii-checked b t f s e = rw (f, s) (ascii-faultless 0 b (chunksOf t) e)
 
--- its last byte
-pub last-is : (w : Bool) (t : List ℕ) → 0 < length t → lastWhite w t ≡ isWhitespace (getD t (length t - 1) 0)
-unfolding lastWhite
-last-is w [] h = absurd (omega arith)
-last-is w (b ∷ []) h = refl
-last-is w (b ∷ c ∷ t) h =
-    last-is (isWhitespace b) (c ∷ t) (omega arith)
-    ∙ ap (λ (k : ℕ). isWhitespace (getD (c ∷ t) k 0)) (less (length t))
-    ∙ ap (λ (k : ℕ). isWhitespace (getD (b ∷ c ∷ t) k 0)) (more (length t))
-  where
-    less : (n : ℕ) → suc n - 1 ≡ n
-    less n = omega arith
-
-    more : (n : ℕ) → suc n ≡ suc (suc n) - 1
-    more n = omega arith
-
 -- no line break
 unbroken-not : (b : Bool) → not b ≡ true → b ≡ false
 unbroken-not true h = sym h
@@ -80,8 +66,29 @@ unbroken-plain w [] e = refl
 unbroken-plain w (b ∷ t) e =
     rw (unbroken-front b t e) (ap (λ (l : List ℕ). b ∷ l) (unbroken-plain (isWhitespace b) t (unbroken-rest b t e)))
 
-pub unbroken-normal : (w : Bool) (t : List ℕ) → allAscii t ≡ true → allUnbroken t ≡ true → normal w (codes t) ≡ t
-unbroken-normal w t a e = ap (normal w) (ascii-codes t a) ∙ normal-plain w t a ∙ unbroken-plain w t e
+unbroken-both : (s t : List ℕ) → allUnbroken (s ++ t) ≡ true → (allUnbroken s ≡ true) × (allUnbroken t ≡ true)
+unfolding allUnbroken
+unbroken-both [] t e = (refl, e)
+unbroken-both (b ∷ s) t e =
+    let p = unbroken-both s t (unbroken-rest b (s ++ t) e) in
+    (rw (unbroken-front b (s ++ t) e) (p .0), p .1)
+
+-- a character without a line break among its bytes is none
+no-break : (c : ℕ) → allUnbroken (encode c) ≡ true → isBreak c ≡ false
+unfolding isBreak
+no-break c e =
+    elim (decLt c 0x80) [
+      | yes h ↦ unbroken-front c [] (rw (encode-one c h) at e)
+      | no h ↦ rw (ne-eqb c 0x0A (λ (z : c ≡ 0x0A). omega arith), ne-eqb c 0x0D (λ (z : c ≡ 0x0D). omega arith))
+    ]
+
+-- characters whose bytes have no line break are put as they are
+pub unbroken-codes : (w : Bool) (cs : List ℕ) → allUnbroken (encodeAll cs) ≡ true → normal w cs ≡ encodeAll cs
+unfolding normal encodeAll oneOut pick
+unbroken-codes w [] e = refl
+unbroken-codes w (c ∷ cs) e =
+    let p = unbroken-both (encode c) (encodeAll cs) e in
+    rw (no-break c (p .0)) (ap (λ (l : List ℕ). encode c ++ l) (unbroken-codes (isWhitespace c) cs (p .1)))
 
 -- no byte is dropped
 pub unbroken-long : (u w : Bool) (t : List ℕ) → allUnbroken t ≡ true → length (plainText u w t) ≡ length t

@@ -6,10 +6,10 @@ ghost use Prim.Native.Nat.{_+_, _%_, _^_, _<_, _≤_};
 ghost use lib.Dec.{eqb};
 ghost use lib.ListN.{length};
 ghost use lib.Seq.{sets};
-ghost use Rattle.chars.specs.Utf8.{encode};
+ghost use Rattle.chars.specs.Utf8.{encode, encodeAll};
 ghost use Rattle.chars.specs.Classes.{isWhitespace};
 ghost use Rattle.refusals.specs.Refusal.{bytesAt};
-ghost use Rattle.chunks.specs.declared.Checked.the-variants.{Faulty};
+ghost use Rattle.chunks.specs.declared.Checked.the-variants.{Clean, Faulty};
 ghost use Rattle.chunks.specs.Characters.{characters, codes};
 ghost use Rattle.chunks.specs.Chunks as chunks_;
 ghost use Rattle.chunks.specs.Check as check_;
@@ -284,20 +284,19 @@ fn put_normal_each(buf: &mut [u8], n: usize, t: &[u8], white: bool) -> Put
     }
 }
 
-// Puts a Normal chunk: as it is, if nothing in it changes.
+// Puts a Normal chunk of well-formed characters: as it is, if it has no line break.
 fn put_normal(buf: &mut [u8], n: usize, t: &[u8], white: bool) -> Put
     requires { ⌜ n + length (now t) ≤ length (now buf) ⌝ }
+    requires { ⌜ encodeAll (codes (now t)) ≡ now t ⌝ }
     ensures { λ r. ⌜ (r .n ≡ n + length (format_.normal white (codes (now (t .entry))))) × (r .«prev_was_whitespace» ≡ format_.lastWhite white (codes (now (t .entry)))) × (now (buf .exit) ≡ sets (now (buf .entry)) n (format_.normal white (codes (now (t .entry))))) ⌝ }
 {
-    if all_ascii(t) {
-        if all_unbroken(t) {
-            let m = put_bytes(buf, n, t);
-            let w = last_byte_white(t, white);
-            return Put {
-                n: m,
-                prev_was_whitespace: w,
-            };
-        }
+    if all_unbroken(t) {
+        let m = put_bytes(buf, n, t);
+        let w = last_white(t, white);
+        return Put {
+            n: m,
+            prev_was_whitespace: w,
+        };
     }
     put_normal_each(buf, n, t, white)
 }
@@ -317,11 +316,11 @@ fn put_bytes(buf: &mut [u8], n: usize, t: &[u8]) -> usize
     m
 }
 
-// Whether the last character is white space; of no characters it is not. `last_white` is the same and quicker.
-fn last_white_each(t: &[u8]) -> bool
-    ensures { λ r. ⌜ r ≡ format_.lastWhite false (codes (now (t .entry))) ⌝ }
+// Whether the last character is white space; of no characters what is given. `last_white` is the same and quicker.
+fn last_white_each(t: &[u8], white: bool) -> bool
+    ensures { λ r. ⌜ r ≡ format_.lastWhite white (codes (now (t .entry))) ⌝ }
 {
-    let mut w = false;
+    let mut w = white;
     let mut i = 0;
     loop {
         match chars::decode_at(t, i) {
@@ -339,30 +338,32 @@ fn last_white_each(t: &[u8]) -> bool
     }
 }
 
-// The same, with a look at the last byte alone where each byte is a character.
-fn last_white(t: &[u8]) -> bool
-    ensures { λ r. ⌜ r ≡ format_.lastWhite false (codes (now (t .entry))) ⌝ }
-{
-    if all_ascii(t) {
-        return last_byte_white(t, false);
-    }
-    last_white_each(t)
-}
-
-// Whether the last byte is white space; of no bytes what is given.
-fn last_byte_white(t: &[u8], white: bool) -> bool
-    ensures { λ r. ⌜ r ≡ format_.lastWhite white (now (t .entry)) ⌝ }
+// The same of well-formed characters. The last bytes tell a character up to U+00FF.
+fn last_white(t: &[u8], white: bool) -> bool
+    requires { ⌜ encodeAll (codes (now t)) ≡ now t ⌝ }
+    ensures { λ r. ⌜ r ≡ format_.lastWhite white (codes (now (t .entry))) ⌝ }
 {
     let n = t.len();
     if n == 0 {
         return white;
     }
-    chars::is_whitespace(wide(t[n - 1]))
+    let b = t[n - 1];
+    if b < 0x80 {
+        return chars::is_whitespace(wide(b));
+    }
+    if 2 <= n {
+        let a = t[n - 2];
+        if is_lead(a) {
+            return chars::is_whitespace(wide(a) % 32 * 64 + wide(b) % 64);
+        }
+    }
+    last_white_each(t, white)
 }
 
 // Puts a chunk of a kind: Normal, Verbatim, or Math between dollar signs.
 fn put_chunk(buf: &mut [u8], n: usize, kind: u64, t: &[u8], white: bool) -> Put
     requires { ⌜ n + length (now t) + 2 ≤ length (now buf) ⌝ }
+    requires { ⌜ encodeAll (codes (now t)) ≡ now t ⌝ }
     ensures { λ r. ⌜ (r .n ≡ n + length (format_.chunkOut white kind (now (t .entry)))) × (r .«prev_was_whitespace» ≡ format_.chunkFlag white kind (now (t .entry))) × (now (buf .exit) ≡ sets (now (buf .entry)) n (format_.chunkOut white kind (now (t .entry)))) ⌝ }
 {
     if kind == 0 {
@@ -370,7 +371,7 @@ fn put_chunk(buf: &mut [u8], n: usize, kind: u64, t: &[u8], white: bool) -> Put
     }
     if kind == 1 {
         let m = put_bytes(buf, n, t);
-        let w = last_white(t);
+        let w = last_white(t, false);
         return Put {
             n: m,
             prev_was_whitespace: w,
@@ -389,6 +390,7 @@ fn put_chunk(buf: &mut [u8], n: usize, kind: u64, t: &[u8], white: bool) -> Put
 fn put_list(bytes: &[u8], table: &[u64], buf: &mut [u8]) -> usize
     requires { ⌜ chunks_.fits (now bytes) (now table) ≡ true ⌝ }
     requires { ⌜ answer_.roomOf (now bytes) (now table) ≤ length (now buf) ⌝ }
+    requires { ⌜ check_.faultOf 0 (now bytes) (chunks_.chunksOf (now table)) ≡ Clean ⌝ }
     ensures { λ r. ⌜ (r ≡ length (format_.formatted (now (bytes .entry)) (now (table .entry)))) × (now (buf .exit) ≡ sets (now (buf .entry)) 0 (format_.formatted (now (bytes .entry)) (now (table .entry)))) × (r ≤ length (now (buf .entry))) ⌝ }
 {
     let mut at = 0;

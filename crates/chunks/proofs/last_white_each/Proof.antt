@@ -9,16 +9,15 @@ use borrow.Author.Needs.{needs}
 use native.Mathlib.Omega.{arith}
 use Prim.Native.Nat.{ℕ, _-_}
 use mathlib.Core.List.{List}
-use mathlib.Core.Bool.{false}
 use mathlib.Core.Path.{_≡_, refl, sym, _∙_}
 use Rattle.chunks.proofs.last_white_each.Statement.{statement}
 use Rattle.chunks.proofs.last_white_each.Tie as tie
 
 abbrev Inv-loop : tie.InvT-loop
-Inv-loop t w₀ i₀ w i = lastWhite w (codes (drop i t)) ≡ lastWhite false (codes t)
+Inv-loop t white w₀ i₀ w i = lastWhite w (codes (drop i t)) ≡ lastWhite white (codes t)
 
 abbrev μ-loop : tie.MeasureT-loop
-μ-loop t w₀ i₀ w i = length t - i
+μ-loop t white w₀ i₀ w i = length t - i
 
 -- where a character was found: what it is
 module _ (c : tie.After-code Inv-loop μ-loop) where
