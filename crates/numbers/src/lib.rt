@@ -1,6 +1,8 @@
 // Numbers of a text: a run of numeric characters, with white space and a sign before it as the ported code takes them.
 ghost use mathlib.Core.Path.{_≡_};
-ghost use Prim.Native.Nat.{_<_, _-_};
+ghost use mathlib.Core.Bool.{true};
+ghost use Prim.Native.Nat.{_+_, _<_, _≤_, _-_};
+ghost use lib.ListN.{length};
 ghost use Rattle.numbers.specs.Number as spec;
 ghost use Rattle.chars.specs.Signs.{signed};
 ghost use Rattle.numbers.specs.Trim as trims;
@@ -124,11 +126,45 @@ fn trim_step(s: &[u8], i: usize) -> usize
     }
 }
 
+// Whether sixteen bytes are ASCII and the last of them prints: then it goes on behind them. No byte decides where the loop goes on: the
+// compiler takes them all at once.
+fn is_stride(s: &[u8], at: usize) -> bool
+    requires { ⌜ at + 16 ≤ length (now s) ⌝ }
+    ensures { λ r. ⌜ (r ≡ true → trims.trimFrom (now (s .entry)) (at + 16) ≡ trims.trimFrom (now (s .entry)) at) ⌝ }
+{
+    let mut ok = b' ' < s[at + 15];
+    let mut i = 0;
+    while i < 16 {
+        ok = ok & (s[at + i] < 0x80);
+        i = i + 1;
+    }
+    ok
+}
+
+// On by strides while sixteen bytes are left, and by steps between them.
+fn trim_strides(s: &[u8]) -> usize
+    ensures { λ r. ⌜ trims.trimFrom (now (s .entry)) r ≡ trims.trimEnd (now (s .entry)) ⌝ }
+{
+    let mut i = 0;
+    while 16 <= s.len() - i {
+        if is_stride(s, i) {
+            i = i + 16;
+        } else {
+            let n = trim_step(s, i);
+            if n == 0 {
+                return i;
+            }
+            i = i + n;
+        }
+    }
+    i
+}
+
 // The place behind the last character that is no white space.
 pub fn trim_end(s: &[u8]) -> Cursor
     ensures { λ r. ⌜ r .0 ≡ trims.trimEnd (now (s .entry)) ⌝ }
 {
-    let mut i = 0;
+    let mut i = trim_strides(s);
     loop {
         let n = trim_step(s, i);
         if n == 0 {
