@@ -1,13 +1,14 @@
 -- Texts as a whole: of ASCII, cut in chunks, and without a line break.
 -- Assumes nothing.
 use mathlib.Core.Path.{_≡_, refl, sym, ap, _∙_}
-use mathlib.Core.Bool.{Bool, true, false, not, _&&_}
+use mathlib.Core.Bool.{Bool, true, false, _&&_}
 use mathlib.Core.List.{List, [], _∷_, _++_}
 use Prim.Native.Nat.{ℕ, zero, suc, _+_, _≤_, _<_}
 use native.Mathlib.Decide.{decLt}
 use native.Mathlib.Numerals.{add-one}
 use native.Mathlib.Omega.{arith}
-use borrow.Author.Tests.{lt-ltb, ne-eqb}
+use borrow.Author.Tests.{lt-ltb, ltb-true, ne-eqb}
+use lib.Dec.{ltb}
 use lib.ListN.{length, getD, take, drop, drop-of-length-le}
 use lib.Seq.{drop-cons}
 use Rattle.chars.specs.Pick.{pick}
@@ -46,18 +47,20 @@ unfolding checked pick
 ascii-checked b t f s e = rw (f, s) (ascii-faultless 0 b (chunksOf t) e)
 
 -- no line break
-unbroken-not : (b : Bool) → not b ≡ true → b ≡ false
-unbroken-not true h = sym h
-unbroken-not false h = refl
-
 module _ (b : ℕ) (t : List ℕ) (e : allUnbroken (b ∷ t) ≡ true) where
-  pub unbroken-front : isBreak b ≡ false
+  unbroken-high : 0x0D < b
   unfolding allUnbroken
-  unbroken-front = unbroken-not (isBreak b) (and-true (not (isBreak b)) (allUnbroken t) e .0)
+  unbroken-high = ltb-true 0x0D b (and-true (ltb 0x0D b) (allUnbroken t) e .0)
+
+  pub unbroken-front : isBreak b ≡ false
+  unfolding isBreak
+  unbroken-front =
+      let h = unbroken-high in
+      rw (ne-eqb b 0x0A (λ (z : b ≡ 0x0A). omega arith), ne-eqb b 0x0D (λ (z : b ≡ 0x0D). omega arith))
 
   pub unbroken-rest : allUnbroken t ≡ true
   unfolding allUnbroken
-  unbroken-rest = and-true (not (isBreak b)) (allUnbroken t) e .1
+  unbroken-rest = and-true (ltb 0x0D b) (allUnbroken t) e .1
 
 -- such a text is put as it is
 pub unbroken-plain : (w : Bool) (t : List ℕ) → allUnbroken t ≡ true → plainText false w t ≡ t
@@ -71,7 +74,7 @@ unfolding allUnbroken
 unbroken-both [] t e = (refl, e)
 unbroken-both (b ∷ s) t e =
     let p = unbroken-both s t (unbroken-rest b (s ++ t) e) in
-    (rw (unbroken-front b (s ++ t) e) (p .0), p .1)
+    (rw (lt-ltb 0x0D b (unbroken-high b (s ++ t) e)) (p .0), p .1)
 
 -- a character without a line break among its bytes is none
 no-break : (c : ℕ) → allUnbroken (encode c) ≡ true → isBreak c ≡ false
@@ -102,7 +105,7 @@ unbroken-upper t a e = ap uppercase (sym (unbroken-plain false t e)) ∙ upper-p
 
 -- byte by byte
 module _ (t : List ℕ) (i : ℕ) (h : i < length t) where
-  pub unbroken-step : allUnbroken (drop i t) ≡ (not (isBreak (getD t i 0)) && allUnbroken (drop (i + 1) t))
+  pub unbroken-step : allUnbroken (drop i t) ≡ (ltb 0x0D (getD t i 0) && allUnbroken (drop (i + 1) t))
   unfolding allUnbroken
   unbroken-step = rw (add-one, drop-cons t i 0 h)
 

@@ -15,10 +15,10 @@ unfoldable pub allAscii : List ℕ → Bool
 allAscii [] = true
 allAscii (b ∷ t) = ltb b 0x80 && allAscii t
 
--- no byte is a line break: a Normal chunk then puts each character out as it is
+-- each byte is above the line breaks: a Normal chunk then puts each character out as it is
 unfoldable pub allUnbroken : List ℕ → Bool
 allUnbroken [] = true
-allUnbroken (b ∷ t) = not (isBreak b) && allUnbroken t
+allUnbroken (b ∷ t) = ltb 0x0D b && allUnbroken t
 
 -- whether a list is one Normal chunk of at most 4,096 ASCII bytes
 unfoldable pub isPlain : List ℕ → List ℕ → Bool

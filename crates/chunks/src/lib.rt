@@ -514,21 +514,14 @@ fn all_latin(t: &[u8]) -> bool
     ok & !open
 }
 
-// Whether a byte is no line break.
-fn is_unbroken(b: u8) -> bool
-    ensures { λ r. ⌜ r ≡ not (format_.isBreak b) ⌝ }
-{
-    (b != b'\n') & (b != b'\r')
-}
-
-// Whether no byte is a line break, many at once as well.
+// Whether each byte is above the line breaks. One test a byte, and no other, is taken for many bytes at once.
 fn all_unbroken(t: &[u8]) -> bool
     ensures { λ r. ⌜ r ≡ plain_.allUnbroken (now (t .entry)) ⌝ }
 {
     let mut ok = true;
     let mut i = 0;
     while i < t.len() {
-        ok = ok & is_unbroken(t[i]);
+        ok = ok & (b'\r' < t[i]);
         i = i + 1;
     }
     ok

@@ -160,9 +160,10 @@ datetime-fits d h =
     let (m, (n, (hour, (minute, (second, (hours, (minutes, _))))))) = h .bytes-typed in
     record {
       year-fits = h .year-typed;
-      bytes-fit =
-          (month-there (d .month),
-          (m, (day-there (d .day), (n, (time-there (d .time), (hour, (minute, (second, (sort-fits (clockOf (d .time) .offset), (hours, (minutes, (season-fits (d .season), tt))))))))))));
+      bytes-fit = (
+        month-there (d .month),
+        (m, (day-there (d .day), (n, (time-there (d .time), (hour, (minute, (second, (sort-fits (clockOf (d .time) .offset), (hours, (minutes, (season-fits (d .season), tt))))))))))),
+      );
     }
 
 -- an answer of two structs

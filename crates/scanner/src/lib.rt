@@ -174,31 +174,31 @@ pub fn eat_while(s: &[u8], c: Cursor, class: Class) -> Cursor
     Cursor(eat_each(s, i, class))
 }
 
-// Whether sixteen bytes are spaces. None of them decides where the loop goes on: the compiler takes them all at once.
+// Whether sixty-four bytes are spaces. None of them decides where the loop goes on: the compiler takes them all at once.
 fn are_spaces(s: &[u8], at: usize) -> bool
-    requires { ⌜ at + 16 ≤ length (now s) ⌝ }
-    ensures { λ r. ⌜ (r ≡ true → spec.eatWhile Whitespace (now (s .entry)) (at + 16) ≡ spec.eatWhile Whitespace (now (s .entry)) at) ⌝ }
+    requires { ⌜ at + 64 ≤ length (now s) ⌝ }
+    ensures { λ r. ⌜ (r ≡ true → spec.eatWhile Whitespace (now (s .entry)) (at + 64) ≡ spec.eatWhile Whitespace (now (s .entry)) at) ⌝ }
 {
     let mut ok = true;
     let mut i = 0;
-    while i < 16 {
+    while i < 64 {
         ok = ok & (s[at + i] == b' ');
         i = i + 1;
     }
     ok
 }
 
-// Past spaces, sixteen at a time.
+// Past spaces, sixty-four at a time.
 fn eat_spaces(s: &[u8], at: usize) -> usize
     ensures { λ r. ⌜ spec.eatWhile Whitespace (now (s .entry)) r ≡ spec.eatWhile Whitespace (now (s .entry)) at ⌝ }
 {
     let mut i = at;
     while i < s.len() {
-        if s.len() - i < 16 {
+        if s.len() - i < 64 {
             return i;
         }
         if are_spaces(s, i) {
-            i = i + 16;
+            i = i + 64;
         } else {
             return i;
         }

@@ -1,9 +1,8 @@
 use native.Mathlib.Omega.{arith}
 use mathlib.Core.Path.{_≡_, refl, sym, ap, _∙_}
 use mathlib.Core.Bool.{Bool, _&&_, and-true, and-assoc}
-use Prim.Native.Nat.{_+_, _-_, _≤_}
+use Prim.Native.Nat.{_-_, _≤_}
 use lib.ListN.{length, drop}
-use borrow.Author.Needs.{needs}
 use Rattle.chunks.specs.Plain.{allUnbroken}
 use Rattle.chunks.proofs.Whole.{unbroken-step, unbroken-all}
 use Rattle.chunks.proofs.all_unbroken.Statement.{statement}
@@ -17,20 +16,14 @@ abbrev μ-loop : tie.MeasureT-loop
 
 loop-again : tie.Need-loop-again Inv-loop μ-loop
 loop-again c =
-    let t = c .before .before .before .before .before .args .t .now in
-    let l = c .before .before .before .loop in
+    let t = c .before .before .before .args .t .now in
+    let l = c .before .before .loop in
     let k = l .ok in
-    let rest = allUnbroken (drop (l .i + 1) t) in (
-      and-assoc k _ _
-          ∙ ap (λ (r : Bool). k && (r && rest)) (c .is-unbroken .ensures)
-          ∙ ap (λ (r : Bool). k && r) (sym (unbroken-step t (l .i) (c .before .before .loop-test .taken)))
-          ∙ l .inv .0,
-      omega arith,
-    )
+    (and-assoc k _ _ ∙ ap (λ (r : Bool). k && r) (sym (unbroken-step t (l .i) (c .before .loop-test .taken))) ∙ l .inv .0, omega arith)
 
 returns : tie.Need-returns Inv-loop μ-loop
 returns c =
-    let t = c .before .before .before .args .t .now in
+    let t = c .before .before .args .t .now in
     let l = c .before .loop in
     let k = l .ok in
     sym (and-true k) ∙ ap (λ (r : Bool). k && r) (sym (unbroken-all t (l .i) (c .loop-test .left))) ∙ l .inv .0
@@ -43,7 +36,6 @@ all-unbroken-spec =
     μ-loop
     (λ c. (refl, omega arith))
     (λ c. omega arith)
-    (λ c κs. search needs)
     (λ c. omega arith)
     (λ c. omega arith)
     loop-again

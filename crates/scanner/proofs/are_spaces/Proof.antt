@@ -17,7 +17,7 @@ use Rattle.scanner.proofs.are_spaces.Statement.{statement}
 use Rattle.scanner.proofs.are_spaces.Tie as tie
 
 -- a space is eaten
-on : (s : List ℕ) (at i : ℕ) (ok : Bool) → at + 16 ≤ length s → i < 16 → (ok ≡ true → eatWhile Whitespace s (at + i) ≡ eatWhile Whitespace s at) → (ok && eqb (getD s (at + i) 0) 0x20) ≡ true → eatWhile Whitespace s (at + (i + 1)) ≡ eatWhile Whitespace s at
+on : (s : List ℕ) (at i : ℕ) (ok : Bool) → at + 64 ≤ length s → i < 64 → (ok ≡ true → eatWhile Whitespace s (at + i) ≡ eatWhile Whitespace s at) → (ok && eqb (getD s (at + i) 0) 0x20) ≡ true → eatWhile Whitespace s (at + (i + 1)) ≡ eatWhile Whitespace s at
 on s at i ok h l f e =
     let p = and-true ok (eqb (getD s (at + i) 0) 0x20) e in
     let b : getD s (at + i) 0 ≡ 0x20 = eqb-true _ 0x20 (p .1) in
@@ -27,10 +27,10 @@ on s at i ok h l f e =
     ∙ f (p .0)
 
 abbrev Inv-loop : tie.InvT-loop
-Inv-loop s at ok₀ i₀ ok i = (ok ≡ true → eatWhile Whitespace s (at + i) ≡ eatWhile Whitespace s at) × (i ≤ 16)
+Inv-loop s at ok₀ i₀ ok i = (ok ≡ true → eatWhile Whitespace s (at + i) ≡ eatWhile Whitespace s at) × (i ≤ 64)
 
 abbrev μ-loop : tie.MeasureT-loop
-μ-loop s at ok₀ i₀ ok i = 16 - i
+μ-loop s at ok₀ i₀ ok i = 64 - i
 
 loop-holds : tie.Need-loop-holds Inv-loop μ-loop
 loop-holds c = (λ _. ap (eatWhile Whitespace _) (add-zero _), omega arith)
