@@ -8,6 +8,7 @@ pub mod Faults
 pub mod Plains
 pub mod Whole
 pub mod Latins
+pub mod Raises
 pub mod Lasts
 pub mod Turn
 pub mod Proper

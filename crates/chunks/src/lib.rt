@@ -456,13 +456,47 @@ fn upper_bytes(buf: &mut [u8])
     }
 }
 
-// The same of any text.
+// A byte in upper case behind another, in a text of characters up to U+00FF.
+fn raise(p: u8, b: u8) -> u8
+    ensures { λ r. ⌜ r ≡ latin_.raised p b ⌝ }
+{
+    let lower = (p == 0xC3) & ((0xA0 <= b) & (b != 0xB7));
+    if lower {
+        return b - 32;
+    }
+    plain_byte(true, b)
+}
+
+// The same of a text of characters up to U+00FF, if each one's upper case is itself or 32 below it.
+fn upper_latin(buf: &mut [u8])
+    requires { ⌜ (latin_.allLatin 0 (now buf) ≡ true) × (latin_.noneOdd 0 (now buf) ≡ true) ⌝ }
+    ensures { λ _. ⌜ now (buf .exit) ≡ sets (now (buf .entry)) 0 (upper_.uppercase (now (buf .entry))) ⌝ }
+{
+    let mut p = 0;
+    let mut i = 0;
+    while i < buf.len() {
+        let b = buf[i];
+        buf[i] = raise(p, b);
+        p = b;
+        i = i + 1;
+    }
+}
+
+// The same of any text. A look at each byte before any is decoded pays on a long one.
 fn upper_all(buf: &mut [u8])
     ensures { λ _. ⌜ now (buf .exit) ≡ sets (now (buf .entry)) 0 (upper_.uppercase (now (buf .entry))) ⌝ }
 {
     if all_ascii(buf) {
         upper_bytes(buf);
         return;
+    }
+    if 32 <= buf.len() {
+        if all_latin(buf) {
+            if none_odd(buf) {
+                upper_latin(buf);
+                return;
+            }
+        }
     }
     upper_each(buf);
 }
@@ -512,6 +546,30 @@ fn all_latin(t: &[u8]) -> bool
     }
     let open = is_lead(p);
     ok & !open
+}
+
+// Whether two bytes are a character whose upper case is neither itself nor 32 below it.
+fn is_odd(p: u8, b: u8) -> bool
+    ensures { λ r. ⌜ r ≡ latin_.isOdd p b ⌝ }
+{
+    ((p == 0xC2) & (b == 0xB5)) | ((p == 0xC3) & ((b == 0x9F) | (b == 0xBF)))
+}
+
+// Whether there is none, many bytes at once as well.
+fn none_odd(t: &[u8]) -> bool
+    ensures { λ r. ⌜ r ≡ latin_.noneOdd 0 (now (t .entry)) ⌝ }
+{
+    let mut ok = true;
+    let mut p = 0;
+    let mut i = 0;
+    while i < t.len() {
+        let b = t[i];
+        let odd = is_odd(p, b);
+        ok = ok & !odd;
+        p = b;
+        i = i + 1;
+    }
+    ok
 }
 
 // Whether each byte is above the line breaks. One test a byte, and no other, is taken for many bytes at once.

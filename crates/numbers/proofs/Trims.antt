@@ -6,18 +6,20 @@ use mathlib.Core.List.{List, [], _∷_}
 use Prim.Native.Nat.{ℕ, zero, suc, _+_, _-_, _≤_, _<_}
 use native.Mathlib.Nat.{add-zero, le-refl, lt-irrefl}
 use native.Mathlib.Omega.{arith}
+use borrow.Author.Tests.{lt-ltb, le-ltb, le-leb}
 use lib.ListN.{length, getD, take, drop, length-drop}
 use Rattle.chars.specs.Pick.{pick}
-use Rattle.chars.specs.Utf8.{decodeAt}
+use Rattle.chars.specs.Utf8.{lenOf, isCont, code2, two, decode, decodeAt}
 use Rattle.chars.specs.declared.Decoded.{Decoded}
 use Rattle.chars.specs.declared.Decoded.the-variants.{Char, Bad, End}
 use Rattle.chars.proofs.Cases.{of-test}
-use Rattle.chars.proofs.Laws.{Sound, char, bad, end, sound, found, first-end, past-end, ascii}
+use Rattle.chars.proofs.Laws.{Sound, char, bad, end, sound, found, first-end, past-end, ascii, inside-is, cont}
 use Rattle.scanner.specs.declared.Class.the-variants.{Whitespace}
 use Rattle.scanner.specs.Class.{inClass}
 use Rattle.scanner.specs.Scan.{lenIn, matchLen, eatWhile, part}
 use Rattle.scanner.proofs.Walk.{walk-stop, walk-go, walk-kept, walk-ended, walk-inside}
-use Rattle.scanner.proofs.Laws.{at-least, stopped, all-eaten, go-ascii, stop-ascii}
+use Rattle.scanner.proofs.Laws.{at-least, stopped, stop, all-eaten, go-ascii, stop-ascii}
+use Rattle.scanner.proofs.Blanks.{match-two}
 use Rattle.scanner.proofs.Front.{From, from-start, front-rest, front-stop, front-char, front-end, front-past}
 use Rattle.numbers.specs.Trim.{stepBy, stepOver, trimStep, trimFrom, trimEnd, trim, Over, past, ill, Solid, Ended, empty, both, Trimmed}
 
@@ -59,6 +61,22 @@ module _ (s : List ℕ) (at : ℕ) (h : at < length s) (l : getD s at 0 < 128) w
   white-step w p =
       rw (go-ascii Whitespace s at h l w)
       (on-white at (eatWhile Whitespace s (at + 1)) (decodeAt s (eatWhile Whitespace s (at + 1))) (at-least Whitespace s (at + 1)) p)
+
+-- a character of two bytes from U+00C0 on
+pub pair-step : (s : List ℕ) (i : ℕ) → i < length s → 0xC3 ≤ getD s i 0 → getD s i 0 < 0xE0 → isCont (getD s (i + 1) 0) ≡ true → trimStep s i ≡ 2
+unfolding trimStep stepOver stepBy decode lenOf two pick
+pair-step s i h l m k =
+    let d = cont (getD s (i + 1) 0) k in
+    rw (
+      stop Whitespace s i (match-two s i l m),
+      inside-is s i h,
+      le-ltb (getD s i 0) 0x80 (omega arith),
+      le-ltb (getD s i 0) 0xC0 (omega arith),
+      lt-ltb (getD s i 0) 0xE0 m,
+      k,
+      le-leb 0x80 (code2 (getD s i 0) (getD s (i + 1) 0)) (omega (arith, d .low, d .high)),
+    )
+    (omega arith)
 
 one-on : (i j : ℕ) → i + 1 + j ≡ i + suc j
 one-on i j = omega arith

@@ -141,6 +141,46 @@ fn is_stride(s: &[u8], at: usize) -> bool
     ok
 }
 
+// Whether a character of two bytes from U+00C0 on stands at a place: it is no white space.
+fn is_pair(s: &[u8], i: usize) -> bool
+    ensures { λ r. ⌜ (r ≡ true → trims.trimStep (now (s .entry)) i ≡ 2) ⌝ }
+{
+    if i < s.len() {
+        let a = s[i];
+        let b = chars::byte_at(s, i + 1);
+        return ((0xC3 <= a) & (a < 0xE0)) & ((0x80 <= b) & (b < 0xC0));
+    }
+    false
+}
+
+// A step, with a look at such a character first.
+fn trim_quick(s: &[u8], i: usize) -> usize
+    ensures { λ r. ⌜ r ≡ trims.trimStep (now (s .entry)) i ⌝ }
+{
+    if is_pair(s, i) {
+        return 2;
+    }
+    trim_step(s, i)
+}
+
+// A few steps from a place on.
+fn trim_some(s: &[u8], at: usize) -> usize
+    requires { ⌜ at ≤ length (now s) ⌝ }
+    ensures { λ r. ⌜ (trims.trimFrom (now (s .entry)) r ≡ trims.trimFrom (now (s .entry)) at) × (at ≤ r) × (r ≤ length (now (s .entry))) ⌝ }
+{
+    let mut i = at;
+    let mut k: usize = 0;
+    while k < 8 {
+        let n = trim_quick(s, i);
+        if n == 0 {
+            return i;
+        }
+        i = i + n;
+        k = k + 1;
+    }
+    i
+}
+
 // On by strides while sixteen bytes are left, and by steps between them.
 fn trim_strides(s: &[u8]) -> usize
     ensures { λ r. ⌜ trims.trimFrom (now (s .entry)) r ≡ trims.trimEnd (now (s .entry)) ⌝ }
@@ -150,11 +190,11 @@ fn trim_strides(s: &[u8]) -> usize
         if is_stride(s, i) {
             i = i + 16;
         } else {
-            let n = trim_step(s, i);
-            if n == 0 {
+            let e = trim_some(s, i);
+            if e == i {
                 return i;
             }
-            i = i + n;
+            i = e;
         }
     }
     i
