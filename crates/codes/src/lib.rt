@@ -2,12 +2,14 @@
 // said here at once is what the readers say (`code_laws`); other texts are for them.
 ghost use mathlib.Core.Path.{_≡_};
 ghost use Prim.Native.Nat.{_+_, _*_, _≤_, _<_};
-ghost use mathlib.Core.Option.{none};
 ghost use lib.ListN.{length};
 ghost use lib.IntN.{pos};
+ghost use Rattle.dates.specs.declared.OptionTime.the-variants.{NoTime};
+ghost use Rattle.datefield.specs.Text.{lastByte, isUncertain, isApproximate, isDots};
+ghost use mathlib.Core.Option.{none};
+ghost use Rattle.codes.specs.Words as words;
 ghost use Rattle.codes.specs.Points as spec;
 ghost use Rattle.codes.specs.Texts as texts;
-ghost use Rattle.codes.specs.Words as words;
 ghost use Rattle.codes.specs.Ported as ported_;
 ghost use Rattle.codes.specs.Parts as parts;
 ghost use Rattle.points.specs.Point.{windowed};
@@ -93,50 +95,165 @@ fn signed(n: u16) -> i32
     n as i32
 }
 
-// A year as a number of the word.
-fn wide_year(n: u16) -> u64
-    ensures { λ r. ⌜ r ≡ n ⌝ }
-{
-    n as u64
-}
-
-// A month or a day likewise.
-fn wide_part(n: u8) -> u64
-    ensures { λ r. ⌜ r ≡ n ⌝ }
-{
-    n as u64
-}
-
-// The word of a year and a month.
+// A year and a month, counted from zero, as a word.
 fn with_month(y: u16, m: u8) -> u64
     ensures { λ r. ⌜ r ≡ words.dayWordOf (pos y) 1 m 0 0 ⌝ }
 {
-    wide_year(y) + 4294967296 + 1099511627776 * wide_part(m)
+    y as u64 + 4294967296 + 1099511627776 * (m as u64)
 }
 
-// The word of a year, a month and a day.
+// The same with a day.
 fn with_day(y: u16, m: u8, d: u8) -> u64
     ensures { λ r. ⌜ r ≡ words.dayWordOf (pos y) 1 m 1 d ⌝ }
 {
-    with_month(y, m) + 281474976710656 + 72057594037927936 * wide_part(d)
+    with_month(y, m) + 281474976710656 + 72057594037927936 * (d as u64)
+}
+
+// dddd
+fn year_word(s: &[u8]) -> u64
+    requires { ⌜ 4 ≤ length (now s) ⌝ }
+    ensures { λ r. ⌜ r ≡ words.pointWord (spec.yearPoint (now (s .entry))) ⌝ }
+{
+    let y = year(s);
+    if y < 10000 {
+        return y as u64;
+    }
+    NOTHING
+}
+
+// dddd-mm
+fn month_word(s: &[u8]) -> u64
+    requires { ⌜ 7 ≤ length (now s) ⌝ }
+    ensures { λ r. ⌜ r ≡ words.pointWord (spec.monthPoint (now (s .entry))) ⌝ }
+{
+    let y = year(s);
+    let m = part_at(s, 4);
+    if y < 10000 {
+        if m < 12 {
+            return with_month(y, m);
+        }
+    }
+    NOTHING
+}
+
+// dddd-mm-dd at the front, whatever stands behind it.
+fn day_word(s: &[u8]) -> u64
+    requires { ⌜ 10 ≤ length (now s) ⌝ }
+    ensures { λ r. ⌜ r ≡ words.pointWord (spec.dayPoint (now (s .entry)) NoTime) ⌝ }
+{
+    let y = year(s);
+    let m = part_at(s, 4);
+    let d = part_at(s, 7);
+    if y < 10000 {
+        if m < 12 {
+            if d < dates::days_in_month(Month(m), signed(y)) {
+                return with_day(y, m, d);
+            }
+        }
+    }
+    NOTHING
+}
+
+// A point: dddd, dddd-mm or dddd-mm-dd.
+fn point(s: &[u8]) -> u64
+    ensures { λ r. ⌜ r ≡ words.pointWord (spec.pointOf (now (s .entry))) ⌝ }
+{
+    let n = s.len();
+    if n == 4 {
+        return year_word(s);
+    }
+    if n == 7 {
+        return month_word(s);
+    }
+    if n == 10 {
+        return day_word(s);
+    }
+    NOTHING
+}
+
+// Four bytes as a number: the first is the lowest.
+fn four_bytes(a: u8, b: u8, c: u8, d: u8) -> u64
+    ensures { λ r. ⌜ (r ≡ words.fourBytes a b c d) × (r < 4294967296) ⌝ }
+{
+    a as u64 + 256 * (b as u64) + 65536 * (c as u64) + 16777216 * (d as u64)
+}
+
+// Thh:mm:ss behind the day.
+fn clock(s: &[u8]) -> u64
+    requires { ⌜ 19 ≤ length (now s) ⌝ }
+    ensures { λ r. ⌜ r ≡ words.clockWord (spec.isClock (now (s .entry))) (spec.twoAt (now (s .entry)) 11) (spec.twoAt (now (s .entry)) 14) (spec.twoAt (now (s .entry)) 17) ⌝ }
+{
+    let h = two(s[11], s[12]);
+    let m = two(s[14], s[15]);
+    let c = two(s[17], s[18]);
+    if s[10] != b'T' {
+        return NOTHING;
+    }
+    if 24 <= h {
+        return NOTHING;
+    }
+    if s[13] != b':' {
+        return NOTHING;
+    }
+    if 60 <= m {
+        return NOTHING;
+    }
+    if s[16] != b':' {
+        return NOTHING;
+    }
+    if 60 <= c {
+        return NOTHING;
+    }
+    four_bytes(1, h, m, c)
+}
+
+// hh:mm behind a sign.
+fn shift(s: &[u8], sort: u8) -> u64
+    requires { ⌜ 25 ≤ length (now s) ⌝ }
+    ensures { λ r. ⌜ r ≡ words.shiftWord (spec.isShift (now (s .entry))) sort (spec.twoAt (now (s .entry)) 20) (spec.twoAt (now (s .entry)) 23) ⌝ }
+{
+    let h = two(s[20], s[21]);
+    let m = two(s[23], s[24]);
+    if 24 <= h {
+        return NOTHING;
+    }
+    if s[22] != b':' {
+        return NOTHING;
+    }
+    if 60 <= m {
+        return NOTHING;
+    }
+    4294967296 * four_bytes(sort, h, m, 0)
+}
+
+// What stands behind the seconds.
+fn zone(s: &[u8]) -> u64
+    requires { ⌜ 19 ≤ length (now s) ⌝ }
+    ensures { λ r. ⌜ r ≡ words.zoneWord (spec.zoneOf (now (s .entry))) ⌝ }
+{
+    let n = s.len();
+    if n == 19 {
+        return 0;
+    }
+    let b = s[19];
+    if n == 20 {
+        if b == b'Z' {
+            return 4294967296;
+        }
+        return NOTHING;
+    }
+    if n == 25 {
+        if b == b'+' {
+            return shift(s, 2);
+        }
+        if b == b'-' {
+            return shift(s, 3);
+        }
+    }
+    NOTHING
 }
 
 // ---- texts
-
-// That nothing is said.
-fn no_words() -> Words
-    ensures { λ r. ⌜ r ≡ words.wordsOr none ⌝ }
-{
-    Words {
-        start: 0,
-        end: 0,
-        first: 0,
-        first_time: 0,
-        second: 0,
-        second_time: 0,
-        last: NOTHING,
-    }
-}
 
 // Whether a slash stands at a place.
 fn slash_at(s: &[u8], at: usize) -> bool
@@ -164,6 +281,172 @@ fn slash_of(s: &[u8]) -> usize
     10
 }
 
+// Nothing is said.
+fn no_words() -> Words
+    ensures { λ r. ⌜ r ≡ words.wordsOr none ⌝ }
+{
+    Words {
+        start: 0,
+        end: 0,
+        first: 0,
+        first_time: 0,
+        second: 0,
+        second_time: 0,
+        last: NOTHING,
+    }
+}
+
+// A shape with one point, if there is one.
+fn one(shape: u64, w: u64, marks: u64) -> Words
+    requires { ⌜ (shape ≤ 3) × (marks ≤ 65792) ⌝ }
+    ensures { λ r. ⌜ (w ≡ words.nothing → r ≡ words.wordsOr none) ⌝ }
+    ensures { λ r. ⌜ ((w ≡ words.nothing → ⊥) → r ≡ words.words 0 0 w 0 0 0 (shape + marks)) ⌝ }
+{
+    if w == NOTHING {
+        return no_words();
+    }
+    Words {
+        start: 0,
+        end: 0,
+        first: w,
+        first_time: 0,
+        second: 0,
+        second_time: 0,
+        last: shape + marks,
+    }
+}
+
+// A range of two points, if there are two.
+fn both(a: u64, b: u64, marks: u64) -> Words
+    requires { ⌜ marks ≤ 65792 ⌝ }
+    ensures { λ r. ⌜ (a ≡ words.nothing → r ≡ words.wordsOr none) ⌝ }
+    ensures { λ r. ⌜ (b ≡ words.nothing → r ≡ words.wordsOr none) ⌝ }
+    ensures { λ r. ⌜ ((a ≡ words.nothing → ⊥) → (b ≡ words.nothing → ⊥) → r ≡ words.words 0 0 a 0 b 0 (3 + marks)) ⌝ }
+{
+    if a == NOTHING {
+        return no_words();
+    }
+    if b == NOTHING {
+        return no_words();
+    }
+    Words {
+        start: 0,
+        end: 0,
+        first: a,
+        first_time: 0,
+        second: b,
+        second_time: 0,
+        last: 3 + marks,
+    }
+}
+
+// Exactly two dots.
+fn is_dots(s: &[u8]) -> bool
+    ensures { λ r. ⌜ r ≡ isDots (now (s .entry)) ⌝ }
+{
+    if s.len() == 2 {
+        if s[0] == b'.' {
+            return s[1] == b'.';
+        }
+    }
+    false
+}
+
+// The texts on both sides of a slash.
+fn halves(a: &[u8], b: &[u8], marks: u64) -> Words
+    requires { ⌜ marks ≤ 65792 ⌝ }
+    ensures { λ r. ⌜ r ≡ words.valueOr (texts.halves (now (a .entry)) (now (b .entry))) marks ⌝ }
+{
+    if is_dots(a) {
+        return one(2, point(b), marks);
+    }
+    if is_dots(b) {
+        return one(1, point(a), marks);
+    }
+    both(point(a), point(b), marks)
+}
+
+// A point with a time.
+fn timed(s: &[u8], marks: u64) -> Words
+    requires { ⌜ (19 ≤ length (now s)) × (marks ≤ 65792) ⌝ }
+    ensures { λ r. ⌜ r ≡ words.valueOr (texts.timed (now (s .entry))) marks ⌝ }
+{
+    let d = day_word(s);
+    let c = clock(s);
+    let z = zone(s);
+    if d == NOTHING {
+        return no_words();
+    }
+    if c == NOTHING {
+        return no_words();
+    }
+    if z == NOTHING {
+        return no_words();
+    }
+    Words {
+        start: 0,
+        end: 0,
+        first: d,
+        first_time: c + z,
+        second: 0,
+        second_time: 0,
+        last: marks,
+    }
+}
+
+// A text without its mark, which is a number.
+fn unmarked(s: &[u8], marks: u64) -> Words
+    requires { ⌜ marks ≤ 65792 ⌝ }
+    ensures { λ r. ⌜ r ≡ words.valueOr (texts.valueOf (now (s .entry))) marks ⌝ }
+{
+    let k = slash_of(s);
+    if slash_at(s, k) {
+        return halves(&s[..k], &s[k + 1..], marks);
+    }
+    if s.len() < 19 {
+        return one(0, point(s), marks);
+    }
+    timed(s, marks)
+}
+
+// A mark as a number.
+fn mark(b: u8) -> u64
+    ensures { λ r. ⌜ r ≡ words.marksOf (isUncertain b) (isApproximate b) ⌝ }
+{
+    if b == b'?' {
+        return 256;
+    }
+    if b == b'~' {
+        return 65536;
+    }
+    if b == b'%' {
+        return 65792;
+    }
+    0
+}
+
+// That of a text's last byte.
+fn last_mark(s: &[u8]) -> u64
+    ensures { λ r. ⌜ r ≡ words.marksOf (isUncertain (lastByte (now (s .entry)))) (isApproximate (lastByte (now (s .entry)))) ⌝ }
+{
+    let n = s.len();
+    if n == 0 {
+        return 0;
+    }
+    mark(s[n - 1])
+}
+
+// A text in the form that Dates are written in, as words.
+pub fn text(s: &[u8]) -> Words
+    ensures { λ r. ⌜ r ≡ words.wordsOr (texts.written (now (s .entry))) ⌝ }
+{
+    let m = last_mark(s);
+    if m == 0 {
+        return unmarked(s, 0);
+    }
+    unmarked(&s[..s.len() - 1], m)
+}
+
 // ---- ported
 
 // The numbers of three refusals.
@@ -172,6 +455,20 @@ const DAY_OUT_OF_RANGE: u64 = 2;
 const MONTH_OUT_OF_RANGE: u64 = 3;
 
 const INVALID_FORMAT: u64 = 7;
+
+// A year as a number of the word.
+fn wide_year(n: u16) -> u64
+    ensures { λ r. ⌜ r ≡ n ⌝ }
+{
+    n as u64
+}
+
+// A month or a day likewise.
+fn wide_part(n: u8) -> u64
+    ensures { λ r. ⌜ r ≡ n ⌝ }
+{
+    n as u64
+}
 
 // A refusal by its number, at a place of the text.
 fn refused(number: u64, start: u64, end: u64) -> Words

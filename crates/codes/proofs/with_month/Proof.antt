@@ -6,15 +6,7 @@ use Rattle.codes.proofs.with_month.Tie as tie
 
 returns : tie.Need-returns
 unfolding twos
-returns c = omega (arith, c .before .wide-year .ensures, c .wide-part .ensures)
+returns c = omega arith
 
 pub with-month-spec : {M : Type 1} → statement M
-with-month-spec =
-    tie.close
-    (tie.spec
-    (λ c κs. search needs)
-    (λ c. search needs)
-    (λ c κs. search needs)
-    (λ c. search needs)
-    (λ c. search needs)
-    returns)
+with-month-spec = tie.close (tie.spec (λ c. search needs) (λ c. search needs) (λ c. search needs) returns)
