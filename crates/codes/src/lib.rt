@@ -695,6 +695,49 @@ fn day_or_days(s: &[u8]) -> Words
     bad_day(0, s)
 }
 
+// A range whose first half is a point, and whose second is a day that is none.
+fn bad_range(s: &[u8], k: usize) -> Words
+    requires { ⌜ k < 50 ⌝ }
+    ensures { λ r. ⌜ r ≡ words.wordsOr (ported_.badRange (now (s .entry)) k) ⌝ }
+{
+    if slash_at(s, k) {
+        if s.len() != k + 11 {
+            return no_words();
+        }
+        if point(&s[..k]) == NOTHING {
+            return no_words();
+        }
+        return bad_day(k as u64 + 1, &s[k + 1..]);
+    }
+    no_words()
+}
+
+// What the ported reader says of a text that is no written one.
+pub fn ported(s: &[u8]) -> Words
+    ensures { λ r. ⌜ r ≡ words.wordsOr (ported_.ported (now (s .entry))) ⌝ }
+{
+    let n = s.len();
+    if n == 0 {
+        return refused(INVALID_FORMAT, 0, 0);
+    }
+    if b':' <= s[0] {
+        return words_refused(s);
+    }
+    if n == 2 {
+        return short_year(s);
+    }
+    if n == 4 {
+        return years_of(s);
+    }
+    if n == 7 {
+        return months_of(s);
+    }
+    if n == 10 {
+        return day_or_days(s);
+    }
+    bad_range(s, slash_of(s))
+}
+
 // ---- fields
 
 // One to four digits as a number; 10000 for other texts. Zeros in front change nothing.
