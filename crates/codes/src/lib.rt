@@ -502,15 +502,15 @@ fn at_word(a: u64) -> Words
 }
 
 // A range of two points without times.
-fn between_words(a: u64, b: u64) -> Words
-    ensures { λ r. ⌜ r ≡ words.words 0 0 a 0 b 0 3 ⌝ }
+fn between_words(first: u64, second: u64) -> Words
+    ensures { λ r. ⌜ r ≡ words.words 0 0 first 0 second 0 3 ⌝ }
 {
     Words {
         start: 0,
         end: 0,
-        first: a,
+        first,
         first_time: 0,
-        second: b,
+        second,
         second_time: 0,
         last: 3,
     }
