@@ -77,7 +77,7 @@ part-most s at =
     (λ _. omega arith)
 
 -- a point without a time: its second word is 0, and its first is not the one that says nothing
-abbrev Plain : Option Datetime → Type 0
+abbrev pub Plain : Option Datetime → Type 0
 Plain none = Unit {0}
 Plain (some d) = (timeWord d ≡ 0) × (dayWord d < nothing)
 

@@ -577,7 +577,7 @@ fn three_at_once(
     if d == NOTHING {
         return codes::no_words();
     }
-    codes::day_words(y + m + d)
+    codes::at_word(y + m + d)
 }
 
 // Three fields by the way for all. A list that is not present is not looked at, whatever is passed for it; nor is a day list without a month list.
