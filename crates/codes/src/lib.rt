@@ -677,6 +677,8 @@ pub fn pack(r: ReadDate) -> Words
             };
         }
     }
+}
+
 // ---- ported
 
 // The numbers of three refusals.
