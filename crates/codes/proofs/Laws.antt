@@ -336,3 +336,9 @@ last-accepted (Refused e) h = absurd (omega (arith, h, refused-last e))
 pub last-refused : (r : ReadDate) → 4294967296 ≤ wordsOr (some r) .last → (e : Refusal) × (r ≡ Refused e)
 last-refused (Accepted d) h = absurd (omega (arith, h, accepted-last d))
 last-refused (Refused e) h = (e, refl)
+
+-- the last word of what is said is never the one that says nothing
+pub untold : (x : Option ReadDate) → wordsOr x .last ≡ nothing → x ≡ none
+untold none e = refl
+untold (some (Accepted d)) e = absurd (omega (arith, e, accepted-last d))
+untold (some (Refused q)) e = let n = number-in (q .kind) .1 in absurd (omega (arith, e))

@@ -16,6 +16,7 @@ ghost use Rattle.codes.specs.Ported as ported_;
 ghost use Rattle.codes.specs.Parts as parts;
 ghost use Rattle.points.specs.Point.{windowed};
 ghost use Rattle.fields.specs.Year.{beforeChrist};
+ghost use Rattle.refusals.specs.declared.ReadDate.{ReadDate};
 use chars::is_digit;
 use dates::DateValue;
 use dates::Datetime;
@@ -676,6 +677,34 @@ pub fn pack(r: ReadDate) -> Words
                 last: 4294967296 * four_bytes(refusals::number(kind), 0, 0, 0),
             };
         }
+    }
+}
+
+// The sum, or the largest number where it would be above that.
+fn farther(a: u64, b: u64) -> u64
+    ensures { λ r. ⌜ (a + b < 18446744073709551616 → r ≡ a + b) ⌝ }
+{
+    if NOTHING - b < a {
+        return NOTHING;
+    }
+    a + b
+}
+
+// The words of an answer whose refusal moves with a list's span.
+pub fn moved(w: Words, start: u64) -> Words
+    ensures { λ r. ⌜ ((x : ReadDate) → w ≡ words.wordsOf x → ported_.Movable x → start < 0x8000000000000000 → r ≡ words.wordsOf (ported_.movedBy start x)) ⌝ }
+{
+    if w.last < 4294967296 {
+        return w;
+    }
+    Words {
+        start: farther(w.start, start),
+        end: farther(w.end, start),
+        first: w.first,
+        first_time: w.first_time,
+        second: w.second,
+        second_time: w.second_time,
+        last: w.last,
     }
 }
 

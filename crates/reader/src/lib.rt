@@ -169,7 +169,10 @@ fn at_once_ported(bytes: &[u8], table: &[u64]) -> Words
 {
     if is_one_normal(bytes, table) {
         if table[2] < 0x8000000000000000 {
-            return codes::moved(codes::ported(bytes), table[2]);
+            let w = codes::ported(bytes);
+            if w.last != NOTHING {
+                return codes::moved(w, table[2]);
+            }
         }
     }
     codes::no_words()

@@ -15,7 +15,7 @@ returns-2 c =
     let m = c .before .minutes-of in
     let eh = rw o at (h .ensures) in
     let em = rw o at (m .ensures) in
-    (rw (t .1, c .before .before .before .before .four-bytes2 .ensures .0, c .four-bytes3 .ensures .0, c .before .before .before .offset-sort .ensures, eh, em, c .before .before .before .before .before .before .before .before .before .season-number .ensures) refl, rw (t .1) (omega (arith, c .before .before .before .before .before .before .known-told .given, h .ok, m .ok, eh, em)))
+    (rw (t .1, c .before .before .before .before .four-bytes2 .ensures .0, c .four-bytes3 .ensures .0, c .before .before .before .offset-sort .ensures, eh, em, c .before .before .before .before .before .before .before .before .before .season-number .ensures), rw (t .1) (omega (arith, c .before .before .before .before .before .before .known-told .given, h .ok, m .ok, eh, em)))
 
 pub time-word-spec : {M : Type 1} → statement M
 time-word-spec =
