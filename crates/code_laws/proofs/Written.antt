@@ -116,9 +116,9 @@ plain-list b table o u = Lists.plain-list b table o (omega (arith, u .short)) (c
 
 module _ (b table : List ℕ) {r : ReadDate} where
   -- what is said of a list is said of the text of one Normal chunk
-  of-list : {x : ReadDate} → (oneNormal b table ≡ true → written b ≡ some r → x ≡ r) → listWritten b table ≡ some r → x ≡ r
+  of-list : {A : Type 0} → (oneNormal b table ≡ true → written b ≡ some r → A) → listWritten b table ≡ some r → A
   unfolding listWritten
-  of-list {x} f = by-test (λ (a : Option ReadDate). a ≡ some r → x ≡ r) (oneNormal b table) f (λ _ e. let z : _≡_ {A = ℕ} 0 1 = cc in absurd (omega arith))
+  of-list {A} f = by-test (λ (a : Option ReadDate). a ≡ some r → A) (oneNormal b table) f (λ _ e. let z : _≡_ {A = ℕ} 0 1 = cc in absurd (omega arith))
 
   -- what is said at once of a list is what the ported reader says,
   pub written-parsed : listWritten b table ≡ some r → parsed b table ≡ r
@@ -135,6 +135,10 @@ module _ (b table : List ℕ) {r : ReadDate} where
       let u = answer-usual (said e) in
       let p = plain-list b table o u in
       sym (strict-clean b table (p .clean) (sym (p .text false ∙ clear-text false false (u .clear)))) ∙ text-strict b e
+
+  -- its numbers are of their types
+  pub list-typed : listWritten b table ≡ some r → Typed r
+  list-typed = of-list λ o e. written-typed b e
 
 -- ---- words
 

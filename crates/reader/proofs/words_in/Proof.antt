@@ -7,9 +7,10 @@ use Prim.Native.Nat.{ℕ}
 use native.Mathlib.Omega.{arith}
 use lib.Seq.{length-take-le}
 use mathlib.Core.Path.{sym, _∙_}
+use Rattle.reader.proofs.Said.{carried}
 use borrow.Author.Needs.{needs}
-use Rattle.reader.proofs.parse_in.Statement.{statement}
-use Rattle.reader.proofs.parse_in.Tie as tie
+use Rattle.reader.proofs.words_in.Statement.{statement}
+use Rattle.reader.proofs.words_in.Tie as tie
 
 -- the list is clean, and the buffer's front is its text
 module _ (c : tie.After-known-told) where
@@ -33,11 +34,11 @@ module _ (c : tie.After-known-told) where
 enum-known-n : tie.Need-enum-known-n
 enum-known-n c = c .match .keys1
 
-slice-reshare-prefix-parse-text : tie.Need-slice-reshare-prefix-parse-text
-slice-reshare-prefix-parse-text c = omega (arith, told c .within)
+slice-reshare-prefix-text-words : tie.Need-slice-reshare-prefix-text-words
+slice-reshare-prefix-text-words c = omega (arith, told c .within)
 
-slice-aggregate-parse-text : tie.Need-slice-aggregate-parse-text
-slice-aggregate-parse-text c = sym (length-take-le _ (filled (c .before)) (omega (arith, told (c .before) .within)))
+slice-aggregate-text-words : tie.Need-slice-aggregate-text-words
+slice-aggregate-text-words c = sym (length-take-le _ (filled (c .before)) (omega (arith, told (c .before) .within)))
 
 enum-known-e : tie.Need-enum-known-e
 enum-known-e c = c .match .keys2
@@ -45,23 +46,25 @@ enum-known-e c = c .match .keys2
 returns : tie.Need-returns
 returns c =
     let p = c .before .before .before in
-    c .parse-text .ensures ∙ rw (c .before .span .ensures) (parsed-clean (list p) (numbers p) (told p .clean) (told p .front))
+    carried (rw (c .before .span .ensures) (parsed-clean (list p) (numbers p) (told p .clean) (told p .front))) (c .text-words .ensures)
 
 returns-2 : tie.Need-returns-2
 returns-2 c =
     let s = c .before .before .before .before .before .before .before .before .before .before in
     let a = s .args in
     let e = c .before .before .before .before .before .format-uppercase .ensures in
-    parsed-faulty (a .bytes .now) (a .table .now) (is-fault true (a .bytes .now) (a .table .now) (a .buf .now) (e .0) (e .1) (c .before .e .given .1) (s .pre))
+    carried
+    (parsed-faulty (a .bytes .now) (a .table .now) (is-fault true (a .bytes .now) (a .table .now) (a .buf .now) (e .0) (e .1) (c .before .before .e .given .1) (s .pre)))
+    (c .pack .ensures)
 
-pub parse-in-spec : {M : Type 1} → statement M
-parse-in-spec =
+pub words-in-spec : {M : Type 1} → statement M
+words-in-spec =
     tie.close
     (tie.spec
     (λ c κs. search needs)
     enum-known-n
-    slice-reshare-prefix-parse-text
-    slice-aggregate-parse-text
+    slice-reshare-prefix-text-words
+    slice-aggregate-text-words
     (λ c κs. search needs)
     (λ c κs. search needs)
     enum-known-e
