@@ -6,6 +6,7 @@ ghost use lib.ListN.{length};
 ghost use Rattle.numbers.specs.Number as spec;
 ghost use Rattle.chars.specs.Signs.{signed};
 ghost use Rattle.numbers.specs.Trim as trims;
+ghost use Rattle.numbers.specs.Steps.{Steps};
 ghost use Rattle.numbers.specs.Parse as whole;
 use chars::Decoded;
 use chars::digit;
@@ -163,27 +164,33 @@ fn trim_quick(s: &[u8], i: usize) -> usize
     trim_step(s, i)
 }
 
+// A place that is reached by steps, and whether no step goes on from it.
+struct Reached {
+    at: usize,
+    over: bool,
+}
+
 // A few steps from a place on.
-fn trim_some(s: &[u8], at: usize) -> usize
+fn trim_some(s: &[u8], at: usize) -> Reached
     requires { ⌜ at ≤ length (now s) ⌝ }
-    ensures { λ r. ⌜ (trims.trimFrom (now (s .entry)) r ≡ trims.trimFrom (now (s .entry)) at) × (at ≤ r) × (r ≤ length (now (s .entry))) ⌝ }
+    ensures { λ r. ⌜ Steps (now (s .entry)) at (r .at) (r .over) ⌝ }
 {
     let mut i = at;
     let mut k: usize = 0;
     while k < 8 {
         let n = trim_quick(s, i);
         if n == 0 {
-            return i;
+            return Reached { at: i, over: true };
         }
         i = i + n;
         k = k + 1;
     }
-    i
+    Reached { at: i, over: false }
 }
 
 // On by strides while sixteen bytes are left, and by steps between them.
-fn trim_strides(s: &[u8]) -> usize
-    ensures { λ r. ⌜ trims.trimFrom (now (s .entry)) r ≡ trims.trimEnd (now (s .entry)) ⌝ }
+fn trim_strides(s: &[u8]) -> Reached
+    ensures { λ r. ⌜ (trims.trimFrom (now (s .entry)) (r .at) ≡ trims.trimEnd (now (s .entry))) × (r .over ≡ true → trims.trimStep (now (s .entry)) (r .at) ≡ 0) ⌝ }
 {
     let mut i = 0;
     while 16 <= s.len() - i {
@@ -191,20 +198,24 @@ fn trim_strides(s: &[u8]) -> usize
             i = i + 16;
         } else {
             let e = trim_some(s, i);
-            if e == i {
-                return i;
+            if e.over {
+                return e;
             }
-            i = e;
+            i = e.at;
         }
     }
-    i
+    Reached { at: i, over: false }
 }
 
 // The place behind the last character that is no white space.
 pub fn trim_end(s: &[u8]) -> Cursor
     ensures { λ r. ⌜ r .0 ≡ trims.trimEnd (now (s .entry)) ⌝ }
 {
-    let mut i = trim_strides(s);
+    let e = trim_strides(s);
+    if e.over {
+        return Cursor(e.at);
+    }
+    let mut i = e.at;
     loop {
         let n = trim_step(s, i);
         if n == 0 {

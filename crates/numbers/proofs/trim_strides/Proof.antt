@@ -1,5 +1,6 @@
 use mathlib.Core.Path.{_≡_, refl, _∙_}
 use Prim.Native.Nat.{_-_, _≤_}
+use mathlib.Core.Bool.{false≢true}
 use native.Mathlib.Omega.{arith}
 use lib.ListN.{length}
 use Rattle.numbers.specs.Trim.{trimFrom, trimEnd}
@@ -19,10 +20,17 @@ loop-holds c = (refl, omega arith)
 loop-again : tie.Need-loop-again Inv-loop μ-loop
 loop-again c = (c .before .is-stride .ensures (c .if1 .taken) ∙ c .before .before .before .loop .inv .0, omega arith)
 
+returns : tie.Need-returns Inv-loop μ-loop
+returns c = let e = c .before .trim-some .ensures in (e .same ∙ c .before .before .before .before .before .loop .inv .0, e .stops)
+
+loop-less-2 : tie.Need-loop-less-2 Inv-loop μ-loop
+loop-less-2 c = let e = c .before .trim-some .ensures in omega (arith, e .inside, e .on (c .if2 .left))
+
 loop-again-2 : tie.Need-loop-again-2 Inv-loop μ-loop
-loop-again-2 c =
-    let e = c .before .trim-some .ensures in
-    (e .0 ∙ c .before .before .before .before .before .loop .inv .0, e .2)
+loop-again-2 c = let e = c .before .trim-some .ensures in (e .same ∙ c .before .before .before .before .before .loop .inv .0, e .inside)
+
+returns-2 : tie.Need-returns-2 Inv-loop μ-loop
+returns-2 c = (c .before .loop .inv .0, λ e. absurd (false≢true e))
 
 pub trim-strides-spec : {M : Type 1} → statement M
 trim-strides-spec =
@@ -37,7 +45,7 @@ trim-strides-spec =
     (λ c. omega arith)
     loop-again
     (λ c κs. c .before .before .before .loop .inv .1)
-    (λ c. c .before .before .before .before .before .loop .inv .0)
-    (λ c. let e = c .before .trim-some .ensures in omega (arith, e .1, e .2, c .if2 .left))
+    returns
+    loop-less-2
     loop-again-2
-    (λ c. c .before .loop .inv .0))
+    returns-2)
