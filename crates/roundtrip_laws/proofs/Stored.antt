@@ -31,7 +31,7 @@ use Rattle.writer.specs.Fields.{endLines, valueLines, fieldsText}
 use Rattle.writer.specs.Answers.{dateMeasured, dateAnswer, dateAfterwards}
 use Rattle.writer.proofs.Levels.{else-as-before}
 use Rattle.roundtrip_laws.specs.Domain.{InDomain}
-use Rattle.roundtrip_laws.specs.Stored.{TextBack, EndBack, FieldsBack, Stored, TextStored, FieldsStored}
+use Rattle.roundtrip_laws.specs.Stored.{TextBack, EndBack, FieldsBack, StoredAs, TextStored, FieldsStored}
 use Rattle.roundtrip_laws.proofs.Theorems.{date-back, strict-back, lines-are, fields-back}
 
 -- a month and a day of the calendar have a text
@@ -76,7 +76,7 @@ module _ (d : Date) (w : InDomain (d .value)) (t out : List ℕ) (h : length t �
   unfolding dateAfterwards left
   front-so = ap (λ (a : Written). take (length t) (left a t out)) answered-so ∙ take-append-seam t (drop (length t) out)
 
-  stored : (Back : List ℕ → Type 0) → Back t → Stored d t out Back
+  stored : (Back : List ℕ → Type 0) → Back t → StoredAs d t out Back
   stored Back b = record { measures = measured-so; answers = answered-so; back = subst Back (sym front-so) b }
 
 -- the text, which both readers read as the Date

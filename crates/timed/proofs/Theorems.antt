@@ -50,7 +50,7 @@ use Rattle.timed.specs.Texts.{field, sign, offsetText, zoneText, clockTe
 use Rattle.dates.specs.Clocks.{offsetIn, zoneIn, clockIn, dayBesideMonth, badTime, hasBadTime}
 use Rattle.chunks.specs.Chunks.{oneChunk}
 use Rattle.timed.specs.Answers.{valueBad, plainMeasured, timedMeasured, timedAnswer, timedAfterwards, shown}
-use Rattle.timed.specs.Faults.{Fault, no-month, no-day, hour-above, minute-above, second-above, offset-hours, offset-minutes, EndFault, FaultIn}
+use Rattle.timed.specs.Faults.{TimeFault, no-month, no-day, hour-above, minute-above, second-above, offset-hours, offset-minutes, EndFault, FaultIn}
 use Rattle.timed.specs.Domain.{ZoneIn, ClockIn, TimeIn, TimedIn, InTimed}
 use Rattle.timed.proofs.Pieces.{timed-most}
 use Rattle.timed.proofs.Answered.{seasoned, plain}
@@ -287,7 +287,7 @@ in-clock : (d : OptionDay) {t : Time} → TimeIn d (SomeTime t) → ClockIn t
 in-clock NoDay w = absurd w
 in-clock (SomeDay d) w = w
 
-parts-sound : (y : ℤ) (m : OptionMonth) (d : OptionDay) {t : OptionTime} → PartsIn y m d → TimeIn d t → Fault m d t → ⊥
+parts-sound : (y : ℤ) (m : OptionMonth) (d : OptionDay) {t : OptionTime} → PartsIn y m d → TimeIn d t → TimeFault m d t → ⊥
 parts-sound y m NoDay w k (no-month) = k
 parts-sound y m (SomeDay d) w k (no-month) = w
 parts-sound y m d w k (no-day) = k
