@@ -48,7 +48,7 @@ enum Stretch {
 
 // The days of a Datetime without a season, by a formula.
 fn formula_days(d: Datetime) -> Covered
-    ensures { λ r. ⌜ r ≡ ways.answer ways.byFormula (counts.asked d) ⌝ }
+    ensures { λ r. ⌜ r ≡ ways.stretchDays ways.byFormula (counts.asked d) ⌝ }
 {
     match asked(d) {
         Stretch::NoDate => refused(),
@@ -66,7 +66,7 @@ fn formula_days(d: Datetime) -> Covered
 
 // The same from the table.
 fn table_days(d: Datetime) -> Covered
-    ensures { λ r. ⌜ r ≡ ways.answer ways.byTable (counts.asked d) ⌝ }
+    ensures { λ r. ⌜ r ≡ ways.stretchDays ways.byTable (counts.asked d) ⌝ }
 {
     match asked(d) {
         Stretch::NoDate => refused(),
