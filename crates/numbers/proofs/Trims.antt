@@ -9,7 +9,7 @@ use native.Mathlib.Omega.{arith}
 use borrow.Author.Tests.{lt-ltb, le-ltb, le-leb}
 use lib.ListN.{length, getD, take, drop, length-drop}
 use Rattle.chars.specs.Pick.{pick}
-use Rattle.chars.specs.Utf8.{lenOf, isCont, code2, two, decode, decodeAt}
+use Rattle.chars.specs.Utf8.{lenOf, isCont, code2, decode2, decode, decodeAt}
 use Rattle.chars.specs.declared.Decoded.{Decoded}
 use Rattle.chars.specs.declared.Decoded.the-variants.{Char, Bad, End}
 use Rattle.chars.proofs.Cases.{of-test}
@@ -64,7 +64,7 @@ module _ (s : List ℕ) (at : ℕ) (h : at < length s) (l : getD s at 0 < 128) w
 
 -- a character of two bytes from U+00C0 on
 pub pair-step : (s : List ℕ) (i : ℕ) → i < length s → 0xC3 ≤ getD s i 0 → getD s i 0 < 0xE0 → isCont (getD s (i + 1) 0) ≡ true → trimStep s i ≡ 2
-unfolding trimStep stepOver stepBy decode lenOf two pick
+unfolding trimStep stepOver stepBy decode lenOf decode2 pick
 pair-step s i h l m k =
     let d = cont (getD s (i + 1) 0) k in
     rw (

@@ -11,7 +11,7 @@ use lib.Dec.{leb}
 use lib.ListN.{length, getD}
 use Rattle.chars.specs.Pick.{pick}
 use Rattle.chars.specs.Classes.{within, isWhitespace}
-use Rattle.chars.specs.Utf8.{lenOf, isCont, code2, two, decode}
+use Rattle.chars.specs.Utf8.{lenOf, isCont, code2, decode2, decode}
 use Rattle.chars.specs.declared.Decoded.the-variants.{Char, Bad}
 use Rattle.chars.proofs.Classes.{within-past}
 use Rattle.chars.proofs.Laws.{inside-is}
@@ -41,7 +41,7 @@ two-not-white n l h =
     )
 
 two-len : (a b c d : ℕ) → 0xC3 ≤ a → a < 0xE0 → lenIn Whitespace (decode a b c d) ≡ 0
-unfolding decode lenOf two lenIn pick
+unfolding decode lenOf decode2 lenIn pick
 two-len a b c d l h =
     rw (le-ltb a 0x80 (omega arith), le-ltb a 0xC0 (omega arith), lt-ltb a 0xE0 h) (by-case (isCont b && leb 0x80 (code2 a b)))
   where
