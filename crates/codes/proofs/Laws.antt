@@ -7,20 +7,21 @@ use mathlib.Core.Option.{Option, none, some}
 use Prim.Native.Nat.{ℕ, _+_, _-_, _*_, _≤_, _<_}
 use native.Mathlib.Omega.{arith}
 use lib.Dec.{eqb, ltb, lit≤}
-use lib.IntN.{pos}
+use lib.IntN.{ℤ, pos, negsuc}
 use lib.ListN.{length, getD, take, List·getD-eq-default}
 use borrow.Author.Tests.{eqb-true, ltb-true, ltb-false}
 use Rattle.chars.specs.Pick.{pick}
 use Rattle.chars.specs.Classes.{isAsciiDigit}
 use Rattle.chars.proofs.Cases.{by-test, and-true}
 use Rattle.strict.proofs.Digits.{digit}
-use Rattle.dates.specs.declared.TimeOffset.the-variants.{Utc, Offset}
+use Rattle.dates.specs.declared.TimeOffset.the-variants.{Offset}
 use Rattle.dates.specs.declared.OptionOffset.{OptionOffset}
-use Rattle.dates.specs.declared.OptionOffset.the-variants.{NoOffset, SomeOffset}
+use Rattle.dates.specs.declared.OptionOffset.the-variants.{SomeOffset}
 use Rattle.dates.specs.declared.OptionTime.the-variants.{NoTime, SomeTime}
 use Rattle.dates.specs.declared.Datetime.{Datetime}
 use Rattle.dates.specs.declared.DateValue.{DateValue}
 use Rattle.dates.specs.declared.DateValue.the-variants.{At, After, Before, Between}
+use Rattle.dates.specs.Ends.{EachEnd}
 use Rattle.dates.specs.Calendar.{monthLength}
 use Rattle.dates.specs.Time.{time}
 use Rattle.dates.specs.Value.{datetime, month, day, date}
@@ -32,9 +33,11 @@ use Rattle.refusals.specs.declared.ReadDate.{ReadDate}
 use Rattle.refusals.specs.declared.ReadDate.the-variants.{Accepted, Refused}
 use Rattle.refusals.specs.Refusal.{number}
 use Rattle.datefield.specs.Text.{lastByte, isUncertain, isApproximate, unmarked}
+use Rattle.answers.specs.Answer as answers
 use Rattle.codes.specs.declared.Words.{Words}
-use Rattle.codes.specs.Words.{nothing, twos, sortOf, dayWord, timeWord, pointWord, clockWord, shiftWord, zoneWord, words, flag, marksOf, valueWords, valueOr, wordsOf, wordsOr}
+use Rattle.codes.specs.Words.{nothing, twos, fourBytes, sortOf, dayWord, timeWord, pointWord, clockWord, shiftWord, zoneWord, words, flag, marksOf, valueWords, valueOr, wordsOf, wordsOr}
 use Rattle.codes.specs.Points.{twoOf, fourOf, twoAt, yearOf, countedFrom, partAt, yearPoint, monthPoint, dayPoint, isClock, isShift, shiftBy, zoneOf, onSome, timeOf, pointOf}
+use Rattle.codes.specs.Typed.{DatetimeTyped, Typed}
 use Rattle.codes.specs.Texts.{isSlash, timed, valueOf, written}
 
 -- numbers of two digits and of four, and those of the parts of a point
@@ -255,6 +258,23 @@ pub text-is : (s : List ℕ) {m : ℕ} {t : List ℕ} {r : Words} → m ≡ mark
     → r ≡ valueOr (valueOf t) m → r ≡ wordsOr (written s)
 unfolding written
 text-is s e f g = g ∙ rw (← f, e, marked-words (valueOf (unmarked s)) (isUncertain (lastByte s)) (isApproximate (lastByte s)))
+
+-- what a reader answers, by its parts
+pub accepted-words : {r : ReadDate} (d : Date) {v : DateValue} {m : ℕ} {w : Words} → r ≡ Accepted d → d .value ≡ v
+    → m ≡ marksOf (d .uncertain) (d .approximate) → w ≡ valueOr (some v) m → EachEnd DatetimeTyped v → (w ≡ wordsOf r) × Typed r
+unfolding onSome
+accepted-words d e f g h t =
+    rw e (h ∙ rw (g, ← f) (marked-words (some (d .value)) (d .uncertain) (d .approximate)), rw f t)
+
+pub refused-words : {r : ReadDate} (e : Refusal) {n : ℕ} → r ≡ Refused e → n ≡ fourBytes (number (e .kind)) 0 0 0 → e .place .0 < 18446744073709551616
+    → e .place .1 < 18446744073709551616 → (words (e .place .0) (e .place .1) 0 0 0 0 (4294967296 * n) ≡ wordsOf r) × Typed r
+refused-words e f g h k = rw (f, g) (ap (words (e .place .0) (e .place .1) 0 0 0 0) (omega arith), (h, k))
+
+-- the years of answers to frames are the same numbers
+pub twos-are : (y : ℤ) → answers.twos y ≡ twos y
+unfolding answers.twos twos
+twos-are (pos n) = refl
+twos-are (negsuc n) = refl
 
 -- what is said at once is told by the last word: whether there is anything, and whether it is a Date
 pub told : (x : Option ReadDate) → (wordsOr x .last ≡ nothing → ⊥) → (r : ReadDate) × (x ≡ some r)
