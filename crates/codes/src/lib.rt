@@ -1,22 +1,23 @@
 // Usual texts as words: numbers that are handed on in registers, where a Date would go through memory, byte by byte in and word by word out. What is
 // said here at once is what the readers say (`code_laws`); other texts are for them.
 ghost use mathlib.Core.Path.{_≡_};
+ghost use mathlib.Core.Option.{none};
 ghost use Prim.Native.Nat.{_+_, _*_, _≤_, _<_};
 ghost use lib.ListN.{length};
 ghost use lib.IntN.{pos};
 ghost use lib.Signed.{mag};
 ghost use Rattle.dates.specs.declared.OptionTime.the-variants.{NoTime};
+ghost use Rattle.refusals.specs.declared.ReadDate.{ReadDate};
 ghost use Rattle.datefield.specs.Text.{lastByte, isUncertain, isApproximate, isDots};
-ghost use mathlib.Core.Option.{none};
 ghost use Rattle.codes.specs.Words as words;
 ghost use Rattle.codes.specs.Points as spec;
 ghost use Rattle.codes.specs.Texts as texts;
-ghost use Rattle.codes.specs.Typed as typed;
 ghost use Rattle.codes.specs.Ported as ported_;
 ghost use Rattle.codes.specs.Parts as parts;
+ghost use Rattle.codes.specs.Typed as typed;
+ghost use Rattle.codes.specs.Ported.{movedBy, Movable};
 ghost use Rattle.points.specs.Point.{windowed};
 ghost use Rattle.fields.specs.Year.{beforeChrist};
-ghost use Rattle.refusals.specs.declared.ReadDate.{ReadDate};
 use chars::is_digit;
 use dates::DateValue;
 use dates::Datetime;
@@ -692,7 +693,7 @@ fn farther(a: u64, b: u64) -> u64
 
 // The words of an answer whose refusal moves with a list's span.
 pub fn moved(w: Words, start: u64) -> Words
-    ensures { λ r. ⌜ ((x : ReadDate) → w ≡ words.wordsOf x → ported_.Movable x → start < 0x8000000000000000 → r ≡ words.wordsOf (ported_.movedBy start x)) ⌝ }
+    ensures { λ r. ⌜ ((x : ReadDate) → w ≡ words.wordsOf x → Movable x → start < 0x8000000000000000 → r ≡ words.wordsOf (movedBy start x)) ⌝ }
 {
     if w.last < 4294967296 {
         return w;
