@@ -5,6 +5,8 @@
 ghost use mathlib.Core.Path.{_≡_};
 ghost use mathlib.Core.Bool.{true, false};
 ghost use mathlib.Core.List.{[]};
+ghost use mathlib.Core.Option.{none, some};
+ghost use lib.Dec.{ltb};
 ghost use Prim.Native.Nat.{_≤_};
 ghost use lib.ListN.{length, take};
 ghost use Rattle.chunks.specs.Chunks.{isShort, chunksOf, spanOf};
@@ -15,6 +17,9 @@ ghost use Rattle.chunks.specs.Format.{formatted};
 ghost use Rattle.codes.specs.Words.{wordsOr, wordsOf, yearWord, monthWord, dayPartWord};
 ghost use Rattle.codes.specs.Typed.{Typed};
 ghost use Rattle.codes.specs.Parts.{yearPart};
+ghost use Rattle.chars.specs.Pick.{pick};
+ghost use Rattle.codes.specs.Points.{onSome};
+ghost use Rattle.codes.specs.Ported.{ported, movedBy};
 ghost use Rattle.codes.specs.Lists as lists;
 ghost use Rattle.datefield.specs.Value.{parseText};
 ghost use Rattle.fields.specs.Month.{monthField};
@@ -163,17 +168,26 @@ fn at_once(bytes: &[u8], table: &[u64]) -> Words
     codes::no_words()
 }
 
-// What the ported reader alone says at once.
+// What the ported reader alone says at once of a text, in a list whose span starts at a place.
+fn ported_from(bytes: &[u8], start: u64) -> Words
+    ensures { λ r. ⌜ r ≡ wordsOr (pick (ltb start 0x8000000000000000) (onSome (ported (now (bytes .entry))) λ x. some (movedBy start x)) none) ⌝ }
+{
+    if start < 0x8000000000000000 {
+        let w = codes::ported(bytes);
+        if w.last == NOTHING {
+            return w;
+        }
+        return codes::moved(w, start);
+    }
+    codes::no_words()
+}
+
+// The same of a list that is one Normal chunk.
 fn at_once_ported(bytes: &[u8], table: &[u64]) -> Words
     ensures { λ r. ⌜ r ≡ wordsOr (lists.listPorted (now (bytes .entry)) (now (table .entry))) ⌝ }
 {
     if is_one_normal(bytes, table) {
-        if table[2] < 0x8000000000000000 {
-            let w = codes::ported(bytes);
-            if w.last != NOTHING {
-                return codes::moved(w, table[2]);
-            }
-        }
+        return ported_from(bytes, table[2]);
     }
     codes::no_words()
 }
