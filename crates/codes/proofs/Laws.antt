@@ -21,6 +21,7 @@ use Rattle.dates.specs.declared.OptionTime.the-variants.{NoTime, SomeTime}
 use Rattle.dates.specs.declared.Datetime.{Datetime}
 use Rattle.dates.specs.declared.DateValue.{DateValue}
 use Rattle.dates.specs.declared.DateValue.the-variants.{At, After, Before, Between}
+use Rattle.dates.specs.Ends.{EachEnd}
 use Rattle.dates.specs.Calendar.{monthLength}
 use Rattle.dates.specs.Time.{time}
 use Rattle.dates.specs.Value.{datetime, month, day, date}
@@ -33,8 +34,9 @@ use Rattle.refusals.specs.declared.ReadDate.the-variants.{Accepted, Refused}
 use Rattle.refusals.specs.Refusal.{number}
 use Rattle.datefield.specs.Text.{lastByte, isUncertain, isApproximate, unmarked}
 use Rattle.codes.specs.declared.Words.{Words}
-use Rattle.codes.specs.Words.{nothing, twos, sortOf, dayWord, timeWord, pointWord, clockWord, shiftWord, zoneWord, words, flag, marksOf, valueWords, valueOr, wordsOf, wordsOr}
+use Rattle.codes.specs.Words.{nothing, twos, fourBytes, sortOf, dayWord, timeWord, pointWord, clockWord, shiftWord, zoneWord, words, flag, marksOf, valueWords, valueOr, wordsOf, wordsOr}
 use Rattle.codes.specs.Points.{twoOf, fourOf, twoAt, yearOf, countedFrom, partAt, yearPoint, monthPoint, dayPoint, isClock, isShift, shiftBy, zoneOf, onSome, timeOf, pointOf}
+use Rattle.codes.specs.Typed.{DatetimeTyped, Typed}
 use Rattle.codes.specs.Texts.{isSlash, timed, valueOf, written}
 
 -- numbers of two digits and of four, and those of the parts of a point
@@ -256,6 +258,17 @@ pub text-is : (s : List ℕ) {m : ℕ} {t : List ℕ} {r : Words} → m ≡ mark
 unfolding written
 text-is s e f g = g ∙ rw (← f, e, marked-words (valueOf (unmarked s)) (isUncertain (lastByte s)) (isApproximate (lastByte s)))
 
+-- what a reader answers, by its parts
+pub accepted-words : {r : ReadDate} (d : Date) {v : DateValue} {m : ℕ} {w : Words} → r ≡ Accepted d → d .value ≡ v
+    → m ≡ marksOf (d .uncertain) (d .approximate) → w ≡ valueOr (some v) m → EachEnd DatetimeTyped v → (w ≡ wordsOf r) × Typed r
+unfolding onSome
+accepted-words d e f g h t =
+    rw e (h ∙ rw (g, ← f) (marked-words (some (d .value)) (d .uncertain) (d .approximate)), rw f t)
+
+pub refused-words : {r : ReadDate} (e : Refusal) {n : ℕ} → r ≡ Refused e → n ≡ fourBytes (number (e .kind)) 0 0 0 → e .place .0 < 18446744073709551616
+    → e .place .1 < 18446744073709551616 → (words (e .place .0) (e .place .1) 0 0 0 0 (4294967296 * n) ≡ wordsOf r) × Typed r
+refused-words e f g h k = rw (f, g) (ap (words (e .place .0) (e .place .1) 0 0 0 0) (omega arith), (h, k))
+
 -- what is said at once is told by the last word: whether there is anything, and whether it is a Date
 pub told : (x : Option ReadDate) → (wordsOr x .last ≡ nothing → ⊥) → (r : ReadDate) × (x ≡ some r)
 told none h = absurd (h refl)
@@ -277,36 +290,37 @@ value-last v u a = go v (flag u) (flag a) (flag-most u) (flag-most a)
 pub accepted-last : (d : Date) → wordsOf (Accepted d) .last < 4294967296
 accepted-last d = value-last (d .value) (d .uncertain) (d .approximate)
 
-number-least : (k : Kind) → 1 ≤ number k
-number-least UndefinedRange = lit≤ tt
-number-least DayOutOfRange = lit≤ tt
-number-least MonthOutOfRange = lit≤ tt
-number-least InvalidNumber = lit≤ tt
-number-least MissingNumber = lit≤ tt
-number-least WrongNumberOfDigits = lit≤ tt
-number-least InvalidFormat = lit≤ tt
-number-least YearZeroCE = lit≤ tt
-number-least RustPanics = lit≤ tt
-number-least BadUtf8 = lit≤ tt
-number-least UnsupportedChar = lit≤ tt
-number-least NotStrict = lit≤ tt
-number-least NoRoom = lit≤ tt
-number-least BadFrame = lit≤ tt
-number-least BadChunks = lit≤ tt
-number-least TooLong = lit≤ tt
-number-least NotACalendarDate = lit≤ tt
-number-least BadPeriod = lit≤ tt
-number-least DuplicateEntry = lit≤ tt
-number-least ChronologyFull = lit≤ tt
-number-least UnknownEntry = lit≤ tt
-number-least BadTime = lit≤ tt
-number-least NotLevelOne = lit≤ tt
-number-least HasSeason = lit≤ tt
-number-least NoInstant = lit≤ tt
-number-least BadChronology = lit≤ tt
+-- the number of a refusal is a byte, and not 0
+pub number-in : (k : Kind) → (1 ≤ number k) × (number k < 256)
+number-in UndefinedRange = (lit≤ tt, lit≤ tt)
+number-in DayOutOfRange = (lit≤ tt, lit≤ tt)
+number-in MonthOutOfRange = (lit≤ tt, lit≤ tt)
+number-in InvalidNumber = (lit≤ tt, lit≤ tt)
+number-in MissingNumber = (lit≤ tt, lit≤ tt)
+number-in WrongNumberOfDigits = (lit≤ tt, lit≤ tt)
+number-in InvalidFormat = (lit≤ tt, lit≤ tt)
+number-in YearZeroCE = (lit≤ tt, lit≤ tt)
+number-in RustPanics = (lit≤ tt, lit≤ tt)
+number-in BadUtf8 = (lit≤ tt, lit≤ tt)
+number-in UnsupportedChar = (lit≤ tt, lit≤ tt)
+number-in NotStrict = (lit≤ tt, lit≤ tt)
+number-in NoRoom = (lit≤ tt, lit≤ tt)
+number-in BadFrame = (lit≤ tt, lit≤ tt)
+number-in BadChunks = (lit≤ tt, lit≤ tt)
+number-in TooLong = (lit≤ tt, lit≤ tt)
+number-in NotACalendarDate = (lit≤ tt, lit≤ tt)
+number-in BadPeriod = (lit≤ tt, lit≤ tt)
+number-in DuplicateEntry = (lit≤ tt, lit≤ tt)
+number-in ChronologyFull = (lit≤ tt, lit≤ tt)
+number-in UnknownEntry = (lit≤ tt, lit≤ tt)
+number-in BadTime = (lit≤ tt, lit≤ tt)
+number-in NotLevelOne = (lit≤ tt, lit≤ tt)
+number-in HasSeason = (lit≤ tt, lit≤ tt)
+number-in NoInstant = (lit≤ tt, lit≤ tt)
+number-in BadChronology = (lit≤ tt, lit≤ tt)
 
 pub refused-last : (e : Refusal) → 4294967296 ≤ wordsOf (Refused e) .last
-refused-last e = let n = number-least (e .kind) in omega arith
+refused-last e = let n = number-in (e .kind) .0 in omega arith
 
 pub last-accepted : (r : ReadDate) → wordsOr (some r) .last < 4294967296 → (d : Date) × (r ≡ Accepted d)
 last-accepted (Accepted d) h = (d, refl)

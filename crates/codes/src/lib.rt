@@ -4,14 +4,26 @@ ghost use mathlib.Core.Path.{_≡_};
 ghost use Prim.Native.Nat.{_+_, _≤_, _<_};
 ghost use lib.ListN.{length};
 ghost use lib.IntN.{pos};
+ghost use lib.Signed.{mag};
 ghost use Rattle.dates.specs.declared.OptionTime.the-variants.{NoTime};
 ghost use Rattle.datefield.specs.Text.{lastByte, isUncertain, isApproximate, isDots};
 ghost use mathlib.Core.Option.{none};
 ghost use Rattle.codes.specs.Words as words;
 ghost use Rattle.codes.specs.Points as spec;
 ghost use Rattle.codes.specs.Texts as texts;
+ghost use Rattle.codes.specs.Typed as typed;
+ghost use Rattle.refusals.specs.declared.ReadDate.{ReadDate};
+ghost use Rattle.codes.specs.Ported as ported;
 use chars::is_digit;
+use dates::DateValue;
+use dates::Datetime;
 use dates::Month;
+use dates::OptionDay;
+use dates::OptionMonth;
+use dates::OptionOffset;
+use dates::OptionTime;
+use dates::TimeOffset;
+use refusals::ReadDate;
 
 // Where nothing is said.
 pub const NOTHING: u64 = 0xFFFFFFFFFFFFFFFF;
@@ -451,4 +463,255 @@ pub fn text(s: &[u8]) -> Words
         return unmarked(s, 0);
     }
     unmarked(&s[..s.len() - 1], m)
+}
+
+// ---- words
+
+fn has_month(m: OptionMonth) -> u8
+    ensures { λ r. ⌜ r ≡ words.hasMonth m ⌝ }
+{
+    match m {
+        OptionMonth::NoMonth => 0,
+        OptionMonth::SomeMonth(_) => 1,
+    }
+}
+
+fn month_number(m: OptionMonth) -> u8
+    ensures { λ r. ⌜ r ≡ words.monthNumber m ⌝ }
+{
+    match m {
+        OptionMonth::NoMonth => 0,
+        OptionMonth::SomeMonth(x) => x.0,
+    }
+}
+
+fn has_day(d: OptionDay) -> u8
+    ensures { λ r. ⌜ r ≡ words.hasDay d ⌝ }
+{
+    match d {
+        OptionDay::NoDay => 0,
+        OptionDay::SomeDay(_) => 1,
+    }
+}
+
+fn day_number(d: OptionDay) -> u8
+    ensures { λ r. ⌜ r ≡ words.dayNumber d ⌝ }
+{
+    match d {
+        OptionDay::NoDay => 0,
+        OptionDay::SomeDay(x) => x.0,
+    }
+}
+
+fn sort_of(o: TimeOffset) -> u8
+    ensures { λ r. ⌜ r ≡ words.sortOf o ⌝ }
+{
+    match o {
+        TimeOffset::Utc => 1,
+        TimeOffset::Offset {
+            positive,
+            hours: _,
+            minutes: _,
+        } => if positive { 2 } else { 3 },
+    }
+}
+
+fn offset_sort(o: OptionOffset) -> u8
+    ensures { λ r. ⌜ r ≡ words.offsetSort o ⌝ }
+{
+    match o {
+        OptionOffset::NoOffset => 0,
+        OptionOffset::SomeOffset(x) => sort_of(x),
+    }
+}
+
+// The offset, or UTC where there is none.
+fn shift_of(o: OptionOffset) -> TimeOffset
+    ensures { λ r. ⌜ r ≡ words.shiftOf o ⌝ }
+{
+    match o {
+        OptionOffset::NoOffset => TimeOffset::Utc,
+        OptionOffset::SomeOffset(x) => x,
+    }
+}
+
+fn hours_of(o: TimeOffset) -> u8
+    ensures { λ r. ⌜ r ≡ words.hoursOf o ⌝ }
+{
+    match o {
+        TimeOffset::Utc => 0,
+        TimeOffset::Offset {
+            positive: _,
+            hours,
+            minutes: _,
+        } => hours,
+    }
+}
+
+fn minutes_of(o: TimeOffset) -> u8
+    ensures { λ r. ⌜ r ≡ words.minutesOf o ⌝ }
+{
+    match o {
+        TimeOffset::Utc => 0,
+        TimeOffset::Offset {
+            positive: _,
+            hours: _,
+            minutes,
+        } => minutes,
+    }
+}
+
+fn datetime_word(d: Datetime) -> u64
+    ensures { λ r. ⌜ r ≡ words.dayWord d ⌝ }
+    ensures { λ _. ⌜ (mag (d .year) < 2147483648) × ((words.monthNumber (d .month) < 256) × (words.dayNumber (d .day) < 256)) ⌝ }
+{
+    let month = d.month;
+    let day = d.day;
+    twos(d.year) as u64
+        + 4294967296
+            * four_bytes(
+                has_month(month),
+                month_number(month),
+                has_day(day),
+                day_number(day),
+            )
+}
+
+fn time_word(d: Datetime) -> u64
+    ensures { λ r. ⌜ r ≡ words.timeWord d ⌝ }
+    ensures { λ _. ⌜ typed.Bytes (typed.storedTime (words.clockOf (d .time))) ⌝ }
+{
+    let time = d.time;
+    let season = d.season;
+    let number = dates::season_number(season);
+    match time {
+        OptionTime::NoTime => {
+            return 4294967296 * four_bytes(0, 0, 0, number);
+        }
+        OptionTime::SomeTime(t) => {
+            let offset = t.offset;
+            let o = shift_of(offset);
+            return four_bytes(1, t.hour, t.minute, t.second)
+                + 4294967296 * four_bytes(offset_sort(offset), hours_of(o), minutes_of(o), number);
+        }
+    }
+}
+
+// The marks as a number.
+fn marks_word(uncertain: bool, approximate: bool) -> u64
+    ensures { λ r. ⌜ r ≡ words.marksOf uncertain approximate ⌝ }
+{
+    if uncertain {
+        if approximate {
+            return 65792;
+        }
+        return 256;
+    }
+    if approximate {
+        return 65536;
+    }
+    0
+}
+
+// A shape with one Datetime.
+fn one_words(shape: u64, d: Datetime, marks: u64) -> Words
+    requires { ⌜ (shape ≤ 3) × (marks ≤ 65792) ⌝ }
+    ensures { λ r. ⌜ r ≡ words.words 0 0 (words.dayWord d) (words.timeWord d) 0 0 (shape + marks) ⌝ }
+    ensures { λ _. ⌜ typed.DatetimeTyped d ⌝ }
+{
+    Words {
+        start: 0,
+        end: 0,
+        first: datetime_word(d),
+        first_time: time_word(d),
+        second: 0,
+        second_time: 0,
+        last: shape + marks,
+    }
+}
+
+// A range of two.
+fn two_words(a: Datetime, b: Datetime, marks: u64) -> Words
+    requires { ⌜ marks ≤ 65792 ⌝ }
+    ensures { λ r. ⌜ r ≡ words.words 0 0 (words.dayWord a) (words.timeWord a) (words.dayWord b) (words.timeWord b) (3 + marks) ⌝ }
+    ensures { λ _. ⌜ typed.DatetimeTyped a × typed.DatetimeTyped b ⌝ }
+{
+    Words {
+        start: 0,
+        end: 0,
+        first: datetime_word(a),
+        first_time: time_word(a),
+        second: datetime_word(b),
+        second_time: time_word(b),
+        last: 3 + marks,
+    }
+}
+
+// What a reader answers, as words; its numbers are of their types.
+pub fn pack(r: ReadDate) -> Words
+    ensures { λ w. ⌜ w ≡ words.wordsOf r ⌝ }
+    ensures { λ _. ⌜ typed.Typed r ⌝ }
+{
+    match r {
+        ReadDate::Accepted(d) => {
+            let v = d.value;
+            let marks = marks_word(d.uncertain, d.approximate);
+            match v {
+                DateValue::At(a) => {
+                    return one_words(0, a, marks);
+                }
+                DateValue::After(a) => {
+                    return one_words(1, a, marks);
+                }
+                DateValue::Before(a) => {
+                    return one_words(2, a, marks);
+                }
+                DateValue::Between(a, b) => {
+                    return two_words(a, b, marks);
+                }
+            }
+        }
+        ReadDate::Refused(e) => {
+            let kind = e.kind;
+            let start = e.place.0;
+            let end = e.place.1;
+            return Words {
+                start,
+                end,
+                first: 0,
+                first_time: 0,
+                second: 0,
+                second_time: 0,
+                last: 4294967296 * four_bytes(refusals::number(kind), 0, 0, 0),
+            };
+        }
+    }
+}
+
+// The sum, or the largest number where it would be above that.
+fn farther(a: u64, b: u64) -> u64
+    ensures { λ r. ⌜ (a + b < 18446744073709551616 → r ≡ a + b) ⌝ }
+{
+    if NOTHING - b < a {
+        return NOTHING;
+    }
+    a + b
+}
+
+// The words of an answer whose refusal moves with a list's span.
+pub fn moved(w: Words, start: u64) -> Words
+    ensures { λ r. ⌜ ((x : ReadDate) → w ≡ words.wordsOf x → ported.Movable x → start < 0x8000000000000000 → r ≡ words.wordsOf (ported.movedBy start x)) ⌝ }
+{
+    if w.last < 4294967296 {
+        return w;
+    }
+    Words {
+        start: farther(w.start, start),
+        end: farther(w.end, start),
+        first: w.first,
+        first_time: w.first_time,
+        second: w.second,
+        second_time: w.second_time,
+        last: w.last,
+    }
 }
