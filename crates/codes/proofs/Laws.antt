@@ -7,7 +7,7 @@ use mathlib.Core.Option.{Option, none, some}
 use Prim.Native.Nat.{ℕ, _+_, _-_, _*_, _≤_, _<_}
 use native.Mathlib.Omega.{arith}
 use lib.Dec.{eqb, ltb, lit≤}
-use lib.IntN.{ℤ, pos, negsuc}
+use lib.IntN.{pos}
 use lib.ListN.{length, getD, take, List·getD-eq-default}
 use borrow.Author.Tests.{eqb-true, ltb-true, ltb-false}
 use Rattle.chars.specs.Pick.{pick}
@@ -33,7 +33,6 @@ use Rattle.refusals.specs.declared.ReadDate.{ReadDate}
 use Rattle.refusals.specs.declared.ReadDate.the-variants.{Accepted, Refused}
 use Rattle.refusals.specs.Refusal.{number}
 use Rattle.datefield.specs.Text.{lastByte, isUncertain, isApproximate, unmarked}
-use Rattle.answers.specs.Answer as answers
 use Rattle.codes.specs.declared.Words.{Words}
 use Rattle.codes.specs.Words.{nothing, twos, fourBytes, sortOf, dayWord, timeWord, pointWord, clockWord, shiftWord, zoneWord, words, flag, marksOf, valueWords, valueOr, wordsOf, wordsOr}
 use Rattle.codes.specs.Points.{twoOf, fourOf, twoAt, yearOf, countedFrom, partAt, yearPoint, monthPoint, dayPoint, isClock, isShift, shiftBy, zoneOf, onSome, timeOf, pointOf}
@@ -269,12 +268,6 @@ accepted-words d e f g h t =
 pub refused-words : {r : ReadDate} (e : Refusal) {n : ℕ} → r ≡ Refused e → n ≡ fourBytes (number (e .kind)) 0 0 0 → e .place .0 < 18446744073709551616
     → e .place .1 < 18446744073709551616 → (words (e .place .0) (e .place .1) 0 0 0 0 (4294967296 * n) ≡ wordsOf r) × Typed r
 refused-words e f g h k = rw (f, g) (ap (words (e .place .0) (e .place .1) 0 0 0 0) (omega arith), (h, k))
-
--- the years of answers to frames are the same numbers
-pub twos-are : (y : ℤ) → answers.twos y ≡ twos y
-unfolding answers.twos twos
-twos-are (pos n) = refl
-twos-are (negsuc n) = refl
 
 -- what is said at once is told by the last word: whether there is anything, and whether it is a Date
 pub told : (x : Option ReadDate) → (wordsOr x .last ≡ nothing → ⊥) → (r : ReadDate) × (x ≡ some r)

@@ -106,6 +106,17 @@ fn signed(n: u16) -> i32
     n as i32
 }
 
+// A year in two's complement.
+pub fn twos(year: i32) -> u32
+    ensures { λ r. ⌜ r ≡ words.twos year ⌝ }
+{
+    if year < 0 {
+        let y = year as i64;
+        return u32::MAX - ((0 - y) as u32 - 1);
+    }
+    year as u32
+}
+
 // A year and a month, counted from zero, as a word.
 fn with_month(y: u16, m: u8) -> u64
     ensures { λ r. ⌜ r ≡ words.dayWordOf (pos y) 1 m 0 0 ⌝ }
@@ -560,7 +571,7 @@ fn datetime_word(d: Datetime) -> u64
 {
     let month = d.month;
     let day = d.day;
-    answers::twos(d.year) as u64
+    twos(d.year) as u64
         + 4294967296
             * four_bytes(
                 has_month(month),

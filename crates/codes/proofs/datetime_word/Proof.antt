@@ -1,7 +1,6 @@
 use native.Mathlib.Omega.{arith}
 use mir.ValLaws.{toZ-ofZ}
 use mir.Syntax.{w32}
-use Rattle.codes.proofs.Laws.{twos-are}
 use borrow.Author.Needs.{needs}
 use Rattle.codes.proofs.datetime_word.Statement.{statement}
 use Rattle.codes.proofs.datetime_word.Tie as tie
@@ -12,7 +11,7 @@ returns c =
     let m = c .before .before .before .month-number in
     let d = c .before .day-number in
     let e = rw (toZ-ofZ w32 (c .before .before .before .before .before .before .before .args .d .year) (record { sfits = y })) at (c .before .before .before .before .before .twos .ensures) in
-    (rw (e, twos-are, c .four-bytes .ensures .0, c .before .before .before .before .has-month .ensures, m .ensures, c .before .before .has-day .ensures, d .ensures), (omega (arith, y), (omega (arith, m .ok, m .ensures), omega (arith, d .ok, d .ensures))))
+    (rw (e, c .four-bytes .ensures .0, c .before .before .before .before .has-month .ensures, m .ensures, c .before .before .has-day .ensures, d .ensures), (omega (arith, y), (omega (arith, m .ok, m .ensures), omega (arith, d .ok, d .ensures))))
 
 pub datetime-word-spec : {M : Type 1} → statement M
 datetime-word-spec =

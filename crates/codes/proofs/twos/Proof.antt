@@ -2,9 +2,9 @@ use native.Mathlib.Omega.{arith}
 use mir.Syntax.{w32}
 use mir.ValLaws.{toZ-ofZ}
 use Rattle.dates.proofs.Signs.{fits-abs, not-negative, minus-read, wide-fits, minus-fits}
-use Rattle.answers.proofs.Digits.{below, above}
-use Rattle.answers.proofs.twos.Statement.{statement}
-use Rattle.answers.proofs.twos.Tie as tie
+use Rattle.codes.proofs.Signs.{below, above}
+use Rattle.codes.proofs.twos.Statement.{statement}
+use Rattle.codes.proofs.twos.Tie as tie
 
 cast-y : tie.Need-cast-y
 cast-y c =
