@@ -10,7 +10,7 @@ ghost use Rattle.chars.specs.Utf8.{encode, encodeAll};
 ghost use Rattle.chars.specs.Classes.{isWhitespace};
 ghost use Rattle.refusals.specs.Refusal.{bytesAt};
 ghost use Rattle.chunks.specs.declared.Checked.the-variants.{Clean, Faulty};
-ghost use Rattle.chunks.specs.Characters.{characters, codes};
+ghost use Rattle.chunks.specs.Characters.{codes};
 ghost use Rattle.chunks.specs.Chunks as chunks_;
 ghost use Rattle.chunks.specs.Check as check_;
 ghost use Rattle.chunks.specs.Format as format_;
@@ -85,64 +85,41 @@ fn fits(bytes: &[u8], table: &[u64]) -> bool
     false
 }
 
-// The first ill-formed or unsupported character of a chunk's text, which stands at a place of the lent bytes.
-fn check_each(t: &[u8], at: usize) -> Checked
-    requires { ⌜ at + length (now t) + 1 < 2 ^ 64 ⌝ }
-    ensures { λ r. ⌜ r ≡ check_.faultIn at (characters (now (t .entry))) ⌝ }
-{
-    let mut i = 0;
-    loop {
-        match chars::decode_at(t, i) {
-            Decoded::Char { code, len: n } => {
-                if chars::is_admitted(code) {
-                    i = i + n;
-                } else {
-                    return faulty(Kind::UnsupportedChar, at + i, n);
-                }
-            }
-            Decoded::Bad => {
-                return faulty(Kind::BadUtf8, at + i, 1);
-            }
-            Decoded::End => {
-                return Checked::Clean;
-            }
-        }
-    }
-}
-
-// The same. A look at each byte before any is decoded pays on a long one: there is none in a text of characters up to U+00FF.
-fn check_text(t: &[u8], at: usize) -> Checked
-    requires { ⌜ at + length (now t) + 1 < 2 ^ 64 ⌝ }
-    ensures { λ r. ⌜ r ≡ check_.faultIn at (characters (now (t .entry))) ⌝ }
-{
-    if 32 <= t.len() {
-        if all_latin(t) {
-            return Checked::Clean;
-        }
-    }
-    check_each(t, at)
-}
-
-// The first ill-formed or unsupported character of a list: of the chunks in turn, left at the first fault.
+// The first ill-formed or unsupported character: the chunks and their characters in turn, left at the first fault.
 fn check_characters(bytes: &[u8], table: &[u64]) -> Checked
     requires { ⌜ chunks_.fits (now bytes) (now table) ≡ true ⌝ }
     ensures { λ r. ⌜ r ≡ check_.faultOf 0 (now (bytes .entry)) (chunks_.chunksOf (now (table .entry))) ⌝ }
 {
     let mut at = 0;
     let mut k = 0;
-    while k < table.len() {
+    let mut found = Checked::Clean;
+    'chunks: while k < table.len() {
         let len = table[k + 1] as usize;
-        match check_text(&bytes[at..at + len], at) {
-            Checked::Faulty(e) => {
-                return Checked::Faulty(e);
-            }
-            Checked::Clean => {
-                at = at + len;
-                k = k + 4;
+        let t = &bytes[at..at + len];
+        let mut i = 0;
+        'characters: loop {
+            match chars::decode_at(t, i) {
+                Decoded::Char { code, len: n } => {
+                    if chars::is_admitted(code) {
+                        i = i + n;
+                    } else {
+                        found = faulty(Kind::UnsupportedChar, at + i, n);
+                        break 'chunks;
+                    }
+                }
+                Decoded::Bad => {
+                    found = faulty(Kind::BadUtf8, at + i, 1);
+                    break 'chunks;
+                }
+                Decoded::End => {
+                    break 'characters;
+                }
             }
         }
+        at = at + len;
+        k = k + 4;
     }
-    Checked::Clean
+    found
 }
 
 // A fault at a place of the lent bytes.
@@ -163,6 +140,28 @@ fn is_short(bytes: &[u8], table: &[u64]) -> bool
     false
 }
 
+// Whether a long list has characters up to U+00FF alone: then none is a fault. A look at each byte before any is decoded pays on a long one.
+fn is_latin(bytes: &[u8], table: &[u64]) -> bool
+    requires { ⌜ chunks_.fits (now bytes) (now table) ≡ true ⌝ }
+    ensures { λ r. ⌜ (r ≡ true → check_.faultOf 0 (now (bytes .entry)) (chunks_.chunksOf (now (table .entry))) ≡ Clean) ⌝ }
+{
+    if bytes.len() < 32 {
+        return false;
+    }
+    let mut at = 0;
+    let mut k = 0;
+    while k < table.len() {
+        let len = table[k + 1] as usize;
+        if all_latin(&bytes[at..at + len]) {
+            at = at + len;
+            k = k + 4;
+        } else {
+            return false;
+        }
+    }
+    true
+}
+
 // The checks of a list, in their order: the table, the limits, the characters.
 pub fn check(bytes: &[u8], table: &[u64]) -> Checked
     ensures { λ r. ⌜ r ≡ check_.checked (now (bytes .entry)) (now (table .entry)) ⌝ }
@@ -170,6 +169,9 @@ pub fn check(bytes: &[u8], table: &[u64]) -> Checked
     if fits(bytes, table) {
         if is_short(bytes, table) {
             if all_ascii(bytes) {
+                return Checked::Clean;
+            }
+            if is_latin(bytes, table) {
                 return Checked::Clean;
             }
             return check_characters(bytes, table);

@@ -15,8 +15,8 @@ returns c =
     let b5 = b4 .before in
     sym (ascii-checked _ _ (sym (b5 .fits2 .ensures) ∙ b4 .if1 .taken) (sym (b3 .is-short .ensures) ∙ b2 .if2 .taken) (sym (b1 .all-ascii .ensures) ∙ c .if3 .taken))
 
-check-characters-requires : tie.Need-check-characters-requires
-check-characters-requires c κs = sym (c .before .before .before .before .before .fits2 .ensures) ∙ c .before .before .before .before .if1 .taken
+is-latin-requires : tie.Need-is-latin-requires
+is-latin-requires c κs = let b4 = c .before .before .before .before in sym (b4 .before .fits2 .ensures) ∙ b4 .if1 .taken
 
 returns-2 : tie.Need-returns-2
 unfolding checked pick
@@ -25,20 +25,33 @@ returns-2 c =
     let b4 = b3 .before in
     let b5 = b4 .before in
     let b6 = b5 .before in
-    simp (← b6 .fits2 .ensures, b5 .if1 .taken, ← b4 .is-short .ensures, b3 .if2 .taken, ← c .check-characters .ensures)
+    let b7 = b6 .before in
+    simp (← b7 .fits2 .ensures, b6 .if1 .taken, ← b5 .is-short .ensures, b4 .if2 .taken, c .before .is-latin .ensures (c .if4 .taken))
+
+check-characters-requires : tie.Need-check-characters-requires
+check-characters-requires c κs = let b6 = c .before .before .before .before .before .before in sym (b6 .before .fits2 .ensures) ∙ b6 .if1 .taken
 
 returns-3 : tie.Need-returns-3
 unfolding checked pick
 returns-3 c =
+    let b5 = c .before .before .before .before .before in
+    let b6 = b5 .before in
+    let b7 = b6 .before in
+    let b8 = b7 .before in
+    simp (← b8 .fits2 .ensures, b7 .if1 .taken, ← b6 .is-short .ensures, b5 .if2 .taken, ← c .check-characters .ensures)
+
+returns-4 : tie.Need-returns-4
+unfolding checked pick
+returns-4 c =
     let b1 = c .before in
     let b2 = b1 .before in
     let b3 = b2 .before in
     let b4 = b3 .before in
     simp (← b4 .fits2 .ensures, b3 .if1 .taken, ← b2 .is-short .ensures, b1 .if2 .left, ← c .nowhere .ensures)
 
-returns-4 : tie.Need-returns-4
+returns-5 : tie.Need-returns-5
 unfolding checked pick
-returns-4 c =
+returns-5 c =
     let b1 = c .before in
     let b2 = b1 .before in
     simp (← b2 .fits2 .ensures, b1 .if1 .left, ← c .nowhere2 .ensures)
@@ -51,9 +64,11 @@ check-spec =
     (λ c κs. search needs)
     (λ c κs. search needs)
     returns
-    check-characters-requires
+    is-latin-requires
     returns-2
-    (λ c κs. search needs)
+    check-characters-requires
     returns-3
     (λ c κs. search needs)
-    returns-4)
+    returns-4
+    (λ c κs. search needs)
+    returns-5)
