@@ -2,7 +2,7 @@
 // said here at once is what the readers say (`code_laws`); other texts are for them.
 ghost use mathlib.Core.Path.{_≡_};
 ghost use mathlib.Core.Option.{none};
-ghost use Prim.Native.Nat.{_+_, _*_, _≤_, _<_};
+ghost use Prim.Native.Nat.{_+_, _*_, _%_, _≤_, _<_};
 ghost use lib.ListN.{length};
 ghost use lib.IntN.{pos};
 ghost use lib.Signed.{mag};
@@ -18,16 +18,26 @@ ghost use Rattle.codes.specs.Typed as typed;
 ghost use Rattle.codes.specs.Ported.{movedBy, Movable};
 ghost use Rattle.points.specs.Point.{windowed};
 ghost use Rattle.fields.specs.Year.{beforeChrist};
+ghost use Rattle.codes.specs.Words.{wordsOf};
+ghost use Rattle.codes.specs.Typed.{Typed};
+ghost use Rattle.codes.specs.Unpacked as unpacked;
 use chars::is_digit;
+use dates::Date;
 use dates::DateValue;
 use dates::Datetime;
+use dates::Day;
 use dates::Month;
 use dates::OptionDay;
 use dates::OptionMonth;
 use dates::OptionOffset;
+use dates::OptionSeason;
 use dates::OptionTime;
+use dates::Time;
 use dates::TimeOffset;
 use refusals::ReadDate;
+use refusals::Refusal;
+use refusals::kind_of;
+use refusals::lent_span;
 
 // Where nothing is said.
 pub const NOTHING: u64 = 0xFFFFFFFFFFFFFFFF;
@@ -1171,4 +1181,156 @@ pub fn day_part(s: &[u8]) -> u64
         return 281474976710656 + 72057594037927936 * wide_part(n - 1);
     }
     NOTHING
+}
+
+// ---- back
+
+// The lowest byte of a word.
+fn low_byte(w: u64) -> u8
+    ensures { λ r. ⌜ r ≡ w % 256 ⌝ }
+{
+    (w % 256) as u8
+}
+
+// A year from two's complement of 32 bits.
+fn from_twos(n: u64) -> i32
+    requires { ⌜ n < 4294967296 ⌝ }
+    ensures { λ r. ⌜ (r ≡ unpacked.fromTwos n) × (mag r < 2147483648) ⌝ }
+{
+    if n < 2147483648 {
+        return n as i32;
+    }
+    -1 - (4294967295 - n) as i32
+}
+
+fn month_back(has: u8, n: u8) -> OptionMonth
+    ensures { λ r. ⌜ r ≡ unpacked.monthOf has n ⌝ }
+{
+    if has == 0 {
+        return OptionMonth::NoMonth;
+    }
+    OptionMonth::SomeMonth(Month(n))
+}
+
+fn day_back(has: u8, n: u8) -> OptionDay
+    ensures { λ r. ⌜ r ≡ unpacked.dayOf has n ⌝ }
+{
+    if has == 0 {
+        return OptionDay::NoDay;
+    }
+    OptionDay::SomeDay(Day(n))
+}
+
+fn offset_back(sort: u8, hours: u8, minutes: u8) -> OptionOffset
+    ensures { λ r. ⌜ r ≡ unpacked.offsetOf sort hours minutes ⌝ }
+{
+    if sort == 0 {
+        return OptionOffset::NoOffset;
+    }
+    if sort == 1 {
+        return OptionOffset::SomeOffset(TimeOffset::Utc);
+    }
+    OptionOffset::SomeOffset(TimeOffset::Offset {
+        positive: sort == 2,
+        hours,
+        minutes,
+    })
+}
+
+fn time_back(t: u64) -> OptionTime
+    ensures { λ r. ⌜ r ≡ unpacked.timeIn t ⌝ }
+{
+    if t % 256 == 0 {
+        return OptionTime::NoTime;
+    }
+    let offset = offset_back(
+        low_byte(t / 4294967296),
+        low_byte(t / 1099511627776),
+        low_byte(t / 281474976710656),
+    );
+    OptionTime::SomeTime(Time {
+        hour: low_byte(t / 256),
+        minute: low_byte(t / 65536),
+        second: low_byte(t / 16777216),
+        offset,
+    })
+}
+
+fn season_back(n: u8) -> OptionSeason
+    ensures { λ r. ⌜ r ≡ unpacked.seasonOf n ⌝ }
+{
+    if n == 0 {
+        return OptionSeason::NoSeason;
+    }
+    if n == 21 {
+        return OptionSeason::Spring;
+    }
+    if n == 22 {
+        return OptionSeason::Summer;
+    }
+    if n == 23 {
+        return OptionSeason::Autumn;
+    }
+    OptionSeason::Winter
+}
+
+fn datetime_back(a: u64, t: u64) -> Datetime
+    ensures { λ r. ⌜ r ≡ unpacked.datetimeIn a t ⌝ }
+{
+    let month = month_back(low_byte(a / 4294967296), low_byte(a / 1099511627776));
+    let day = day_back(
+        low_byte(a / 281474976710656),
+        low_byte(a / 72057594037927936),
+    );
+    let time = time_back(t);
+    let season = season_back(low_byte(t / 72057594037927936));
+    Datetime {
+        year: from_twos(a % 4294967296),
+        month,
+        day,
+        time,
+        season,
+    }
+}
+
+fn value_back(w: Words) -> DateValue
+    ensures { λ r. ⌜ r ≡ unpacked.valueIn w ⌝ }
+{
+    let shape = w.last % 256;
+    let first = datetime_back(w.first, w.first_time);
+    if shape == 0 {
+        return DateValue::At(first);
+    }
+    if shape == 1 {
+        return DateValue::After(first);
+    }
+    if shape == 2 {
+        return DateValue::Before(first);
+    }
+    DateValue::Between(first, datetime_back(w.second, w.second_time))
+}
+
+fn date_back(w: Words) -> Date
+    ensures { λ r. ⌜ r ≡ unpacked.dateIn w ⌝ }
+{
+    let value = value_back(w);
+    Date {
+        value,
+        uncertain: w.last / 256 % 256 != 0,
+        approximate: w.last / 65536 % 256 != 0,
+    }
+}
+
+// What a reader answered, from its words.
+pub fn unpack(w: Words) -> ReadDate
+    ensures { λ r. ⌜ ((x : ReadDate) → w ≡ wordsOf x → Typed x → r ≡ x) ⌝ }
+{
+    let refusal = low_byte(w.last / 4294967296);
+    if refusal == 0 {
+        return ReadDate::Accepted(date_back(w));
+    }
+    ReadDate::Refused(Refusal {
+        kind: kind_of(refusal),
+        place: lent_span(w.start, w.end),
+    })
 }
