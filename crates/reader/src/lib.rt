@@ -248,7 +248,7 @@ pub fn parse_strict(bytes: &[u8], table: &[u64]) -> ReadDate
 pub fn parse_level_one(bytes: &[u8], table: &[u64]) -> ReadDate
     ensures { λ r. ⌜ r ≡ field.parsedLevelOne (now (bytes .entry)) (now (table .entry)) ⌝ }
 {
-    parse_by(true, bytes, table)
+    codes::unpack(level_words(bytes, table))
 }
 
 // ---- three fields
