@@ -1,6 +1,6 @@
 #!/usr/bin/env python3
 """Writes docs/benchmarks.svg and the tables of docs/BENCHMARKS.md from what bench/run measured, on each sort of processor."""
-import collections, os
+import collections, os, textwrap
 from xml.sax.saxutils import escape
 
 HERE = os.path.dirname(os.path.abspath(__file__))
@@ -136,7 +136,8 @@ def aims():
         rows.append([a.what, a.words] + [f'{sum(m)} of {len(m)}' if m else 'not measured' for m in met])
     for folder, (name, of) in zip(PROCESSORS, there.items()):
         over = [f'{": ".join(case) if case[1] else aim(case).what} ({p:.3f})' for case, p in of.items() if p > aim(case).part]
-        missed.append(f'{name} ({days(folder, "times", "frames")}): {len(over)} of {len(of)} rows miss their aim{": " if over else ""}{"; ".join(over)}.\n')
+        said = f'{name} ({days(folder, "times", "frames")}): {len(over)} of {len(of)} rows miss their aim{": " if over else ""}{"; ".join(over)}.'
+        missed.append(textwrap.fill(said, 120, break_on_hyphens=False, break_long_words=False) + '\n')
     lines = [['what', 'at most, of the Rust\'s time', *there], ['---', '---'] + ['---:'] * len(there)] + rows
     return ''.join('| ' + ' | '.join(line) + ' |\n' for line in lines) + '\n' + '\n'.join(missed)
 
