@@ -1,24 +1,24 @@
 -- A list without a Math chunk, of printing ASCII: it has no fault, and its text is its bytes.
 -- Assumes nothing.
 use mathlib.Core.Path.{_≡_, refl, sym, _∙_}
-use mathlib.Core.Bool.{Bool, true, false, _&&_}
-use mathlib.Core.List.{List, [], _∷_, _++_}
-use Prim.Native.Nat.{ℕ, zero, suc, _+_, _%_, _≤_}
+use mathlib.Core.Bool.{Bool, true, false}
+use mathlib.Core.List.{List, [], _∷_}
+use Prim.Native.Nat.{ℕ, zero, suc, _≤_}
 use native.Mathlib.Omega.{arith}
-use borrow.Author.Tests.{leb-true, eqb-true, le-leb, eq-eqb, ne-eqb}
-use lib.Dec.{leb, eqb}
+use borrow.Author.Tests.{leb-true, le-leb, ne-eqb}
+use lib.Dec.{leb}
 use lib.ListN.{length, take, drop, length-drop, take-append-drop}
 use Rattle.chars.specs.Pick.{pick}
 use Rattle.chars.specs.Classes.{isWhitespace}
 use Rattle.chars.proofs.Cases.{and-true}
 use Rattle.chars.proofs.Encode.{encode-one}
 use Rattle.chunks.specs.declared.Checked.the-variants.{Clean}
-use Rattle.chunks.specs.Chunks.{Chunk, chunksOf, kindsKnown, lengths, fits, isShort}
+use Rattle.chunks.specs.Chunks.{Chunk, chunksOf, lengths, fits, isShort}
 use Rattle.chunks.specs.Check.{checked}
 use Rattle.chunks.specs.Format.{isBreak, oneOut, normal, chunkOut, chunkFlag, chunksOut, formatted}
 use Rattle.chunks.specs.Answer.{textOf}
 use Rattle.chunks.proofs.Plains.{ascii-codes, plain-text}
-use Rattle.chunks.proofs.Tables.{count}
+use Rattle.chunks.proofs.Tables.{of-fits}
 use Rattle.chunks.proofs.Whole.{ascii-checked}
 use Rattle.codes.specs.Lists.{noMath, isJoined}
 use Rattle.roundtrip_laws.proofs.Bytes.{Clear, none, more, clear-text, clear-ascii}
@@ -66,59 +66,36 @@ chunks-clear w b (k ∷ cs) c m e =
     )
     (take-append-drop (k .len) b)
 
--- kinds that are not Math are known
-no-math-known : (cs : List Chunk) → noMath cs ≡ true → kindsKnown cs ≡ true
-unfolding noMath kindsKnown
-no-math-known [] m = refl
-no-math-known (k ∷ cs) m =
-    let p = and-true (leb (k .kind) 1) (noMath cs) m in
-    let h = leb-true (k .kind) 1 (p .0) in
-    rw (le-leb (k .kind) 2 (omega arith)) (no-math-known cs (p .1))
-
 -- what such a list is
 record Joined (b table : List ℕ) : Type 0 where
   short : length b ≤ 54
-  few : length table ≤ 256
-  fours : length table % 4 ≡ 0
+  few : length (chunksOf table) ≤ 64
   plain : noMath (chunksOf table) ≡ true
-  sum : lengths (chunksOf table) ≡ length b
+  whole : fits b table ≡ true
 
 of-joined : (b table : List ℕ) → isJoined b table ≡ true → Joined b table
 unfolding isJoined
 of-joined b table j =
     let p = and-true (leb (length b) 54) _ j in
-    let q = and-true (leb (length table) 256) _ (p .1) in
-    let r = and-true (eqb (length table % 4) 0) _ (q .1) in
-    let s = and-true (noMath (chunksOf table)) _ (r .1) in
-    record {
-      short = leb-true _ 54 (p .0);
-      few = leb-true _ 256 (q .0);
-      fours = eqb-true _ 0 (r .0);
-      plain = s .0;
-      sum = eqb-true _ _ (s .1);
-    }
+    let q = and-true (leb (length (chunksOf table)) 64) _ (p .1) in
+    let r = and-true (noMath (chunksOf table)) _ (q .1) in
+    record { short = leb-true _ 54 (p .0); few = leb-true _ 64 (q .0); plain = r .0; whole = r .1 }
 
 module _ (b table : List ℕ) (j : isJoined b table ≡ true) (c : Clear b) where
   abbrev k : Joined b table
   k = of-joined b table j
 
-  joined-fits : fits b table ≡ true
-  unfolding fits
-  joined-fits = rw (eq-eqb (length table % 4) 0 (k .fours), no-math-known (chunksOf table) (k .plain), eq-eqb _ _ (k .sum))
-
   joined-short : isShort b table ≡ true
   unfolding isShort
-  joined-short =
-      let n = count table in
-      rw (le-leb (length (chunksOf table)) 64 (omega (arith, k .few)), le-leb (length b) 4096 (omega (arith, k .short)))
+  joined-short = rw (le-leb (length (chunksOf table)) 64 (k .few), le-leb (length b) 4096 (omega (arith, k .short)))
 
   -- it has no fault,
   pub joined-clean : checked b table ≡ Clean
-  joined-clean = ascii-checked b table joined-fits joined-short (clear-ascii c)
+  joined-clean = ascii-checked b table (k .whole) joined-short (clear-ascii c)
 
   joined-formatted : formatted b table ≡ b
   unfolding formatted
-  joined-formatted = chunks-clear false b (chunksOf table) c (k .plain) (k .sum)
+  joined-formatted = chunks-clear false b (chunksOf table) c (k .plain) (of-fits b table (k .whole) .sum)
 
   -- and its text is its bytes, in upper case and as it is
   pub joined-text : (u : Bool) → textOf u b table ≡ b

@@ -1,12 +1,12 @@
 -- Which chunk lists are answered at once, and what is said of them. That this is what the readers say is proved in `code_laws`.
-use Prim.Native.Nat.{ℕ, _%_}
+use Prim.Native.Nat.{ℕ}
 use mathlib.Core.Bool.{Bool, true, _&&_, _||_}
 use mathlib.Core.List.{List, [], _∷_}
 use mathlib.Core.Option.{Option, none, some}
 use lib.Dec.{eqb, leb, ltb}
 use lib.ListN.{length, getD}
 use Rattle.chars.specs.Pick.{pick}
-use Rattle.chunks.specs.Chunks.{Chunk, chunksOf, lengths}
+use Rattle.chunks.specs.Chunks.{Chunk, chunksOf, fits}
 use Rattle.chunks.specs.Lent.{Lent, Optional, Three}
 use Rattle.dates.specs.declared.OptionMonth.{OptionMonth}
 use Rattle.dates.specs.declared.OptionMonth.the-variants.{NoMonth}
@@ -33,8 +33,7 @@ noMath (c ∷ cs) = leb (c .kind) 1 && noMath cs
 -- a list of at most 64 such chunks, whose texts one behind the other are the bytes; no usual text is longer than 54
 unfoldable pub isJoined : List ℕ → List ℕ → Bool
 isJoined b table =
-    leb (length b) 54
-    && (leb (length table) 256 && (eqb (length table % 4) 0 && (noMath (chunksOf table) && eqb (lengths (chunksOf table)) (length b))))
+    leb (length b) 54 && (leb (length (chunksOf table)) 64 && (noMath (chunksOf table) && fits b table))
 
 -- what both readers say of the text of either list
 unfoldable pub listWritten : List ℕ → List ℕ → Option ReadDate
