@@ -1,5 +1,6 @@
 pub mod Points
 pub mod Lists
+pub mod Joined
 pub mod Typed
 pub mod Texts
 pub mod Written
