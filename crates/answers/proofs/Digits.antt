@@ -1,14 +1,11 @@
--- Bytes as digits, byte by byte, and a year in two's complement. Assumes nothing.
+-- Bytes as digits, byte by byte. Assumes nothing.
 use mathlib.Core.Path.{_≡_, refl, sym, ap, _∙_}
-use mathlib.Core.Bool.{Bool, true, false, false≢true}
+use mathlib.Core.Bool.{Bool, true, false}
 use mathlib.Core.List.{List, [], _∷_, _++_}
 use Prim.Native.Nat.{ℕ, suc, _+_, _-_, _*_, _/_, _%_, _≤_, _<_}
 use native.Mathlib.Omega.{arith}
-use lib.IntN.{ℤ, pos, negsuc, natAbs}
-use lib.Signed.{ltZ}
 use lib.ListN.{length, getD, drop, set, length-append, drop-of-length-le}
 use lib.Seq.{sets, drop-cons}
-use borrow.Author.Tests.{ltb-true}
 use lib.Bits.{bitAnd, bitOr}
 use Rattle.chars.proofs.Spelled.{bytesAt, entries}
 use Rattle.dates.specs.declared.TimeOffset.{TimeOffset}
@@ -25,9 +22,10 @@ use Rattle.dates.specs.declared.Date.{Date}
 use Rattle.dates.specs.Value.{seasonNumber}
 use Rattle.refusals.specs.declared.Refusal.{Refusal}
 use Rattle.refusals.specs.Refusal.{number}
+use Rattle.codes.specs.Words.{twos}
 use Rattle.puts.specs.Answers.{Put}
 use Rattle.puts.proofs.Puts.{as-text, both, kept}
-use Rattle.answers.specs.Answer.{glyph, hexText, wordBytes, twos, monthByte, dayByte, bit, marks, shiftBytes, offsetBytes, timeBytes, datetimeBytes, endBytes, endLength, shape, endsBytes, longBytes, bytesWith, acceptedBytes, refusedBytes, lineOf, oneLine, twoLine, acceptedLine}
+use Rattle.answers.specs.Answer.{glyph, hexText, wordBytes, monthByte, dayByte, bit, marks, shiftBytes, offsetBytes, timeBytes, datetimeBytes, endBytes, endLength, shape, endsBytes, longBytes, bytesWith, acceptedBytes, refusedBytes, lineOf, oneLine, twoLine, acceptedLine}
 
 -- two digits a byte
 pub length-hex : (t : List ℕ) → length (hexText t) ≡ 2 * length t
@@ -54,18 +52,6 @@ next-digits t out at i h =
 pub no-digits : (t : List ℕ) (i : ℕ) → length t ≤ i → hexText (drop i t) ≡ []
 unfolding hexText
 no-digits t i h = rw (drop-of-length-le t {i = i} h)
-
--- a year below 0
-pub below : (y : ℤ) → ltZ y (pos 0) ≡ true → (0 < natAbs y) × (4294967295 - (natAbs y - 1) ≡ twos y)
-unfolding twos
-below (pos n) t = absurd (let h = ltb-true n 0 t in omega arith)
-below (negsuc n) t = (omega arith, omega arith)
-
--- and another
-pub above : (y : ℤ) → ltZ y (pos 0) ≡ false → natAbs y ≡ twos y
-unfolding twos
-above (pos n) t = refl
-above (negsuc n) t = absurd (false≢true (sym t))
 
 -- the two bits
 pub packed : (u a : Bool) → bitOr (bitAnd (bit u) 1) (bitAnd (bit a) 1 * 2 % 256) ≡ marks u a

@@ -4,7 +4,6 @@ use Prim.Native.Nat.{ℕ, _+_, _-_, _*_, _/_, _%_}
 use mathlib.Core.Bool.{Bool, true, false}
 use mathlib.Core.List.{List, [], _∷_, _++_}
 use lib.Dec.{ltb}
-use lib.IntN.{ℤ, pos, negsuc}
 use Rattle.chars.specs.Pick.{pick}
 use Rattle.refusals.specs.declared.Refusal.{Refusal}
 use Rattle.refusals.specs.Refusal.{number}
@@ -25,6 +24,7 @@ use Rattle.dates.specs.declared.Date.{Date}
 use Rattle.dates.specs.Value.{seasonNumber}
 use Rattle.refusals.specs.declared.ReadDate.{ReadDate}
 use Rattle.refusals.specs.declared.ReadDate.the-variants.{Accepted, Refused}
+use Rattle.codes.specs.Words.{twos}
 use Rattle.puts.specs.declared.Measured.{Measured}
 use Rattle.puts.specs.declared.Measured.the-variants.{Length, NoLength}
 use Rattle.writer.specs.Texts.{dateText}
@@ -48,11 +48,6 @@ wordBytes n = (n / 16777216 % 256) ∷ (n / 65536 % 256) ∷ (n / 256 % 256) ∷
 -- in eight bytes, as a place in a file needs them
 abbrev pub longBytes : ℕ → List ℕ
 longBytes n = wordBytes (n / 4294967296) ++ wordBytes (n % 4294967296)
-
--- a year in two's complement of 32 bits
-unfoldable pub twos : ℤ → ℕ
-twos (pos n) = n
-twos (negsuc n) = 4294967295 - n
 
 -- a stored month; ff if it is absent
 unfoldable pub monthByte : OptionMonth → ℕ

@@ -40,17 +40,6 @@ fn word(n: u32) -> [u8; 4]
     ]
 }
 
-// A year in two's complement.
-pub fn twos(year: i32) -> u32
-    ensures { λ r. ⌜ r ≡ spec.twos year ⌝ }
-{
-    if year < 0 {
-        let y = year as i64;
-        return u32::MAX - ((0 - y) as u32 - 1);
-    }
-    year as u32
-}
-
 // A stored month; ff if it is absent.
 fn month_byte(m: OptionMonth) -> u8
     ensures { λ r. ⌜ r ≡ spec.monthByte m ⌝ }
@@ -121,7 +110,7 @@ fn datetime_bytes(d: Datetime) -> [u8; 13]
     let month = d.month;
     let day = d.day;
     let time = d.time;
-    let y = word(twos(d.year));
+    let y = word(codes::twos(d.year));
     let t = time_bytes(time);
     [
         y[0],

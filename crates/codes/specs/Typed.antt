@@ -2,6 +2,7 @@
 use Prim.Native.Nat.{ℕ, _<_}
 use mathlib.Core.List.{List, [], _∷_}
 use lib.Signed.{mag}
+use Rattle.dates.specs.declared.Time.{Time}
 use Rattle.dates.specs.declared.Datetime.{Datetime}
 use Rattle.dates.specs.Ends.{EachEnd}
 use Rattle.refusals.specs.declared.ReadDate.{ReadDate}
@@ -13,11 +14,13 @@ abbrev pub Bytes : List ℕ → Type 0
 Bytes [] = Unit {0}
 Bytes (n ∷ l) = (n < 256) × Bytes l
 
--- those of a Datetime that are stored in a byte
+-- those of a time that are stored in a byte
+abbrev pub storedTime : Time → List ℕ
+storedTime t = t .hour ∷ t .minute ∷ t .second ∷ hoursOf (shiftOf (t .offset)) ∷ minutesOf (shiftOf (t .offset)) ∷ []
+
+-- those of a Datetime
 abbrev pub stored : Datetime → List ℕ
-stored d =
-    monthNumber (d .month) ∷ dayNumber (d .day) ∷ clockOf (d .time) .hour ∷ clockOf (d .time) .minute ∷ clockOf (d .time) .second
-    ∷ hoursOf (shiftOf (clockOf (d .time) .offset)) ∷ minutesOf (shiftOf (clockOf (d .time) .offset)) ∷ []
+stored d = monthNumber (d .month) ∷ dayNumber (d .day) ∷ storedTime (clockOf (d .time))
 
 -- the numbers of a Datetime
 pub record DatetimeTyped (d : Datetime) : Type 0 where

@@ -1,10 +1,8 @@
 -- What a reader answers, in seven words of 64 bits: numbers that are handed on in registers, and the words that a C caller gets.
-use Prim.Native.Nat.{ℕ, _+_, _*_, _-_, _<_}
+use Prim.Native.Nat.{ℕ, _+_, _*_, _-_}
 use mathlib.Core.Bool.{Bool, true, false}
-use mathlib.Core.List.{List, [], _∷_}
 use lib.IntN.{ℤ, pos, negsuc}
 use mathlib.Core.Option.{Option, none, some}
-use lib.Signed.{mag}
 use Rattle.dates.specs.declared.OptionMonth.{OptionMonth}
 use Rattle.dates.specs.declared.OptionMonth.the-variants.{NoMonth, SomeMonth}
 use Rattle.dates.specs.declared.OptionDay.{OptionDay}
@@ -19,7 +17,6 @@ use Rattle.dates.specs.declared.OptionTime.the-variants.{NoTime, SomeTime}
 use Rattle.dates.specs.declared.Datetime.{Datetime}
 use Rattle.dates.specs.declared.DateValue.{DateValue}
 use Rattle.dates.specs.declared.DateValue.the-variants.{At, After, Before, Between}
-use Rattle.dates.specs.declared.Date.{Date}
 use Rattle.dates.specs.Time.{time}
 use Rattle.dates.specs.Value.{seasonNumber}
 use Rattle.refusals.specs.declared.ReadDate.{ReadDate}
@@ -151,6 +148,21 @@ timeWord d =
     (offsetSort (clockOf (d .time) .offset)) (hoursOf (shiftOf (clockOf (d .time) .offset))) (minutesOf (shiftOf (clockOf (d .time) .offset)))
     (seasonNumber (d .season))
 
+-- a clock's part of it, if there is one
+abbrev pub clockWord : Bool → ℕ → ℕ → ℕ → ℕ
+clockWord true h m s = fourBytes 1 h m s
+clockWord false h m s = nothing
+
+-- an offset's part, by its sort
+abbrev pub shiftWord : Bool → ℕ → ℕ → ℕ → ℕ
+shiftWord true sort h m = 4294967296 * fourBytes sort h m 0
+shiftWord false sort h m = nothing
+
+-- the part of what stands behind the seconds
+abbrev pub zoneWord : Option OptionOffset → ℕ
+zoneWord none = nothing
+zoneWord (some o) = shiftWord true (offsetSort o) (hoursOf (shiftOf o)) (minutesOf (shiftOf o))
+
 -- the words of a place, two for each Datetime, and the last
 abbrev pub words : ℕ → ℕ → ℕ → ℕ → ℕ → ℕ → ℕ → Words
 words start end a at b bt last =
@@ -162,6 +174,18 @@ valueWords (At d) u p = words 0 0 (dayWord d) (timeWord d) 0 0 (lastWord 0 u p 0
 valueWords (After d) u p = words 0 0 (dayWord d) (timeWord d) 0 0 (lastWord 1 u p 0)
 valueWords (Before d) u p = words 0 0 (dayWord d) (timeWord d) 0 0 (lastWord 2 u p 0)
 valueWords (Between a b) u p = words 0 0 (dayWord a) (timeWord a) (dayWord b) (timeWord b) (lastWord 3 u p 0)
+
+-- the marks as they stand in the last word
+abbrev pub marksOf : Bool → Bool → ℕ
+marksOf u a = 256 * flag u + 65536 * flag a
+
+-- the words of a point or range that may be none, by its marks in the last word
+abbrev pub valueOr : Option DateValue → ℕ → Words
+valueOr none marks = words 0 0 0 0 0 0 nothing
+valueOr (some (At d)) marks = words 0 0 (dayWord d) (timeWord d) 0 0 marks
+valueOr (some (After d)) marks = words 0 0 (dayWord d) (timeWord d) 0 0 (1 + marks)
+valueOr (some (Before d)) marks = words 0 0 (dayWord d) (timeWord d) 0 0 (2 + marks)
+valueOr (some (Between a b)) marks = words 0 0 (dayWord a) (timeWord a) (dayWord b) (timeWord b) (3 + marks)
 
 -- what a reader answers: the Date with no refusal, or the refusal's number and place with no Date
 abbrev pub wordsOf : ReadDate → Words

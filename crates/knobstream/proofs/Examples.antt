@@ -18,7 +18,7 @@ use Rattle.dates.specs.declared.DateValue.the-variants.{At, Between}
 use Rattle.dates.specs.Time.{time}
 use Rattle.dates.specs.Value.{month, day, datetime, seasonOf, date}
 use Rattle.refusals.specs.declared.ReadDate.the-variants.{Accepted, Refused}
-use Rattle.answers.specs.Answer.{twos}
+use Rattle.codes.specs.Words.{twos}
 use Rattle.knobstream.specs.Plain.{words, read}
 use Rattle.knobstream.specs.Layout.{inBytes, inMemory}
 
