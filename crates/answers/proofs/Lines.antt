@@ -25,8 +25,7 @@ use Rattle.writer.specs.Answers.{dateMeasured, dateAnswer, dateAfterwards}
 use Rattle.writer.specs.Texts.{dateText, panics}
 use Rattle.writer.specs.Level.{levelText, levelPanics}
 use Rattle.puts.proofs.Answered.{has-length, done}
-use Rattle.writer.specs.Sizes.{Ends}
-use Rattle.writer.proofs.Levels.{season-refused, else-as-before, level-most}
+use Rattle.writer.proofs.Levels.{season-refused, else-as-before}
 use Rattle.answers.specs.Answer.{endLength, refusedBytes, refusedLine, acceptedLine, measuredLine, answerLine, levelLine}
 use Rattle.answers.proofs.Digits.{length-line, length-refused, accepted-most, end-least}
 
@@ -169,7 +168,3 @@ pub level-line-most : (n : ℕ) (r : ReadDate) → ((d : Date) → r ≡ Accepte
 unfolding levelLine endLength
 level-line-most n (Accepted d) h = omega (arith, measured-most true d (levelText d) (measured (levelPanics d) (levelText d)) n (h d refl))
 level-line-most n (NotRead e) h = omega (arith, refused-length e)
-
--- so it has at most 147 characters, whatever stored Date was read
-pub level-line-room : (r : ReadDate) → ((d : Date) → r ≡ Accepted d → Ends (d .value)) → length (levelLine r) ≤ 147
-level-line-room r h = level-line-most 42 r λ d e. level-most d (h d e)

@@ -9,12 +9,6 @@ unfolding pick
 by-test P true f g = f refl
 by-test P false f g = g refl
 
--- the same test on both sides, and a function of what the right one picks
-pub by-both : {A B : Type 0} (f : A → B) (t : Bool) {x y : B} {u v : A} → x ≡ f u → (t ≡ false → y ≡ f v) → pick t x y ≡ f (pick t u v)
-unfolding pick
-by-both f true p q = p
-by-both f false p q = q refl
-
 -- one of the two values of a test
 pub of-test : {A : Type 0} (t : Bool) → (t ≡ true → A) → (t ≡ false → A) → A
 of-test true f g = f refl

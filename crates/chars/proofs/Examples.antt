@@ -9,7 +9,7 @@ use Rattle.chars.specs.Ascii.{ascii, digitOf}
 use Rattle.chars.specs.Signs.{signed}
 use Rattle.chars.specs.Classes.{within, isAdmitted, isWhitespace, isAsciiDigit, isNumeric, isAsciiAlphabetic, isAlphabetic, isAlphanumeric}
 use Rattle.chars.specs.Upper.{loses32, upperOf, codesOf}
-use Rattle.chars.specs.Utf8.{lenOf, onesFrom, leadingOnes, lenByOnes, isCont, isSurrogate, two, three, four, decode, first, decodeAt, lenD, encode, encodeAll}
+use Rattle.chars.specs.Utf8.{lenOf, onesFrom, leadingOnes, lenByOnes, isCont, isSurrogate, decode2, decode3, decode4, decode, first, decodeAt, lenD, encode, encodeAll}
 use Rattle.chars.specs.declared.Decoded.{Decoded}
 use Rattle.chars.specs.declared.Decoded.the-variants.{Char, Bad, End}
 use Rattle.chars.specs.declared.Upper.{Upper}
@@ -84,7 +84,7 @@ bytes-1 =
     ∷ (0xFF ∷ [], Bad) ∷ []
 
 pub bytes-1-rows : Answers first bytes-1
-unfolding first decode lenOf isCont isSurrogate two three four pick
+unfolding first decode lenOf isCont isSurrogate decode2 decode3 decode4 pick
 bytes-1-rows = refl
 
 -- of two bytes: the ends of row 2 of the standard's table
@@ -104,7 +104,7 @@ bytes-2 =
     ∷ (0xDF ∷ 0xC0 ∷ [], Bad) ∷ []
 
 pub bytes-2-rows : Answers first bytes-2
-unfolding first decode lenOf isCont isSurrogate two three four pick
+unfolding first decode lenOf isCont isSurrogate decode2 decode3 decode4 pick
 bytes-2-rows = refl
 
 -- of three: the ends of rows 3 to 6
@@ -150,7 +150,7 @@ bytes-3 =
     ∷ (0xEF ∷ 0xC0 ∷ 0x80 ∷ [], Bad) ∷ []
 
 pub bytes-3-rows : Answers first bytes-3
-unfolding first decode lenOf isCont isSurrogate two three four pick
+unfolding first decode lenOf isCont isSurrogate decode2 decode3 decode4 pick
 bytes-3-rows = refl
 
 -- of four: the ends of rows 7 to 9
@@ -193,12 +193,12 @@ bytes-4 =
     ∷ (0xF7 ∷ 0xBF ∷ 0xBF ∷ 0xBF ∷ [], Bad) ∷ []
 
 pub bytes-4-rows : Answers first bytes-4
-unfolding first decode lenOf isCont isSurrogate two three four pick
+unfolding first decode lenOf isCont isSurrogate decode2 decode3 decode4 pick
 bytes-4-rows = refl
 
 -- what stands at each place of A, U+00E9 and the end
 pub places : Answers (decodeAt (0x41 ∷ 0xC3 ∷ 0xA9 ∷ [])) ((0, Char 0x41 1) ∷ (1, Char 0xE9 2) ∷ (2, Bad) ∷ (3, End) ∷ (4, End) ∷ [])
-unfolding decodeAt first decode lenOf isCont isSurrogate two three four pick
+unfolding decodeAt first decode lenOf isCont isSurrogate decode2 decode3 decode4 pick
 places = refl
 
 -- how many bytes what was decoded has

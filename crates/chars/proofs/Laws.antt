@@ -12,7 +12,7 @@ use lib.ListN.{length, getD, take, drop, length-take, length-drop, drop-of-lengt
 use lib.Seq.{drop-cons, getD-drop}
 use Rattle.chars.specs.Ascii.{digitOf}
 use Rattle.chars.specs.Pick.{pick}
-use Rattle.chars.specs.Utf8.{lenOf, isCont, isSurrogate, code2, code3, code4, two, three, four, decode, first, decodeAt, lenD, encode}
+use Rattle.chars.specs.Utf8.{lenOf, isCont, isSurrogate, code2, code3, code4, decode2, decode3, decode4, decode, first, decodeAt, lenD, encode}
 use Rattle.chars.specs.declared.Decoded.{Decoded}
 use Rattle.chars.specs.declared.Decoded.the-variants.{Char, Bad, End}
 use Rattle.chars.proofs.Cases.{by-test, and-true}
@@ -108,13 +108,13 @@ pub record Ways (P : Decoded → Type 0) (a b c d : ℕ) : Type 0 where
   pub four-bytes : 0xF0 ≤ a → a < 0xF8 → isCont b ≡ true → isCont c ≡ true → isCont d ≡ true → 0x10000 ≤ code4 a b c d → code4 a b c d ≤ 0x10FFFF → P (Char (code4 a b c d) 4)
 
 module _ {P : Decoded → Type 0} {a b c d : ℕ} (w : Ways P a b c d) where
-  two-ways : 0xC0 ≤ a → a < 0xE0 → P (two a b)
-  unfolding two
+  two-ways : 0xC0 ≤ a → a < 0xE0 → P (decode2 a b)
+  unfolding decode2
   two-ways l h =
       by-test P _ (λ t. let e = and-true _ _ t in w .two-bytes l h (e .0) (leb-true 0x80 (code2 a b) (e .1))) (λ _. w .ill)
 
-  three-ways : 0xE0 ≤ a → a < 0xF0 → P (three a b c)
-  unfolding three
+  three-ways : 0xE0 ≤ a → a < 0xF0 → P (decode3 a b c)
+  unfolding decode3
   three-ways l h =
       by-test P _
       (λ t. let e3 = and-true _ _ t in
@@ -123,8 +123,8 @@ module _ {P : Decoded → Type 0} {a b c d : ℕ} (w : Ways P a b c d) where
       w .three-bytes l h (e1 .0) (e1 .1) (leb-true 0x800 (code3 a b c) (e2 .1)) (not-true _ (e3 .1)))
       (λ _. w .ill)
 
-  four-ways : 0xF0 ≤ a → a < 0xF8 → P (four a b c d)
-  unfolding four
+  four-ways : 0xF0 ≤ a → a < 0xF8 → P (decode4 a b c d)
+  unfolding decode4
   four-ways l h =
       by-test P _
       (λ t. let e4 = and-true _ _ t in
@@ -135,7 +135,7 @@ module _ {P : Decoded → Type 0} {a b c d : ℕ} (w : Ways P a b c d) where
       (λ _. w .ill)
 
   -- by the length that the first byte says
-  by-head : {k : ℕ} → Head a k → P (getD (Bad ∷ Char a 1 ∷ two a b ∷ three a b c ∷ four a b c d ∷ []) k Bad)
+  by-head : {k : ℕ} → Head a k → P (getD (Bad ∷ Char a 1 ∷ decode2 a b ∷ decode3 a b c ∷ decode4 a b c d ∷ []) k Bad)
   by-head head0 = w .ill
   by-head (head1 h) = w .one h
   by-head (head2 l h) = two-ways l h
@@ -179,16 +179,16 @@ first-sound =
 -- the bytes of a character, with anything behind them
 module _ (a b : ℕ) where
   pub two-is : (r : List ℕ) → 0xC0 ≤ a → a < 0xE0 → isCont b ≡ true → 0x80 ≤ code2 a b → first (a ∷ b ∷ r) ≡ Char (code2 a b) 2
-  unfolding first decode lenOf two pick
+  unfolding first decode lenOf decode2 pick
   two-is r l h e v = rw (le-ltb a 0x80 (omega arith), le-ltb a 0xC0 l, lt-ltb a 0xE0 h, e, le-leb 0x80 (code2 a b) v)
 
   pub three-is : (c : ℕ) (r : List ℕ) → 0xE0 ≤ a → a < 0xF0 → isCont b ≡ true → isCont c ≡ true → 0x800 ≤ code3 a b c → isSurrogate (code3 a b c) ≡ false → first (a ∷ b ∷ c ∷ r) ≡ Char (code3 a b c) 3
-  unfolding first decode lenOf three pick
+  unfolding first decode lenOf decode3 pick
   three-is c r l h e f v n =
       rw (le-ltb a 0x80 (omega arith), le-ltb a 0xC0 (omega arith), le-ltb a 0xE0 l, lt-ltb a 0xF0 h, e, f, le-leb 0x800 (code3 a b c) v, n)
 
   pub four-is : (c d : ℕ) (r : List ℕ) → 0xF0 ≤ a → a < 0xF8 → isCont b ≡ true → isCont c ≡ true → isCont d ≡ true → 0x10000 ≤ code4 a b c d → code4 a b c d ≤ 0x10FFFF → first (a ∷ b ∷ c ∷ d ∷ r) ≡ Char (code4 a b c d) 4
-  unfolding first decode lenOf four pick
+  unfolding first decode lenOf decode4 pick
   four-is c d r l h e f g v m =
       rw (
         le-ltb a 0x80 (omega arith),

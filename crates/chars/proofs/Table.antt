@@ -9,7 +9,6 @@ use native.Mathlib.Omega.{arith}
 use native.Mathlib.Decide.{decLt}
 use borrow.Author.Tests.{lt-ltb, le-ltb, le-leb, lt-leb}
 use lib.ListN.{length, take, drop, take-append-drop, length-drop}
-use lib.Seq.{take-append-seam}
 use Rattle.chars.specs.Utf8.{isCont, isSurrogate, code3, code4, first, decodeAt}
 use Rattle.chars.specs.Table.{In, WellFormed, Begins}
 use Rattle.chars.specs.Table.WellFormed.{row1, row2, row3, row4, row5, row6, row7, row8, row9}
@@ -122,9 +121,6 @@ of-listed (listed b) = b
 of-begins : {t : List ℕ} {code k : ℕ} → Begins t code k → first t ≡ Char code k
 of-begins (begins t w) = taken w t
 
-row-taken : {t : List ℕ} {code k : ℕ} → Begins t code k → WellFormed (take k t) code
-row-taken (begins {s} {c} t w) = subst (λ (u : List ℕ). WellFormed u c) (sym (take-append-seam s t)) w
-
 bad-no-char : {code n : ℕ} → _≡_ {A = Decoded} Bad (Char code n) → ⊥
 bad-no-char {code} {n} e = let z : _≡_ {A = ℕ} 0 1 = cc in omega arith
 
@@ -136,10 +132,6 @@ module _ (s : List ℕ) (at : ℕ) where
   pub char-exact : (code n : ℕ) → (decodeAt s at ≡ Char code n) ↔ Begins (drop at s) code n
   unfolding decodeAt
   char-exact code n = ((λ e. of-listed (subst (Listed (drop at s)) e (of-table (drop at s)))), of-begins)
-
-  -- so the bytes that were taken are a row of the table, with the code
-  pub char-row : (code n : ℕ) → decodeAt s at ≡ Char code n → WellFormed (take n (drop at s)) code
-  char-row code n e = row-taken (char-exact code n .0 e)
 
   -- the place is the end exactly if the text is no longer
   pub end-exact : (decodeAt s at ≡ End) ↔ (length s ≤ at)

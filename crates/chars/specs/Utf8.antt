@@ -46,22 +46,22 @@ abbrev pub code4 : ℕ → ℕ → ℕ → ℕ → ℕ
 code4 a b c d = ((a % 8 * 64 + b % 64) * 64 + c % 64) * 64 + d % 64
 
 -- a character of two bytes: the second continues it, and one byte would not do (else the form is overlong)
-unfoldable pub two : ℕ → ℕ → Decoded
-two a b = pick (isCont b && leb 0x80 (code2 a b)) (Char (code2 a b) 2) Bad
+unfoldable pub decode2 : ℕ → ℕ → Decoded
+decode2 a b = pick (isCont b && leb 0x80 (code2 a b)) (Char (code2 a b) 2) Bad
 
 -- of three bytes: not overlong, and no surrogate
-unfoldable pub three : ℕ → ℕ → ℕ → Decoded
-three a b c =
+unfoldable pub decode3 : ℕ → ℕ → ℕ → Decoded
+decode3 a b c =
     pick (isCont b && isCont c && leb 0x800 (code3 a b c) && not (isSurrogate (code3 a b c))) (Char (code3 a b c) 3) Bad
 
 -- of four bytes: not overlong, and not above U+10FFFF
-unfoldable pub four : ℕ → ℕ → ℕ → ℕ → Decoded
-four a b c d =
+unfoldable pub decode4 : ℕ → ℕ → ℕ → ℕ → Decoded
+decode4 a b c d =
     pick (isCont b && isCont c && isCont d && leb 0x10000 (code4 a b c d) && leb (code4 a b c d) 0x10FFFF) (Char (code4 a b c d) 4) Bad
 
 -- what four bytes begin with, by the length that the first one says, from none to four
 unfoldable pub decode : ℕ → ℕ → ℕ → ℕ → Decoded
-decode a b c d = getD (Bad ∷ Char a 1 ∷ two a b ∷ three a b c ∷ four a b c d ∷ []) (lenOf a) Bad
+decode a b c d = getD (Bad ∷ Char a 1 ∷ decode2 a b ∷ decode3 a b c ∷ decode4 a b c d ∷ []) (lenOf a) Bad
 
 -- what a text begins with; behind its end there are zeros, which continue nothing, so a truncated character is ill-formed
 unfoldable pub first : List ℕ → Decoded

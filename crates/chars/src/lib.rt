@@ -91,7 +91,7 @@ fn is_surrogate(code: u32) -> bool
 
 // A character of two bytes, unless the form is overlong.
 fn two(a: u8, b: u8) -> Decoded
-    ensures { λ r. ⌜ r ≡ utf8.two a b ⌝ }
+    ensures { λ r. ⌜ r ≡ utf8.decode2 a b ⌝ }
 {
     if is_cont(b) {
         let code = join(head2(a), b);
@@ -104,7 +104,7 @@ fn two(a: u8, b: u8) -> Decoded
 
 // A character of three bytes, unless the form is overlong or the code a surrogate.
 fn three(a: u8, b: u8, c: u8) -> Decoded
-    ensures { λ r. ⌜ r ≡ utf8.three a b c ⌝ }
+    ensures { λ r. ⌜ r ≡ utf8.decode3 a b c ⌝ }
 {
     if is_cont(b) {
         if is_cont(c) {
@@ -122,7 +122,7 @@ fn three(a: u8, b: u8, c: u8) -> Decoded
 
 // A character of four bytes, unless the form is overlong or the code above U+10FFFF.
 fn four(a: u8, b: u8, c: u8, d: u8) -> Decoded
-    ensures { λ r. ⌜ r ≡ utf8.four a b c d ⌝ }
+    ensures { λ r. ⌜ r ≡ utf8.decode4 a b c d ⌝ }
 {
     if is_cont(b) {
         if is_cont(c) {

@@ -17,7 +17,7 @@ use Rattle.chronology.specs.declared.Entry.{Entry}
 use Rattle.chronology.specs.declared.Answer.{Answer}
 use Rattle.chronology.specs.declared.Answer.the-variants.{Entries, Refused}
 use Rattle.chronology.specs.Entries.{goodPeriod, entryOf, idsOf, among, has, wellKept, listed}
-use Rattle.chronology.specs.Store.{Store, store, Wide, contents, sound, placeOf, rank, inserted, removed}
+use Rattle.chronology.specs.Store.{Store, store, Wide, contents, sound, indexOf, rank, inserted, removed}
 use Rattle.chronology.specs.Calls.{refused, accepted, countAnswer, addAnswer, removeAnswer, listAnswer, withEntry, withoutAt, afterAdd, afterRemove, afterList}
 use Rattle.chronology.proofs.Tests.{both}
 use Rattle.chronology.proofs.Columns.{Room, room, contents-ids, below-test, Place, place, in-it, past-it, listed-front}
@@ -43,32 +43,32 @@ pub sound-room : (s : Store) → Wide s → sound s ≡ true → Room s
 sound-room s w t = room s w (sound-few s t)
 
 -- a search of all identifiers
-search-test : (s : Store) (d k : ℕ) → Room s → k ≡ 0 + placeOf d (take (s .count) (s .ids)) → ltb k (s .count) ≡ has d (contents s)
+search-test : (s : Store) (d k : ℕ) → Room s → k ≡ 0 + indexOf d (take (s .count) (s .ids)) → ltb k (s .count) ≡ has d (contents s)
 unfolding has
 search-test s d k r e =
     let l = take (s .count) (s .ids) in
     let h : 0 + length l ≡ s .count = rw (length-take-le (s .count) (s .ids) (omega arith)) (omega arith) in
     ap (λ (j : ℕ). ltb j (s .count)) e ∙ below-test d l 0 (s .count) h ∙ ap (among d) (sym (contents-ids s r))
 
-pub has-it : (s : Store) (d k : ℕ) → Room s → k ≡ 0 + placeOf d (take (s .count) (s .ids)) → k < s .count → has d (contents s) ≡ true
+pub has-it : (s : Store) (d k : ℕ) → Room s → k ≡ 0 + indexOf d (take (s .count) (s .ids)) → k < s .count → has d (contents s) ≡ true
 has-it s d k r e h = sym (search-test s d k r e) ∙ lt-ltb k (s .count) h
 
-pub has-not : (s : Store) (d k : ℕ) → Room s → k ≡ 0 + placeOf d (take (s .count) (s .ids)) → s .count ≤ k → has d (contents s) ≡ false
+pub has-not : (s : Store) (d k : ℕ) → Room s → k ≡ 0 + indexOf d (take (s .count) (s .ids)) → s .count ≤ k → has d (contents s) ≡ false
 has-not s d k r e h = sym (search-test s d k r e) ∙ le-ltb k (s .count) h
 
 -- the place of an identifier that is there
-pub place-below : (s : Store) (d : ℕ) → Room s → has d (contents s) ≡ true → placeOf d (idsOf (contents s)) < s .count
+pub place-below : (s : Store) (d : ℕ) → Room s → has d (contents s) ≡ true → indexOf d (idsOf (contents s)) < s .count
 unfolding has
 place-below s d r t = go (place d (idsOf (contents s)))
   where
-    go : Place d (idsOf (contents s)) → placeOf d (idsOf (contents s)) < s .count
+    go : Place d (idsOf (contents s)) → indexOf d (idsOf (contents s)) < s .count
     go (in-it a h) =
         let e : length (idsOf (contents s)) ≡ s .count = ap length (contents-ids s r) ∙ length-take-le (s .count) (s .ids) (omega arith) in
         omega arith
     go (past-it a h) = absurd (false≢true (sym a ∙ t))
 
-pub place-found : (s : Store) (d : ℕ) {k : ℕ} → Room s → has d (contents s) ≡ true → k ≡ 0 + placeOf d (take (s .count) (s .ids)) → k < s .count
-place-found s d {k} r t e = let h = place-below s d r t in let q = ap (placeOf d) (contents-ids s r) in omega arith
+pub place-found : (s : Store) (d : ℕ) {k : ℕ} → Room s → has d (contents s) ≡ true → k ≡ 0 + indexOf d (take (s .count) (s .ids)) → k < s .count
+place-found s d {k} r t e = let h = place-below s d r t in let q = ap (indexOf d) (contents-ids s r) in omega arith
 
 -- a refusal is no count
 apart : {m : ℕ} {e : Refusal} → Refused e ≡ Entries m → ⊥
@@ -197,13 +197,13 @@ remove-says s d m q = first (sound s) refl q
     first false e z = absurd (apart z)
 
 -- the store after a removal
-pub remove-leaves : (s : Store) (d : ℕ) {m i : ℕ} {fs ls : List ℤ} {ds : List ℕ} → Wide s → removeAnswer s d ≡ Entries m → i ≡ 0 + placeOf d (take (s .count) (s .ids))
+pub remove-leaves : (s : Store) (d : ℕ) {m i : ℕ} {fs ls : List ℤ} {ds : List ℕ} → Wide s → removeAnswer s d ≡ Entries m → i ≡ 0 + indexOf d (take (s .count) (s .ids))
     → fs ≡ removed (s .firsts) (s .count) i → ls ≡ removed (s .lasts) (s .count) i → ds ≡ removed (s .ids) (s .count) i → store m fs ls ds ≡ afterRemove s d
 unfolding afterRemove withoutAt accepted pick
 remove-leaves s d {m} {i} {fs} {ls} {ds} x q b f g h =
     let w = remove-says s d m q in
     let t : accepted (removeAnswer s d) ≡ true = ap accepted q in
-    let k : i ≡ placeOf d (idsOf (contents s)) = b ∙ (let z : 0 + placeOf d (take (s .count) (s .ids)) ≡ placeOf d (take (s .count) (s .ids)) = omega arith in z) ∙ ap (placeOf d) (sym (contents-ids s (sound-room s x (w .was-sound)))) in
+    let k : i ≡ indexOf d (idsOf (contents s)) = b ∙ (let z : 0 + indexOf d (take (s .count) (s .ids)) ≡ indexOf d (take (s .count) (s .ids)) = omega arith in z) ∙ ap (indexOf d) (sym (contents-ids s (sound-room s x (w .was-sound)))) in
     rw (t, ← k, f, g, h, w .one-less)
 
 pub remove-keeps : (s : Store) (d : ℕ) {x : Refusal} → removeAnswer s d ≡ Refused x → s ≡ afterRemove s d

@@ -14,7 +14,7 @@ use borrow.Author.Tests.{lt-ltb, le-ltb, eq-eqb, ne-eqb}
 use Rattle.chars.specs.Pick.{pick}
 use Rattle.chronology.specs.declared.Entry.{Entry}
 use Rattle.chronology.specs.Entries.{precedes, goodDays, idsOf, among, beforeNext, keptFirst, wellKept, listed}
-use Rattle.chronology.specs.Store.{Store, Wide, rows, contents, placeOf, firstWhere, rank}
+use Rattle.chronology.specs.Store.{Store, Wide, rows, contents, indexOf, firstWhere, rank}
 use Rattle.chronology.specs.Inside.{entryAt, rowAt, beforeAt, keptAt}
 
 -- what a store that is lent has, if its count is not above 512
@@ -100,34 +100,34 @@ pub column-end : (l : List ℕ) (n i : ℕ) → n ≤ i → n ≤ length l → d
 column-end l n i h g = drop-of-length-le (take n l) {i = i} (rw (length-take-le n l g) h)
 
 -- the place of a number: here, further on, or past the end
-pub here : (d x : ℕ) (l : List ℕ) → x ≡ d → placeOf d (x ∷ l) ≡ 0
-unfolding placeOf pick
+pub here : (d x : ℕ) (l : List ℕ) → x ≡ d → indexOf d (x ∷ l) ≡ 0
+unfolding indexOf pick
 here d x l e = rw (eq-eqb x d e)
 
-pub on : (d x : ℕ) (l : List ℕ) → (x ≡ d → ⊥) → placeOf d (x ∷ l) ≡ suc (placeOf d l)
-unfolding placeOf pick
+pub on : (d x : ℕ) (l : List ℕ) → (x ≡ d → ⊥) → indexOf d (x ∷ l) ≡ suc (indexOf d l)
+unfolding indexOf pick
 on d x l e = rw (ne-eqb x d e)
 
 -- a search in a column: found at a place, not there, or past the end
 module _ (l : List ℕ) (n i d : ℕ) where
-  pub found : i < n → n ≤ length l → getD l i 0 ≡ d → i ≡ i + placeOf d (drop i (take n l))
+  pub found : i < n → n ≤ length l → getD l i 0 ≡ d → i ≡ i + indexOf d (drop i (take n l))
   found h g e = rw (column-cons l n i h g, here d (getD l i 0) (drop (suc i) (take n l)) e) (sym (add-zero i))
 
-  pub passed : i < n → n ≤ length l → (getD l i 0 ≡ d → ⊥) → i + placeOf d (drop i (take n l)) ≡ i + 1 + placeOf d (drop (i + 1) (take n l))
+  pub passed : i < n → n ≤ length l → (getD l i 0 ≡ d → ⊥) → i + indexOf d (drop i (take n l)) ≡ i + 1 + indexOf d (drop (i + 1) (take n l))
   passed h g e =
       rw (column-cons l n i h g, on d (getD l i 0) (drop (suc i) (take n l)) e, add-one i) (omega arith)
 
-  pub missing : n ≤ i → n ≤ length l → i ≡ i + placeOf d (drop i (take n l))
-  unfolding placeOf
+  pub missing : n ≤ i → n ≤ length l → i ≡ i + indexOf d (drop i (take n l))
+  unfolding indexOf
   missing h g = rw (column-end l n i h g) (sym (add-zero i))
 
 -- whether a number is among others, by its place
 pub data Place (d : ℕ) (l : List ℕ) : Type 0 where
-  in-it : among d l ≡ true → placeOf d l < length l → Place d l
-  past-it : among d l ≡ false → placeOf d l ≡ length l → Place d l
+  in-it : among d l ≡ true → indexOf d l < length l → Place d l
+  past-it : among d l ≡ false → indexOf d l ≡ length l → Place d l
 
 pub place : (d : ℕ) (l : List ℕ) → Place d l
-unfolding among placeOf pick
+unfolding among indexOf pick
 place d [] = past-it refl refl
 place d (x ∷ l) = go (eqb x d) refl (place d l)
   where
@@ -136,12 +136,12 @@ place d (x ∷ l) = go (eqb x d) refl (place d l)
     go false e (in-it a h) = in-it (rw (e, a)) (rw e (omega arith))
     go false e (past-it a h) = past-it (rw (e, a)) (rw e (ap suc h))
 
-pub below-test : (d : ℕ) (l : List ℕ) (k n : ℕ) → k + length l ≡ n → ltb (k + placeOf d l) n ≡ among d l
+pub below-test : (d : ℕ) (l : List ℕ) (k n : ℕ) → k + length l ≡ n → ltb (k + indexOf d l) n ≡ among d l
 below-test d l k n e = go (place d l)
   where
-    go : Place d l → ltb (k + placeOf d l) n ≡ among d l
-    go (in-it a h) = lt-ltb (k + placeOf d l) n (omega arith) ∙ sym a
-    go (past-it a h) = le-ltb (k + placeOf d l) n (omega arith) ∙ sym a
+    go : Place d l → ltb (k + indexOf d l) n ≡ among d l
+    go (in-it a h) = lt-ltb (k + indexOf d l) n (omega arith) ∙ sym a
+    go (past-it a h) = le-ltb (k + indexOf d l) n (omega arith) ∙ sym a
 
 -- the first entry of a sort
 module _ (is : Entry → Bool) where

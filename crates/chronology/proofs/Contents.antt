@@ -13,7 +13,7 @@ use lib.Seq.{take-at, length-take-le}
 use borrow.Author.Tests.{eqb-true, eqb-false}
 use Rattle.chronology.specs.declared.Entry.{Entry}
 use Rattle.chronology.specs.Entries.{entry, precedes, idsOf, insert, without}
-use Rattle.chronology.specs.Store.{Store, rows, contents, placeOf, firstWhere, rank, inserted, removed}
+use Rattle.chronology.specs.Store.{Store, rows, contents, indexOf, firstWhere, rank, inserted, removed}
 use Rattle.chronology.specs.Calls.{withEntry, withoutAt}
 use Rattle.chronology.proofs.Columns.{Room, contents-length, here, on, where-in, rank-here, rank-on}
 use Rattle.chronology.proofs.Order.{insert-on, insert-here, without-here, without-on}
@@ -128,12 +128,12 @@ put-ranked e (x ∷ l) = go (precedes x e) refl (put-ranked e l)
         ap (λ (k : ℕ). putAt k e (x ∷ l)) (rank-on e x l p) ∙ ap {B = List Entry} (λ (z : List Entry). x ∷ z) i ∙ sym (insert-on e x l p)
     go false p i = ap (λ (k : ℕ). putAt k e (x ∷ l)) (rank-here e x l p) ∙ sym (insert-here e x l p)
 
-cut-found : (d : ℕ) (l : List Entry) → cutAt (placeOf d (idsOf l)) l ≡ without d l
-unfolding cutAt placeOf idsOf without
+cut-found : (d : ℕ) (l : List Entry) → cutAt (indexOf d (idsOf l)) l ≡ without d l
+unfolding cutAt indexOf idsOf without
 cut-found d [] = refl
 cut-found d (x ∷ l) = go (eqb (x .id) d) refl (cut-found d l)
   where
-    go : (t : Bool) → eqb (x .id) d ≡ t → cutAt (placeOf d (idsOf l)) l ≡ without d l → cutAt (placeOf d (idsOf (x ∷ l))) (x ∷ l) ≡ without d (x ∷ l)
+    go : (t : Bool) → eqb (x .id) d ≡ t → cutAt (indexOf d (idsOf l)) l ≡ without d l → cutAt (indexOf d (idsOf (x ∷ l))) (x ∷ l) ≡ without d (x ∷ l)
     go true p i =
         let q = eqb-true (x .id) d p in
         ap (λ (k : ℕ). cutAt k (x ∷ l)) (here d (x .id) (idsOf l) q) ∙ sym (without-here d x l q)
@@ -186,11 +186,11 @@ module _ (s : Store) (r : Room s) (e : Entry) (less : s .count < 512) where
       ∙ put-ranked e (contents s)
 
 -- an entry less
-module _ (s : Store) (r : Room s) (d : ℕ) (there : placeOf d (idsOf (contents s)) < s .count) where
-  pub less-room : Room (withoutAt s (placeOf d (idsOf (contents s))))
+module _ (s : Store) (r : Room s) (d : ℕ) (there : indexOf d (idsOf (contents s)) < s .count) where
+  pub less-room : Room (withoutAt s (indexOf d (idsOf (contents s))))
   unfolding withoutAt
   less-room =
-      let i = placeOf d (idsOf (contents s)) in
+      let i = indexOf d (idsOf (contents s)) in
       let n = s .count in
       let m = r .few in
       let f = r .of-firsts in
@@ -205,10 +205,10 @@ module _ (s : Store) (r : Room s) (d : ℕ) (there : placeOf d (idsOf (contents 
   cut-column l zero i h g = absurd (not-suc-le-zero h)
   cut-column l (suc n) i h g = let e : suc n - 1 ≡ n = omega arith in rw e (take-removed l n i (le-of-suc-le-suc h) g)
 
-  pub contents-less : contents (withoutAt s (placeOf d (idsOf (contents s)))) ≡ without d (contents s)
+  pub contents-less : contents (withoutAt s (indexOf d (idsOf (contents s)))) ≡ without d (contents s)
   unfolding withoutAt contents
   contents-less =
-      let i = placeOf d (idsOf (contents s)) in
+      let i = indexOf d (idsOf (contents s)) in
       let n = s .count in
       let m = r .few in
       let f = r .of-firsts in

@@ -15,7 +15,7 @@ use Rattle.chronology.specs.declared.Answer.the-variants.{Entries, Refus
 use Rattle.chronology.specs.declared.Reply.{Reply}
 use Rattle.chronology.specs.declared.Reply.the-variants.{Told, Untold}
 use Rattle.chronology.specs.Entries.{sooner, precedes, inSpan, goodPeriod, goodDays, idsOf, among, has, beforeNext, keptFirst, wellKept, listed}
-use Rattle.chronology.specs.Store.{Store, store, rows, contents, sound, placeOf, firstWhere, rank, inserted, removed}
+use Rattle.chronology.specs.Store.{Store, store, rows, contents, sound, indexOf, firstWhere, rank, inserted, removed}
 use Rattle.chronology.specs.Calls.{refused, accepted, countAnswer, addAnswer, removeAnswer, listAnswer, withEntry, withoutAt, afterAdd, afterRemove}
 use Rattle.chronology.specs.Asked.{touches, beginsAfter, anyTouches, stops, stopAt, entriesRead, untold, reply}
 use Rattle.chronology.specs.History.{adds, removes, afterCall, afterCalls}
@@ -50,7 +50,7 @@ unfolding three kept days numbers contents rows afterCalls afterCall afterAdd ac
 in-list-order = refl
 
 pub one-removed : listed (contents (afterCall (removes 3) three)) ≡ negsuc 2 ∷ pos 10 ∷ pos 2 ∷ pos 5 ∷ pos 5 ∷ pos 7 ∷ []
-unfolding three kept days numbers contents rows afterCalls afterCall afterAdd accepted addAnswer withEntry inserted rank firstWhere precedes sooner goodPeriod inSpan has among idsOf sound wellKept keptFirst beforeNext goodDays pick listed afterRemove removeAnswer withoutAt removed placeOf
+unfolding three kept days numbers contents rows afterCalls afterCall afterAdd accepted addAnswer withEntry inserted rank firstWhere precedes sooner goodPeriod inSpan has among idsOf sound wellKept keptFirst beforeNext goodDays pick listed afterRemove removeAnswer withoutAt removed indexOf
 one-removed = refl
 
 -- what each call answers

@@ -16,7 +16,7 @@ use Rattle.chronology.specs.declared.Entry.{Entry}
 use Rattle.chronology.specs.declared.Answer.{Answer}
 use Rattle.chronology.specs.declared.Answer.the-variants.{Entries, Refused}
 use Rattle.chronology.specs.Entries.{beforeNext, goodPeriod, entryOf, goodDays, idsOf, among, has, wellKept, insert, without, listed}
-use Rattle.chronology.specs.Store.{Store, Wide, contents, sound, placeOf}
+use Rattle.chronology.specs.Store.{Store, Wide, contents, sound, indexOf}
 use Rattle.chronology.specs.Calls.{refused, accepted, countAnswer, addAnswer, removeAnswer, listAnswer, withEntry, withoutAt, afterAdd, afterRemove, afterList}
 use Rattle.chronology.specs.Asked.{anyTouches, entriesRead, reply}
 use Rattle.chronology.specs.declared.Reply.the-variants.{Told as told-it}
@@ -69,7 +69,7 @@ module _ (s : Store) (wide : Wide s) (p : Period) (d m : ℕ) (yes : addAnswer s
 
 -- an accepted removal: the entries are those that were without the one of the identifier
 module _ (s : Store) (wide : Wide s) (d m : ℕ) (yes : removeAnswer s d ≡ Entries m) where
-  removed-is : afterRemove s d ≡ withoutAt s (placeOf d (idsOf (contents s)))
+  removed-is : afterRemove s d ≡ withoutAt s (indexOf d (idsOf (contents s)))
   unfolding afterRemove accepted pick
   removed-is = let t : accepted (removeAnswer s d) ≡ true = ap accepted yes in rw t
 
@@ -85,14 +85,14 @@ module _ (s : Store) (wide : Wide s) (d m : ℕ) (yes : removeAnswer s d ≡ Ent
       let r = sound-room s wide (w .was-sound) in
       let h = place-below s d r (w .id-there) in
       ap sound removed-is
-      ∙ sound-if (withoutAt s (placeOf d (idsOf (contents s)))) (less-room s r d h)
+      ∙ sound-if (withoutAt s (indexOf d (idsOf (contents s)))) (less-room s r d h)
       (ap wellKept (contents-less s r d h) ∙ without-keeps d (contents s) (sound-well s (w .was-sound)))
 
   pub removed-wide : Wide (afterRemove s d)
   removed-wide =
       let w = remove-says s d m yes in
       let r = sound-room s wide (w .was-sound) in
-      let i = placeOf d (idsOf (contents s)) in
+      let i = indexOf d (idsOf (contents s)) in
       subst Wide (sym removed-is) (wide-of (withoutAt s i) (less-room s r d (place-below s d r (w .id-there))))
 
   pub removed-count : afterRemove s d .count ≡ m

@@ -14,7 +14,7 @@ use Rattle.chronology.specs.declared.Entry.{Entry}
 use Rattle.chronology.specs.declared.Answer.{Answer}
 use Rattle.chronology.specs.declared.Answer.the-variants.{Entries, Refused}
 use Rattle.chronology.specs.Entries.{goodPeriod, entryOf, idsOf, has, listed}
-use Rattle.chronology.specs.Store.{Store, store, contents, sound, placeOf, rank, inserted, removed}
+use Rattle.chronology.specs.Store.{Store, store, contents, sound, indexOf, rank, inserted, removed}
 
 -- a refusal; none here names a place
 unfoldable pub refused : Kind → Answer
@@ -65,7 +65,7 @@ afterAdd s p d = pick (accepted (addAnswer s p d)) (withEntry s (entryOf p d)) s
 
 -- the store after a removal; one that is refused changes nothing
 unfoldable pub afterRemove : Store → ℕ → Store
-afterRemove s d = pick (accepted (removeAnswer s d)) (withoutAt s (placeOf d (idsOf (contents s)))) s
+afterRemove s d = pick (accepted (removeAnswer s d)) (withoutAt s (indexOf d (idsOf (contents s)))) s
 
 -- the lent numbers after a listing: the list at their front and what was behind it, or, after a refusal, all as they were
 unfoldable pub afterList : Store → List ℤ → List ℤ

@@ -68,9 +68,9 @@ unfoldable pub sound : Store → Bool
 sound s = pick (leb (s .count) 512) (wellKept (contents s)) false
 
 -- the place of a number among others; past them if it is not there
-unfoldable pub placeOf : ℕ → List ℕ → ℕ
-placeOf d [] = 0
-placeOf d (x ∷ l) = pick (eqb x d) 0 (suc (placeOf d l))
+unfoldable pub indexOf : ℕ → List ℕ → ℕ
+indexOf d [] = 0
+indexOf d (x ∷ l) = pick (eqb x d) 0 (suc (indexOf d l))
 
 -- the place of the first entry of a sort; past them if there is none
 unfoldable pub firstWhere : (Entry → Bool) → List Entry → ℕ

@@ -133,7 +133,7 @@ fn entry_at(firsts: &[i32], lasts: &[i32], ids: &[u32], i: usize) -> Entry
 // The place of an identifier in a column from a place on; the count if it is not there.
 fn find(ids: &[u32], from: usize, count: usize, id: u32) -> usize
     requires { ⌜ (from ≤ count) × (count ≤ 512) × (length (now ids) ≡ 512) ⌝ }
-    ensures { λ r. ⌜ (r ≡ from + spec.placeOf id (drop from (take count (now (ids .entry))))) × (r ≤ count) ⌝ }
+    ensures { λ r. ⌜ (r ≡ from + spec.indexOf id (drop from (take count (now (ids .entry))))) × (r ≤ count) ⌝ }
 {
     let mut i = from;
     while i < count {

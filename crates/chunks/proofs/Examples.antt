@@ -10,7 +10,7 @@ use Rattle.chars.specs.Ascii.{ascii}
 use Rattle.chars.specs.Pick.{pick}
 use Rattle.chars.specs.Classes.{within, isAdmitted, isWhitespace}
 use Rattle.chars.specs.Upper.{loses32, upperOf, codesOf as upperCodes}
-use Rattle.chars.specs.Utf8.{lenOf, isCont, isSurrogate, two, three, four, decode, first, encode, encodeAll}
+use Rattle.chars.specs.Utf8.{lenOf, isCont, isSurrogate, decode2, decode3, decode4, decode, first, encode, encodeAll}
 use Rattle.refusals.specs.declared.Kind.{Kind}
 use Rattle.refusals.specs.declared.Kind.the-variants.{BadUtf8, UnsupportedChar, NoRoom, BadChunks, TooLong}
 use Rattle.refusals.specs.Refusal.{fileSpan, refusal}
@@ -83,7 +83,7 @@ checks =
     ∷ []
 
 pub check-examples : map (λ (e : CheckExample). checked (e .bytes) (e .table)) checks ≡ map (λ (e : CheckExample). e .says) checks
-unfolding checked fits isShort chunksOf kindsKnown lengths faultOf orElse faultIn characters upTo andThen first decode lenOf isCont isSurrogate two three four isAdmitted within refusal pick
+unfolding checked fits isShort chunksOf kindsKnown lengths faultOf orElse faultIn characters upTo andThen first decode lenOf isCont isSurrogate decode2 decode3 decode4 isAdmitted within refusal pick
 check-examples = refl
 
 -- 4,096 bytes are admitted
@@ -135,11 +135,11 @@ texts =
     ∷ []
 
 pub text-examples : map (λ (e : TextExample). textOf false (e .bytes) (e .table)) texts ≡ map (λ (e : TextExample). e .text) texts
-unfolding textOf formatted chunksOut chunkOut chunkFlag chunksOf normal lastWhite oneOut isBreak isWhitespace within encode codes codesOf characters upTo andThen first decode lenOf isCont two pick
+unfolding textOf formatted chunksOut chunkOut chunkFlag chunksOf normal lastWhite oneOut isBreak isWhitespace within encode codes codesOf characters upTo andThen first decode lenOf isCont decode2 pick
 text-examples = refl
 
 pub upper-examples : map (λ (e : TextExample). textOf true (e .bytes) (e .table)) texts ≡ map (λ (e : TextExample). e .upper) texts
-unfolding textOf formatted chunksOut chunkOut chunkFlag chunksOf normal lastWhite oneOut isBreak isWhitespace within encode codes codesOf characters upTo andThen first decode lenOf isCont two uppercase uppers upperOut upperOf loses32 upperCodes encodeAll pick
+unfolding textOf formatted chunksOut chunkOut chunkFlag chunksOf normal lastWhite oneOut isBreak isWhitespace within encode codes codesOf characters upTo andThen first decode lenOf isCont decode2 uppercase uppers upperOut upperOf loses32 upperCodes encodeAll pick
 upper-examples = refl
 
 -- a list and a buffer, what formatting answers, and the buffer afterwards
@@ -163,11 +163,11 @@ answers =
     ∷ []
 
 pub answer-examples : map (λ (e : AnswerExample). formatAnswer false (e .bytes) (e .table) (e .buffer)) answers ≡ map (λ (e : AnswerExample). e .says) answers
-unfolding formatAnswer answered roomOf textOf formatted chunksOut chunkOut chunkFlag chunksOf normal lastWhite oneOut isBreak isWhitespace within encode codes codesOf characters upTo andThen first decode lenOf isCont two checked fits isShort kindsKnown lengths faultOf orElse faultIn isAdmitted refusal pick
+unfolding formatAnswer answered roomOf textOf formatted chunksOut chunkOut chunkFlag chunksOf normal lastWhite oneOut isBreak isWhitespace within encode codes codesOf characters upTo andThen first decode lenOf isCont decode2 checked fits isShort kindsKnown lengths faultOf orElse faultIn isAdmitted refusal pick
 answer-examples = refl
 
 pub buffer-examples : map (λ (e : AnswerExample). bufferAfter (e .says) (textOf false (e .bytes) (e .table)) (e .buffer)) answers ≡ map (λ (e : AnswerExample). e .holds) answers
-unfolding bufferAfter textOf formatted chunksOut chunkOut chunkFlag chunksOf normal lastWhite oneOut isBreak isWhitespace within encode codes codesOf characters upTo andThen first decode lenOf isCont two pick
+unfolding bufferAfter textOf formatted chunksOut chunkOut chunkFlag chunksOf normal lastWhite oneOut isBreak isWhitespace within encode codes codesOf characters upTo andThen first decode lenOf isCont decode2 pick
 buffer-examples = refl
 
 -- a list's span: its first chunk's start and its last one's end

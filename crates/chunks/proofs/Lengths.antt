@@ -6,8 +6,8 @@ use mathlib.Core.List.{List, _∷_}
 use Prim.Native.Nat.{ℕ, _+_, _-_, _≤_, _<_}
 use native.Mathlib.Numerals.{add-one}
 use native.Mathlib.Omega.{arith}
-use borrow.Author.Tests.{le-leb, lt-leb, lt-ltb, le-ltb, eq-eqb, ne-eqb, eqb-true, eqb-false}
-use lib.Dec.{eqb}
+use borrow.Author.Tests.{le-leb, lt-leb, lt-ltb, eq-eqb, ne-eqb, eqb-true, eqb-false}
+use lib.Dec.{ltb, eqb}
 use lib.ListN.{length, getD, drop, drop-of-length-le}
 use lib.Seq.{drop-cons}
 use Rattle.chars.proofs.Cases.{of-test}
@@ -47,13 +47,12 @@ length-end t k left h =
     (of-test (eqb left 0) (λ t. t ∙ sym (eq-eqb 0 left (sym (eqb-true left 0 t)))) (λ t. t ∙ sym (ne-eqb 0 left (λ e. eqb-false left 0 t (sym e)))))
 
 module _ (t : List ℕ) (i : ℕ) (h : i < length t) where
-  pub ascii-not : 0x80 ≤ getD t i 0 → allAscii (drop i t) ≡ false
+  pub ascii-step : allAscii (drop i t) ≡ (ltb (getD t i 0) 0x80 && allAscii (drop (i + 1) t))
   unfolding allAscii
-  ascii-not l = rw (drop-cons t i 0 h, le-ltb (getD t i 0) 0x80 l)
+  ascii-step = rw (add-one, drop-cons t i 0 h)
 
   pub ascii-on : getD t i 0 < 0x80 → allAscii (drop i t) ≡ allAscii (drop (i + 1) t)
-  unfolding allAscii
-  ascii-on l = rw (add-one, drop-cons t i 0 h, lt-ltb (getD t i 0) 0x80 l)
+  ascii-on l = ascii-step ∙ rw (lt-ltb (getD t i 0) 0x80 l)
 
 pub ascii-all : (t : List ℕ) (i : ℕ) → length t ≤ i → allAscii (drop i t) ≡ true
 unfolding allAscii

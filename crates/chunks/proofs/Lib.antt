@@ -6,6 +6,10 @@ pub mod Room
 pub mod Cased
 pub mod Faults
 pub mod Plains
+pub mod Whole
+pub mod Latins
+pub mod Raises
+pub mod Lasts
 pub mod Turn
 pub mod Proper
 pub mod Answers

@@ -44,7 +44,7 @@ module _ (b : ℕ) (t : List ℕ) (e : allAscii (b ∷ t) ≡ true) where
   unfolding andThen
   ascii-characters = characters-are (b ∷ t) ∙ rw (first-ascii b t front-low)
 
-no-characters : characters [] ≡ []
+pub no-characters : characters [] ≡ []
 unfolding characters upTo
 no-characters = refl
 
@@ -67,7 +67,7 @@ normal-plain w [] e = refl
 normal-plain w (b ∷ t) e = rw (encode-one b (front-low b t e), normal-plain (isWhitespace b) t (rest-ascii b t e))
 
 -- in upper case
-upper-ascii : (b : ℕ) → b < 0x80 → upperOut b ≡ plainByte true b ∷ []
+pub upper-ascii : (b : ℕ) → b < 0x80 → upperOut b ≡ plainByte true b ∷ []
 unfolding upperOut upperOf loses32 within plainByte encodeAll upperCodes pick
 upper-ascii b h =
     rw (

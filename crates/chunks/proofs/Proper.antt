@@ -163,6 +163,10 @@ clean-read zero p (a ∷ t) h e = absurd (omega arith)
 clean-read (suc n) p t h e =
     read-step t p (λ k q l f. clean-read n q (drop k t) (omega (arith, length-drop k t)) f) refl (first-sound t) e
 
+-- a text without a fault is the bytes of its own codes
+pub clean-is : (p : ℕ) (t : List ℕ) → faultIn p (characters t) ≡ Clean → encodeAll (codes t) ≡ t
+clean-is p t e = clean-read (length t) p t (omega arith) e .is
+
 proper-read : (t : List ℕ) → Read t → Proper t
 proper-read t r = record { chars = codes t; is = sym (r .is); spells = r .spells }
 

@@ -4,5 +4,6 @@ pub mod Check
 pub mod Format
 pub mod Upper
 pub mod Plain
+pub mod Latin
 pub mod Answer
 pub mod Lent

@@ -2,7 +2,7 @@
 -- give. No public contract rests on it.
 use Prim.Native.Char.{code}
 use Prim.Native.Nat.{ℕ, _-_}
-use mathlib.Core.Bool.{Bool, true, _&&_}
+use mathlib.Core.Bool.{Bool, true, not, _&&_}
 use mathlib.Core.List.{List, [], _∷_, _++_}
 use lib.Dec.{ltb, leb, eqb}
 use lib.ListN.{length, getD}
@@ -14,6 +14,11 @@ use Rattle.chunks.specs.Format.{isBreak}
 unfoldable pub allAscii : List ℕ → Bool
 allAscii [] = true
 allAscii (b ∷ t) = ltb b 0x80 && allAscii t
+
+-- each byte is above the line breaks: a Normal chunk then puts each character out as it is
+unfoldable pub allUnbroken : List ℕ → Bool
+allUnbroken [] = true
+allUnbroken (b ∷ t) = ltb 0x0D b && allUnbroken t
 
 -- whether a list is one Normal chunk of at most 4,096 ASCII bytes
 unfoldable pub isPlain : List ℕ → List ℕ → Bool

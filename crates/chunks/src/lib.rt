@@ -1,21 +1,22 @@
 // Chunk lists: the checks before a list is read, its span, and its formatted text.
 // A list is lent bytes and a lent table of four numbers a chunk: kind (0 Normal, 1 Verbatim, 2 Math), length, span start, span end.
 ghost use mathlib.Core.Path.{_≡_};
-ghost use mathlib.Core.Bool.{true, false, _&&_};
+ghost use mathlib.Core.Bool.{true, false, not, _&&_};
 ghost use Prim.Native.Nat.{_+_, _%_, _^_, _<_, _≤_};
 ghost use lib.Dec.{eqb};
 ghost use lib.ListN.{length};
 ghost use lib.Seq.{sets};
-ghost use Rattle.chars.specs.Utf8.{encode};
+ghost use Rattle.chars.specs.Utf8.{encode, encodeAll};
 ghost use Rattle.chars.specs.Classes.{isWhitespace};
 ghost use Rattle.refusals.specs.Refusal.{bytesAt};
-ghost use Rattle.chunks.specs.declared.Checked.the-variants.{Faulty};
+ghost use Rattle.chunks.specs.declared.Checked.the-variants.{Clean, Faulty};
 ghost use Rattle.chunks.specs.Characters.{codes};
 ghost use Rattle.chunks.specs.Chunks as chunks_;
 ghost use Rattle.chunks.specs.Check as check_;
 ghost use Rattle.chunks.specs.Format as format_;
 ghost use Rattle.chunks.specs.Upper as upper_;
 ghost use Rattle.chunks.specs.Plain as plain_;
+ghost use Rattle.chunks.specs.Latin as latin_;
 ghost use Rattle.chunks.specs.Answer as answer_;
 use chars::Decoded;
 use chars::Upper;
@@ -139,12 +140,40 @@ fn is_short(bytes: &[u8], table: &[u64]) -> bool
     false
 }
 
+// Whether a long list has characters up to U+00FF alone: then none is a fault. A look at each byte before any is decoded pays on a long one.
+fn is_latin(bytes: &[u8], table: &[u64]) -> bool
+    requires { ⌜ chunks_.fits (now bytes) (now table) ≡ true ⌝ }
+    ensures { λ r. ⌜ (r ≡ true → check_.faultOf 0 (now (bytes .entry)) (chunks_.chunksOf (now (table .entry))) ≡ Clean) ⌝ }
+{
+    if bytes.len() < 32 {
+        return false;
+    }
+    let mut at = 0;
+    let mut k = 0;
+    while k < table.len() {
+        let len = table[k + 1] as usize;
+        if all_latin(&bytes[at..at + len]) {
+            at = at + len;
+            k = k + 4;
+        } else {
+            return false;
+        }
+    }
+    true
+}
+
 // The checks of a list, in their order: the table, the limits, the characters.
 pub fn check(bytes: &[u8], table: &[u64]) -> Checked
     ensures { λ r. ⌜ r ≡ check_.checked (now (bytes .entry)) (now (table .entry)) ⌝ }
 {
     if fits(bytes, table) {
         if is_short(bytes, table) {
+            if all_ascii(bytes) {
+                return Checked::Clean;
+            }
+            if is_latin(bytes, table) {
+                return Checked::Clean;
+            }
             return check_characters(bytes, table);
         }
         return Checked::Faulty(nowhere(Kind::TooLong));
@@ -226,7 +255,7 @@ fn put_one(buf: &mut [u8], n: usize, white: bool, code: u32) -> Put
 }
 
 // Puts a Normal chunk, a character at a time, as a line break goes by what came before it.
-fn put_normal(buf: &mut [u8], n: usize, t: &[u8], white: bool) -> Put
+fn put_normal_each(buf: &mut [u8], n: usize, t: &[u8], white: bool) -> Put
     requires { ⌜ n + length (now t) ≤ length (now buf) ⌝ }
     ensures { λ r. ⌜ (r .n ≡ n + length (format_.normal white (codes (now (t .entry))))) × (r .«prev_was_whitespace» ≡ format_.lastWhite white (codes (now (t .entry)))) × (now (buf .exit) ≡ sets (now (buf .entry)) n (format_.normal white (codes (now (t .entry))))) ⌝ }
 {
@@ -257,6 +286,23 @@ fn put_normal(buf: &mut [u8], n: usize, t: &[u8], white: bool) -> Put
     }
 }
 
+// Puts a Normal chunk of well-formed characters: as it is, if it has no line break.
+fn put_normal(buf: &mut [u8], n: usize, t: &[u8], white: bool) -> Put
+    requires { ⌜ n + length (now t) ≤ length (now buf) ⌝ }
+    requires { ⌜ encodeAll (codes (now t)) ≡ now t ⌝ }
+    ensures { λ r. ⌜ (r .n ≡ n + length (format_.normal white (codes (now (t .entry))))) × (r .«prev_was_whitespace» ≡ format_.lastWhite white (codes (now (t .entry)))) × (now (buf .exit) ≡ sets (now (buf .entry)) n (format_.normal white (codes (now (t .entry))))) ⌝ }
+{
+    if all_unbroken(t) {
+        let m = put_bytes(buf, n, t);
+        let w = last_white(t, white);
+        return Put {
+            n: m,
+            prev_was_whitespace: w,
+        };
+    }
+    put_normal_each(buf, n, t, white)
+}
+
 // Puts bytes as they are: a line break in Verbatim or Math stays one.
 fn put_bytes(buf: &mut [u8], n: usize, t: &[u8]) -> usize
     requires { ⌜ n + length (now t) ≤ length (now buf) ⌝ }
@@ -272,11 +318,11 @@ fn put_bytes(buf: &mut [u8], n: usize, t: &[u8]) -> usize
     m
 }
 
-// Whether the last character is white space; of no characters it is not.
-fn last_white(t: &[u8]) -> bool
-    ensures { λ r. ⌜ r ≡ format_.lastWhite false (codes (now (t .entry))) ⌝ }
+// Whether the last character is white space; of no characters what is given. `last_white` is the same and quicker.
+fn last_white_each(t: &[u8], white: bool) -> bool
+    ensures { λ r. ⌜ r ≡ format_.lastWhite white (codes (now (t .entry))) ⌝ }
 {
-    let mut w = false;
+    let mut w = white;
     let mut i = 0;
     loop {
         match chars::decode_at(t, i) {
@@ -294,9 +340,32 @@ fn last_white(t: &[u8]) -> bool
     }
 }
 
+// The same of well-formed characters. The last bytes tell a character up to U+00FF.
+fn last_white(t: &[u8], white: bool) -> bool
+    requires { ⌜ encodeAll (codes (now t)) ≡ now t ⌝ }
+    ensures { λ r. ⌜ r ≡ format_.lastWhite white (codes (now (t .entry))) ⌝ }
+{
+    let n = t.len();
+    if n == 0 {
+        return white;
+    }
+    let b = t[n - 1];
+    if b < 0x80 {
+        return chars::is_whitespace(wide(b));
+    }
+    if 2 <= n {
+        let a = t[n - 2];
+        if is_lead(a) {
+            return chars::is_whitespace(wide(a) % 32 * 64 + wide(b) % 64);
+        }
+    }
+    last_white_each(t, white)
+}
+
 // Puts a chunk of a kind: Normal, Verbatim, or Math between dollar signs.
 fn put_chunk(buf: &mut [u8], n: usize, kind: u64, t: &[u8], white: bool) -> Put
     requires { ⌜ n + length (now t) + 2 ≤ length (now buf) ⌝ }
+    requires { ⌜ encodeAll (codes (now t)) ≡ now t ⌝ }
     ensures { λ r. ⌜ (r .n ≡ n + length (format_.chunkOut white kind (now (t .entry)))) × (r .«prev_was_whitespace» ≡ format_.chunkFlag white kind (now (t .entry))) × (now (buf .exit) ≡ sets (now (buf .entry)) n (format_.chunkOut white kind (now (t .entry)))) ⌝ }
 {
     if kind == 0 {
@@ -304,7 +373,7 @@ fn put_chunk(buf: &mut [u8], n: usize, kind: u64, t: &[u8], white: bool) -> Put
     }
     if kind == 1 {
         let m = put_bytes(buf, n, t);
-        let w = last_white(t);
+        let w = last_white(t, false);
         return Put {
             n: m,
             prev_was_whitespace: w,
@@ -323,6 +392,7 @@ fn put_chunk(buf: &mut [u8], n: usize, kind: u64, t: &[u8], white: bool) -> Put
 fn put_list(bytes: &[u8], table: &[u64], buf: &mut [u8]) -> usize
     requires { ⌜ chunks_.fits (now bytes) (now table) ≡ true ⌝ }
     requires { ⌜ answer_.roomOf (now bytes) (now table) ≤ length (now buf) ⌝ }
+    requires { ⌜ check_.faultOf 0 (now bytes) (chunks_.chunksOf (now table)) ≡ Clean ⌝ }
     ensures { λ r. ⌜ (r ≡ length (format_.formatted (now (bytes .entry)) (now (table .entry)))) × (now (buf .exit) ≡ sets (now (buf .entry)) 0 (format_.formatted (now (bytes .entry)) (now (table .entry)))) × (r ≤ length (now (buf .entry))) ⌝ }
 {
     let mut at = 0;
@@ -356,7 +426,7 @@ fn put_upper(buf: &mut [u8], n: usize, code: u32) -> usize
 }
 
 // Puts a text in upper case, in place: no character's upper case has another number of bytes.
-fn upper_all(buf: &mut [u8])
+fn upper_each(buf: &mut [u8])
     ensures { λ _. ⌜ now (buf .exit) ≡ sets (now (buf .entry)) 0 (upper_.uppercase (now (buf .entry))) ⌝ }
 {
     let mut i = 0;
@@ -375,18 +445,146 @@ fn upper_all(buf: &mut [u8])
     }
 }
 
-// Whether each byte is a character by itself, so that nothing need be decoded.
+// The same of a text whose bytes are characters.
+fn upper_bytes(buf: &mut [u8])
+    requires { ⌜ plain_.allAscii (now buf) ≡ true ⌝ }
+    ensures { λ _. ⌜ now (buf .exit) ≡ sets (now (buf .entry)) 0 (upper_.uppercase (now (buf .entry))) ⌝ }
+{
+    let mut i = 0;
+    while i < buf.len() {
+        let b = buf[i];
+        buf[i] = plain_byte(true, b);
+        i = i + 1;
+    }
+}
+
+// A byte in upper case behind another, in a text of characters up to U+00FF.
+fn raise(p: u8, b: u8) -> u8
+    ensures { λ r. ⌜ r ≡ latin_.raised p b ⌝ }
+{
+    let lower = (p == 0xC3) & ((0xA0 <= b) & (b != 0xB7));
+    if lower {
+        return b - 32;
+    }
+    plain_byte(true, b)
+}
+
+// The same of a text of characters up to U+00FF, if each one's upper case is itself or 32 below it.
+fn upper_latin(buf: &mut [u8])
+    requires { ⌜ (latin_.allLatin 0 (now buf) ≡ true) × (latin_.noneOdd 0 (now buf) ≡ true) ⌝ }
+    ensures { λ _. ⌜ now (buf .exit) ≡ sets (now (buf .entry)) 0 (upper_.uppercase (now (buf .entry))) ⌝ }
+{
+    let mut p = 0;
+    let mut i = 0;
+    while i < buf.len() {
+        let b = buf[i];
+        buf[i] = raise(p, b);
+        p = b;
+        i = i + 1;
+    }
+}
+
+// The same of any text. A look at each byte before any is decoded pays on a long one.
+fn upper_all(buf: &mut [u8])
+    ensures { λ _. ⌜ now (buf .exit) ≡ sets (now (buf .entry)) 0 (upper_.uppercase (now (buf .entry))) ⌝ }
+{
+    if all_ascii(buf) {
+        upper_bytes(buf);
+        return;
+    }
+    if 32 <= buf.len() {
+        if all_latin(buf) {
+            if none_odd(buf) {
+                upper_latin(buf);
+                return;
+            }
+        }
+    }
+    upper_each(buf);
+}
+
+// Whether each byte is a character by itself, so that nothing need be decoded. No byte decides where the loop goes on: the compiler then
+// takes many at once.
 fn all_ascii(t: &[u8]) -> bool
     ensures { λ r. ⌜ r ≡ plain_.allAscii (now (t .entry)) ⌝ }
 {
+    let mut ok = true;
     let mut i = 0;
     while i < t.len() {
-        if 0x80 <= t[i] {
-            return false;
-        }
+        ok = ok & (t[i] < 0x80);
         i = i + 1;
     }
-    true
+    ok
+}
+
+// Whether a byte begins a character from U+0080 to U+00FF.
+fn is_lead(b: u8) -> bool
+    ensures { λ r. ⌜ r ≡ latin_.isLead b ⌝ }
+{
+    (0xC2 <= b) & (b <= 0xC3)
+}
+
+// Whether a byte may stand behind another in a text of characters up to U+00FF.
+fn may_follow(p: u8, b: u8) -> bool
+    ensures { λ r. ⌜ r ≡ latin_.mayFollow p b ⌝ }
+{
+    let open = is_lead(p);
+    let opens = is_lead(b);
+    (open & ((0x80 <= b) & (b < 0xC0))) | (!open & ((b < 0x80) | opens))
+}
+
+// Whether a text has such characters alone, many bytes at once as well.
+fn all_latin(t: &[u8]) -> bool
+    ensures { λ r. ⌜ r ≡ latin_.allLatin 0 (now (t .entry)) ⌝ }
+{
+    let mut ok = true;
+    let mut p = 0;
+    let mut i = 0;
+    while i < t.len() {
+        let b = t[i];
+        ok = ok & may_follow(p, b);
+        p = b;
+        i = i + 1;
+    }
+    let open = is_lead(p);
+    ok & !open
+}
+
+// Whether two bytes are a character whose upper case is neither itself nor 32 below it.
+fn is_odd(p: u8, b: u8) -> bool
+    ensures { λ r. ⌜ r ≡ latin_.isOdd p b ⌝ }
+{
+    ((p == 0xC2) & (b == 0xB5)) | ((p == 0xC3) & ((b == 0x9F) | (b == 0xBF)))
+}
+
+// Whether there is none, many bytes at once as well.
+fn none_odd(t: &[u8]) -> bool
+    ensures { λ r. ⌜ r ≡ latin_.noneOdd 0 (now (t .entry)) ⌝ }
+{
+    let mut ok = true;
+    let mut p = 0;
+    let mut i = 0;
+    while i < t.len() {
+        let b = t[i];
+        let odd = is_odd(p, b);
+        ok = ok & !odd;
+        p = b;
+        i = i + 1;
+    }
+    ok
+}
+
+// Whether each byte is above the line breaks. One test a byte, and no other, is taken for many bytes at once.
+fn all_unbroken(t: &[u8]) -> bool
+    ensures { λ r. ⌜ r ≡ plain_.allUnbroken (now (t .entry)) ⌝ }
+{
+    let mut ok = true;
+    let mut i = 0;
+    while i < t.len() {
+        ok = ok & (b'\r' < t[i]);
+        i = i + 1;
+    }
+    ok
 }
 
 // Whether a list is one Normal chunk of ASCII within the limits: the usual one, which is formatted in one pass.
@@ -454,8 +652,8 @@ fn put_plain_byte(buf: &mut [u8], n: usize, upper: bool, white: bool, b: u8) -> 
     }
 }
 
-// Puts a plain list in one pass, in upper case where that is asked.
-fn put_plain(buf: &mut [u8], t: &[u8], upper: bool) -> usize
+// Puts a plain list in one pass, in upper case where that is asked. `put_plain` is the same, and quicker on a long one.
+fn put_plain_each(buf: &mut [u8], t: &[u8], upper: bool) -> usize
     requires { ⌜ (length (now t) ≤ length (now buf)) × (plain_.allAscii (now t) ≡ true) ⌝ }
     ensures { λ r. ⌜ (r ≡ length (plain_.plainText upper false (now (t .entry)))) × (now (buf .exit) ≡ sets (now (buf .entry)) 0 (plain_.plainText upper false (now (t .entry)))) ⌝ }
 {
@@ -469,6 +667,32 @@ fn put_plain(buf: &mut [u8], t: &[u8], upper: bool) -> usize
         i = i + 1;
     }
     m
+}
+
+// Puts a text without a line break: a copy, in upper case where that is asked.
+fn put_whole(buf: &mut [u8], t: &[u8], upper: bool) -> usize
+    requires { ⌜ (length (now t) ≤ length (now buf)) × (plain_.allAscii (now t) ≡ true) ⌝ }
+    requires { ⌜ plain_.allUnbroken (now t) ≡ true ⌝ }
+    ensures { λ r. ⌜ (r ≡ length (plain_.plainText upper false (now (t .entry)))) × (now (buf .exit) ≡ sets (now (buf .entry)) 0 (plain_.plainText upper false (now (t .entry)))) ⌝ }
+{
+    let n = put_bytes(buf, 0, t);
+    if upper {
+        upper_bytes(&mut buf[..n]);
+    }
+    n
+}
+
+// Puts a plain list. A look at each byte before it is copied pays on a long one.
+fn put_plain(buf: &mut [u8], t: &[u8], upper: bool) -> usize
+    requires { ⌜ (length (now t) ≤ length (now buf)) × (plain_.allAscii (now t) ≡ true) ⌝ }
+    ensures { λ r. ⌜ (r ≡ length (plain_.plainText upper false (now (t .entry)))) × (now (buf .exit) ≡ sets (now (buf .entry)) 0 (plain_.plainText upper false (now (t .entry)))) ⌝ }
+{
+    if 32 <= t.len() {
+        if all_unbroken(t) {
+            return put_whole(buf, t, upper);
+        }
+    }
+    put_plain_each(buf, t, upper)
 }
 
 // The text of any list.

@@ -14,9 +14,9 @@ use Rattle.chars.specs.Pick.{pick}
 use Rattle.chars.specs.Classes.{isAsciiDigit}
 use Rattle.chars.proofs.Cases.{by-test, and-true}
 use Rattle.strict.proofs.Digits.{digit}
-use Rattle.dates.specs.declared.TimeOffset.the-variants.{Utc, Offset}
+use Rattle.dates.specs.declared.TimeOffset.the-variants.{Offset}
 use Rattle.dates.specs.declared.OptionOffset.{OptionOffset}
-use Rattle.dates.specs.declared.OptionOffset.the-variants.{NoOffset, SomeOffset}
+use Rattle.dates.specs.declared.OptionOffset.the-variants.{SomeOffset}
 use Rattle.dates.specs.declared.OptionTime.the-variants.{NoTime, SomeTime}
 use Rattle.dates.specs.declared.Datetime.{Datetime}
 use Rattle.dates.specs.declared.DateValue.{DateValue}
@@ -76,7 +76,7 @@ part-most s at =
     (λ _. omega arith)
 
 -- a point without a time: its second word is 0, and its first is not the one that says nothing
-abbrev Plain : Option Datetime → Type 0
+abbrev pub Plain : Option Datetime → Type 0
 Plain none = Unit {0}
 Plain (some d) = (timeWord d ≡ 0) × (dayWord d < nothing)
 
@@ -329,3 +329,9 @@ last-accepted (Refused e) h = absurd (omega (arith, h, refused-last e))
 pub last-refused : (r : ReadDate) → 4294967296 ≤ wordsOr (some r) .last → (e : Refusal) × (r ≡ Refused e)
 last-refused (Accepted d) h = absurd (omega (arith, h, accepted-last d))
 last-refused (Refused e) h = (e, refl)
+
+-- the last word of what is said is never the one that says nothing
+pub untold : (x : Option ReadDate) → wordsOr x .last ≡ nothing → x ≡ none
+untold none e = refl
+untold (some (Accepted d)) e = absurd (omega (arith, e, accepted-last d))
+untold (some (Refused q)) e = let n = number-in (q .kind) .1 in absurd (omega (arith, e))

@@ -5,3 +5,5 @@ pub mod Ported
 pub mod Parts
 pub mod Lists
 pub mod Typed
+pub mod Back
+pub mod Unpacked

@@ -1,29 +1,43 @@
 // Usual texts as words: numbers that are handed on in registers, where a Date would go through memory, byte by byte in and word by word out. What is
 // said here at once is what the readers say (`code_laws`); other texts are for them.
 ghost use mathlib.Core.Path.{_≡_};
-ghost use Prim.Native.Nat.{_+_, _≤_, _<_};
+ghost use mathlib.Core.Option.{none};
+ghost use Prim.Native.Nat.{_+_, _*_, _%_, _≤_, _<_};
 ghost use lib.ListN.{length};
 ghost use lib.IntN.{pos};
 ghost use lib.Signed.{mag};
 ghost use Rattle.dates.specs.declared.OptionTime.the-variants.{NoTime};
+ghost use Rattle.refusals.specs.declared.ReadDate.{ReadDate};
 ghost use Rattle.datefield.specs.Text.{lastByte, isUncertain, isApproximate, isDots};
-ghost use mathlib.Core.Option.{none};
 ghost use Rattle.codes.specs.Words as words;
 ghost use Rattle.codes.specs.Points as spec;
 ghost use Rattle.codes.specs.Texts as texts;
+ghost use Rattle.codes.specs.Ported as ported_;
+ghost use Rattle.codes.specs.Parts as parts;
 ghost use Rattle.codes.specs.Typed as typed;
-ghost use Rattle.refusals.specs.declared.ReadDate.{ReadDate};
-ghost use Rattle.codes.specs.Ported as ported;
+ghost use Rattle.codes.specs.Ported.{movedBy, Movable};
+ghost use Rattle.points.specs.Point.{windowed};
+ghost use Rattle.fields.specs.Year.{beforeChrist};
+ghost use Rattle.codes.specs.Words.{wordsOf};
+ghost use Rattle.codes.specs.Typed.{Typed};
+ghost use Rattle.codes.specs.Unpacked as unpacked;
 use chars::is_digit;
+use dates::Date;
 use dates::DateValue;
 use dates::Datetime;
+use dates::Day;
 use dates::Month;
 use dates::OptionDay;
 use dates::OptionMonth;
 use dates::OptionOffset;
+use dates::OptionSeason;
 use dates::OptionTime;
+use dates::Time;
 use dates::TimeOffset;
 use refusals::ReadDate;
+use refusals::Refusal;
+use refusals::kind_of;
+use refusals::lent_span;
 
 // Where nothing is said.
 pub const NOTHING: u64 = 0xFFFFFFFFFFFFFFFF;
@@ -300,7 +314,7 @@ fn slash_of(s: &[u8]) -> usize
 }
 
 // Nothing is said.
-fn no_words() -> Words
+pub fn no_words() -> Words
     ensures { λ r. ⌜ r ≡ words.wordsOr none ⌝ }
 {
     Words {
@@ -700,7 +714,7 @@ fn farther(a: u64, b: u64) -> u64
 
 // The words of an answer whose refusal moves with a list's span.
 pub fn moved(w: Words, start: u64) -> Words
-    ensures { λ r. ⌜ ((x : ReadDate) → w ≡ words.wordsOf x → ported.Movable x → start < 0x8000000000000000 → r ≡ words.wordsOf (ported.movedBy start x)) ⌝ }
+    ensures { λ r. ⌜ ((x : ReadDate) → w ≡ words.wordsOf x → Movable x → start < 0x8000000000000000 → r ≡ words.wordsOf (movedBy start x)) ⌝ }
 {
     if w.last < 4294967296 {
         return w;
@@ -714,4 +728,609 @@ pub fn moved(w: Words, start: u64) -> Words
         second_time: w.second_time,
         last: w.last,
     }
+}
+
+// ---- ported
+
+// The numbers of three refusals.
+const DAY_OUT_OF_RANGE: u64 = 2;
+
+const MONTH_OUT_OF_RANGE: u64 = 3;
+
+const INVALID_FORMAT: u64 = 7;
+
+// A year as a number of the word.
+fn wide_year(n: u16) -> u64
+    ensures { λ r. ⌜ r ≡ n ⌝ }
+{
+    n as u64
+}
+
+// A month or a day likewise.
+fn wide_part(n: u8) -> u64
+    ensures { λ r. ⌜ r ≡ n ⌝ }
+{
+    n as u64
+}
+
+// A refusal by its number, at a place of the text.
+fn refused(number: u64, start: u64, end: u64) -> Words
+    requires { ⌜ number < 256 ⌝ }
+    ensures { λ r. ⌜ r ≡ words.words start end 0 0 0 0 (words.lastWord 0 0 0 number) ⌝ }
+{
+    Words {
+        start,
+        end,
+        first: 0,
+        first_time: 0,
+        second: 0,
+        second_time: 0,
+        last: 4294967296 * number,
+    }
+}
+
+// A point without a time, by its word.
+pub fn at_word(a: u64) -> Words
+    ensures { λ r. ⌜ r ≡ words.words 0 0 a 0 0 0 0 ⌝ }
+{
+    Words {
+        start: 0,
+        end: 0,
+        first: a,
+        first_time: 0,
+        second: 0,
+        second_time: 0,
+        last: 0,
+    }
+}
+
+// A range of two points without times.
+fn between_words(first: u64, second: u64) -> Words
+    ensures { λ r. ⌜ r ≡ words.words 0 0 first 0 second 0 3 ⌝ }
+{
+    Words {
+        start: 0,
+        end: 0,
+        first,
+        first_time: 0,
+        second,
+        second_time: 0,
+        last: 3,
+    }
+}
+
+// Whether a byte is ASCII, no X and no slash.
+fn is_word_byte(b: u8) -> bool
+    ensures { λ r. ⌜ r ≡ ported_.isWordByte b ⌝ }
+{
+    (b < 0x80) & ((b != b'X') & ((b != b'x') & (b != b'/')))
+}
+
+// Whether each byte is. No test in the loop decides where to go on: the compiler then takes many bytes at once.
+fn all_words(t: &[u8]) -> bool
+    ensures { λ r. ⌜ r ≡ ported_.areWordBytes (now (t .entry)) ⌝ }
+{
+    let mut ok = true;
+    let mut i = 0;
+    while i < t.len() {
+        ok = ok & is_word_byte(t[i]);
+        i = i + 1;
+    }
+    ok
+}
+
+// Words with no year at their front.
+fn words_refused(s: &[u8]) -> Words
+    ensures { λ r. ⌜ r ≡ words.wordsOr (ported_.noYear (now (s .entry))) ⌝ }
+{
+    if 4096 < s.len() {
+        return no_words();
+    }
+    if all_words(s) {
+        return refused(INVALID_FORMAT, 0, 0);
+    }
+    no_words()
+}
+
+// The year of two digits.
+fn near_2000(n: u8) -> u64
+    ensures { λ r. ⌜ r ≡ words.twos (windowed (pos n)) ⌝ }
+{
+    if n < 50 {
+        return wide_part(n) + 2000;
+    }
+    wide_part(n) + 1900
+}
+
+// dd
+fn short_year(s: &[u8]) -> Words
+    requires { ⌜ 2 ≤ length (now s) ⌝ }
+    ensures { λ r. ⌜ r ≡ words.wordsOr (ported_.shortYear (now (s .entry))) ⌝ }
+{
+    let n = two(s[0], s[1]);
+    if n < 100 {
+        return at_word(near_2000(n));
+    }
+    no_words()
+}
+
+// Whether XX stands at a place.
+fn is_unknown(s: &[u8], at: usize) -> bool
+    requires { ⌜ at + 2 ≤ length (now s) ⌝ }
+    ensures { λ r. ⌜ r ≡ ported_.isUnknown (now (s .entry)) at ⌝ }
+{
+    if s[at] == b'X' {
+        return s[at + 1] == b'X';
+    }
+    false
+}
+
+// ddXX
+fn years_of(s: &[u8]) -> Words
+    requires { ⌜ 4 ≤ length (now s) ⌝ }
+    ensures { λ r. ⌜ r ≡ words.wordsOr (ported_.yearsOf (now (s .entry))) ⌝ }
+{
+    if is_unknown(s, 2) {
+        let n = two(s[0], s[1]);
+        if n < 100 {
+            let y = wide_part(n) * 100;
+            return between_words(y, y + 99);
+        }
+        return no_words();
+    }
+    no_words()
+}
+
+// dddd-XX
+fn months_of(s: &[u8]) -> Words
+    requires { ⌜ 7 ≤ length (now s) ⌝ }
+    ensures { λ r. ⌜ r ≡ words.wordsOr (ported_.monthsOf (now (s .entry))) ⌝ }
+{
+    if is_unknown(s, 5) {
+        let y = year(s);
+        if 10000 <= y {
+            return no_words();
+        }
+        if s[4] == b'-' {
+            return between_words(with_month(y, 0), with_month(y, 11));
+        }
+        return no_words();
+    }
+    no_words()
+}
+
+// dddd-mm-XX
+fn days_of(s: &[u8]) -> Words
+    requires { ⌜ 8 ≤ length (now s) ⌝ }
+    ensures { λ r. ⌜ r ≡ words.wordsOr (ported_.daysOf (now (s .entry))) ⌝ }
+{
+    let y = year(s);
+    let m = part_at(s, 4);
+    if 10000 <= y {
+        return no_words();
+    }
+    if 12 <= m {
+        return no_words();
+    }
+    if s[7] == b'-' {
+        return between_words(with_day(y, m, 0), with_day(y, m, 30));
+    }
+    no_words()
+}
+
+// A month and a day, as they are written, that are no day of a year.
+fn bad_parts(at: u64, y: u16, m: u8, d: u8) -> Words
+    requires { ⌜ at < 100 ⌝ }
+    ensures { λ r. ⌜ r ≡ words.wordsOr (ported_.badParts at y m d) ⌝ }
+{
+    if m == 0 {
+        return refused(MONTH_OUT_OF_RANGE, at + 5, at + 7);
+    }
+    if 12 < m {
+        return refused(MONTH_OUT_OF_RANGE, at + 5, at + 7);
+    }
+    if d == 0 {
+        return refused(DAY_OUT_OF_RANGE, at + 8, at + 10);
+    }
+    if 31 < d {
+        return refused(DAY_OUT_OF_RANGE, at + 8, at + 10);
+    }
+    if d - 1 < dates::days_in_month(Month(m - 1), signed(y)) {
+        return no_words();
+    }
+    refused(DAY_OUT_OF_RANGE, at, at + 10)
+}
+
+// dddd-dd-dd that is no day, and begins at a place.
+fn bad_day(at: u64, s: &[u8]) -> Words
+    requires { ⌜ (at < 100) × (10 ≤ length (now s)) ⌝ }
+    ensures { λ r. ⌜ r ≡ words.wordsOr (ported_.badDay at (now (s .entry))) ⌝ }
+{
+    let y = year(s);
+    let m = two(s[5], s[6]);
+    let d = two(s[8], s[9]);
+    if 10000 <= y {
+        return no_words();
+    }
+    if s[4] != b'-' {
+        return no_words();
+    }
+    if 100 <= m {
+        return no_words();
+    }
+    if s[7] != b'-' {
+        return no_words();
+    }
+    if d < 100 {
+        return bad_parts(at, y, m, d);
+    }
+    no_words()
+}
+
+// A day that is unknown, or none.
+fn day_or_days(s: &[u8]) -> Words
+    requires { ⌜ 10 ≤ length (now s) ⌝ }
+    ensures { λ r. ⌜ r ≡ words.wordsOr (ported_.dayOrDays (now (s .entry))) ⌝ }
+{
+    if is_unknown(s, 8) {
+        return days_of(s);
+    }
+    bad_day(0, s)
+}
+
+// A range whose first half is a point, and whose second is a day that is none.
+fn bad_range(s: &[u8], k: usize) -> Words
+    requires { ⌜ k < 50 ⌝ }
+    ensures { λ r. ⌜ r ≡ words.wordsOr (ported_.badRange (now (s .entry)) k) ⌝ }
+{
+    if slash_at(s, k) {
+        if s.len() != k + 11 {
+            return no_words();
+        }
+        if point(&s[..k]) == NOTHING {
+            return no_words();
+        }
+        return bad_day(k as u64 + 1, &s[k + 1..]);
+    }
+    no_words()
+}
+
+// What the ported reader says of a text that is no written one.
+pub fn ported(s: &[u8]) -> Words
+    ensures { λ r. ⌜ r ≡ words.wordsOr (ported_.ported (now (s .entry))) ⌝ }
+{
+    let n = s.len();
+    if n == 0 {
+        return refused(INVALID_FORMAT, 0, 0);
+    }
+    if b':' <= s[0] {
+        return words_refused(s);
+    }
+    if n == 2 {
+        return short_year(s);
+    }
+    if n == 4 {
+        return years_of(s);
+    }
+    if n == 7 {
+        return months_of(s);
+    }
+    if n == 10 {
+        return day_or_days(s);
+    }
+    bad_range(s, slash_of(s))
+}
+
+// ---- fields
+
+// One to four digits as a number; 10000 for other texts. Zeros in front change nothing.
+fn number(s: &[u8]) -> u16
+    ensures { λ r. ⌜ r ≡ parts.numberOf (now (s .entry)) ⌝ }
+{
+    let n = s.len();
+    if n == 4 {
+        return year(s);
+    }
+    if n == 3 {
+        return four(b'0', s[0], s[1], s[2]);
+    }
+    if n == 2 {
+        return four(b'0', b'0', s[0], s[1]);
+    }
+    if n == 1 {
+        return four(b'0', b'0', b'0', s[0]);
+    }
+    10000
+}
+
+// Whether a text ends with a space and BC.
+fn ends_with_era(s: &[u8]) -> bool
+    requires { ⌜ 3 ≤ length (now s) ⌝ }
+    ensures { λ r. ⌜ r ≡ parts.endsWithEra (now (s .entry)) ⌝ }
+{
+    let n = s.len();
+    if s[n - 3] == b' ' {
+        if s[n - 2] == b'B' {
+            return s[n - 1] == b'C';
+        }
+    }
+    false
+}
+
+// A year before Christ as a year's part of the word.
+fn before_christ(n: u16) -> u64
+    requires { ⌜ 0 < n ⌝ }
+    ensures { λ r. ⌜ r ≡ words.twos (beforeChrist n) ⌝ }
+{
+    if n == 1 {
+        return 0;
+    }
+    4294967297 - wide_year(n)
+}
+
+fn era_year(n: u16) -> u64
+    ensures { λ r. ⌜ r ≡ words.yearWord (parts.eraYear n) ⌝ }
+{
+    if n == 0 {
+        return NOTHING;
+    }
+    if n < 10000 {
+        return before_christ(n);
+    }
+    NOTHING
+}
+
+// The year of a year field, as its part of the word.
+pub fn year_part(s: &[u8]) -> u64
+    ensures { λ r. ⌜ r ≡ words.yearWord (parts.yearPart (now (s .entry))) ⌝ }
+{
+    let n = s.len();
+    if n < 5 {
+        let y = number(s);
+        if y < 10000 {
+            return wide_year(y);
+        }
+        return NOTHING;
+    }
+    if n < 8 {
+        if ends_with_era(s) {
+            return era_year(number(&s[..n - 3]));
+        }
+    }
+    NOTHING
+}
+
+// One or two digits as a number; 100 for other texts.
+fn small(s: &[u8]) -> u8
+    ensures { λ r. ⌜ r ≡ parts.smallOf (now (s .entry)) ⌝ }
+{
+    let n = s.len();
+    if n == 2 {
+        return two(s[0], s[1]);
+    }
+    if n == 1 {
+        return two(b'0', s[0]);
+    }
+    100
+}
+
+fn is_letter(b: u8) -> bool
+    ensures { λ r. ⌜ r ≡ parts.isLetter b ⌝ }
+{
+    ((b'A' <= b) & (b <= b'Z')) | ((b'a' <= b) & (b <= b'z'))
+}
+
+// Whether each byte is a letter, with no test in the loop that decides where to go on.
+fn all_letters(t: &[u8]) -> bool
+    ensures { λ r. ⌜ r ≡ parts.areLetters (now (t .entry)) ⌝ }
+{
+    let mut ok = true;
+    let mut i = 0;
+    while i < t.len() {
+        ok = ok & is_letter(t[i]);
+        i = i + 1;
+    }
+    ok
+}
+
+// A month's part of the word.
+fn month_word_of(m: u8) -> u64
+    ensures { λ r. ⌜ r ≡ 4294967296 * (1 + 256 * m) ⌝ }
+{
+    4294967296 + 1099511627776 * wide_part(m)
+}
+
+// The month of a name.
+fn named_month(s: &[u8]) -> u64
+    ensures { λ r. ⌜ r ≡ words.monthWord (parts.namedMonth (now (s .entry))) ⌝ }
+{
+    if s.len() < 10 {
+        if all_letters(s) {
+            return match fields::month_for(s) {
+                OptionMonth::SomeMonth(m) => month_word_of(m.0),
+                OptionMonth::NoMonth => NOTHING,
+            };
+        }
+    }
+    NOTHING
+}
+
+// The month of a month field, as its part of the word.
+pub fn month_part(s: &[u8]) -> u64
+    ensures { λ r. ⌜ r ≡ words.monthWord (parts.monthPart (now (s .entry))) ⌝ }
+{
+    let n = small(s);
+    if n == 0 {
+        return NOTHING;
+    }
+    if n < 100 {
+        return month_word_of(n - 1);
+    }
+    named_month(s)
+}
+
+// The day of a day field, as its part of the word.
+pub fn day_part(s: &[u8]) -> u64
+    ensures { λ r. ⌜ r ≡ words.dayPartWord (parts.dayPart (now (s .entry))) ⌝ }
+{
+    let n = small(s);
+    if n == 0 {
+        return NOTHING;
+    }
+    if n < 32 {
+        return 281474976710656 + 72057594037927936 * wide_part(n - 1);
+    }
+    NOTHING
+}
+
+// ---- back
+
+// The lowest byte of a word.
+fn low_byte(w: u64) -> u8
+    ensures { λ r. ⌜ r ≡ w % 256 ⌝ }
+{
+    (w % 256) as u8
+}
+
+// A year from two's complement of 32 bits.
+fn from_twos(n: u64) -> i32
+    requires { ⌜ n < 4294967296 ⌝ }
+    ensures { λ r. ⌜ (r ≡ unpacked.fromTwos n) × (mag r < 2147483648) ⌝ }
+{
+    if n < 2147483648 {
+        return n as i32;
+    }
+    -1 - (4294967295 - n) as i32
+}
+
+fn month_back(has: u8, n: u8) -> OptionMonth
+    ensures { λ r. ⌜ r ≡ unpacked.monthOf has n ⌝ }
+{
+    if has == 0 {
+        return OptionMonth::NoMonth;
+    }
+    OptionMonth::SomeMonth(Month(n))
+}
+
+fn day_back(has: u8, n: u8) -> OptionDay
+    ensures { λ r. ⌜ r ≡ unpacked.dayOf has n ⌝ }
+{
+    if has == 0 {
+        return OptionDay::NoDay;
+    }
+    OptionDay::SomeDay(Day(n))
+}
+
+fn offset_back(sort: u8, hours: u8, minutes: u8) -> OptionOffset
+    ensures { λ r. ⌜ r ≡ unpacked.offsetOf sort hours minutes ⌝ }
+{
+    if sort == 0 {
+        return OptionOffset::NoOffset;
+    }
+    if sort == 1 {
+        return OptionOffset::SomeOffset(TimeOffset::Utc);
+    }
+    OptionOffset::SomeOffset(TimeOffset::Offset {
+        positive: sort == 2,
+        hours,
+        minutes,
+    })
+}
+
+fn time_back(t: u64) -> OptionTime
+    ensures { λ r. ⌜ r ≡ unpacked.timeIn t ⌝ }
+{
+    if t % 256 == 0 {
+        return OptionTime::NoTime;
+    }
+    let offset = offset_back(
+        low_byte(t / 4294967296),
+        low_byte(t / 1099511627776),
+        low_byte(t / 281474976710656),
+    );
+    OptionTime::SomeTime(Time {
+        hour: low_byte(t / 256),
+        minute: low_byte(t / 65536),
+        second: low_byte(t / 16777216),
+        offset,
+    })
+}
+
+fn season_back(n: u8) -> OptionSeason
+    ensures { λ r. ⌜ r ≡ unpacked.seasonOf n ⌝ }
+{
+    if n == 0 {
+        return OptionSeason::NoSeason;
+    }
+    if n == 21 {
+        return OptionSeason::Spring;
+    }
+    if n == 22 {
+        return OptionSeason::Summer;
+    }
+    if n == 23 {
+        return OptionSeason::Autumn;
+    }
+    OptionSeason::Winter
+}
+
+fn datetime_back(a: u64, t: u64) -> Datetime
+    ensures { λ r. ⌜ r ≡ unpacked.datetimeIn a t ⌝ }
+{
+    let month = month_back(low_byte(a / 4294967296), low_byte(a / 1099511627776));
+    let day = day_back(
+        low_byte(a / 281474976710656),
+        low_byte(a / 72057594037927936),
+    );
+    let time = time_back(t);
+    let season = season_back(low_byte(t / 72057594037927936));
+    Datetime {
+        year: from_twos(a % 4294967296),
+        month,
+        day,
+        time,
+        season,
+    }
+}
+
+fn value_back(w: Words) -> DateValue
+    ensures { λ r. ⌜ r ≡ unpacked.valueIn w ⌝ }
+{
+    let shape = w.last % 256;
+    let first = datetime_back(w.first, w.first_time);
+    if shape == 0 {
+        return DateValue::At(first);
+    }
+    if shape == 1 {
+        return DateValue::After(first);
+    }
+    if shape == 2 {
+        return DateValue::Before(first);
+    }
+    DateValue::Between(first, datetime_back(w.second, w.second_time))
+}
+
+fn date_back(w: Words) -> Date
+    ensures { λ r. ⌜ r ≡ unpacked.dateIn w ⌝ }
+{
+    let value = value_back(w);
+    Date {
+        value,
+        uncertain: w.last / 256 % 256 != 0,
+        approximate: w.last / 65536 % 256 != 0,
+    }
+}
+
+// What a reader answered, from its words.
+pub fn unpack(w: Words) -> ReadDate
+    ensures { λ r. ⌜ ((x : ReadDate) → w ≡ wordsOf x → Typed x → r ≡ x) ⌝ }
+{
+    let refusal = low_byte(w.last / 4294967296);
+    if refusal == 0 {
+        return ReadDate::Accepted(date_back(w));
+    }
+    ReadDate::Refused(Refusal {
+        kind: kind_of(refusal),
+        place: lent_span(w.start, w.end),
+    })
 }

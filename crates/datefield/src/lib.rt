@@ -1,7 +1,8 @@
 // The text of a date field: its mark, then an X range, two halves or a point. `Date::parse` behind the formatting.
 ghost use mathlib.Core.Path.{_≡_};
-ghost use Prim.Native.Nat.{_<_};
-ghost use lib.ListN.{length};
+ghost use mathlib.Core.Bool.{true};
+ghost use Prim.Native.Nat.{_+_, _<_, _≤_};
+ghost use lib.ListN.{length, drop};
 ghost use Rattle.refusals.specs.Offset.{offset};
 ghost use Rattle.datefield.specs.Text as text;
 ghost use Rattle.datefield.specs.Value as spec;
@@ -28,11 +29,40 @@ pub enum ReadValue {
     NoValue(Refusal),
 }
 
+// Whether none of sixteen bytes is b. None of them decides where the loop goes on: the compiler takes them all at once.
+fn lacks(s: &[u8], at: usize, b: u8) -> bool
+    requires { ⌜ at + 16 ≤ length (now s) ⌝ }
+    ensures { λ r. ⌜ (r ≡ true → at + 16 + text.firstOf b (drop (at + 16) (now (s .entry))) ≡ at + text.firstOf b (drop at (now (s .entry)))) ⌝ }
+{
+    let mut ok = true;
+    let mut i = 0;
+    while i < 16 {
+        ok = ok & (s[at + i] != b);
+        i = i + 1;
+    }
+    ok
+}
+
+// A place with no b before it, by sixteen bytes at a time.
+fn skip(s: &[u8], b: u8) -> usize
+    ensures { λ r. ⌜ (r + text.firstOf b (drop r (now (s .entry))) ≡ text.firstOf b (now (s .entry))) × (r ≤ length (now (s .entry))) ⌝ }
+{
+    let mut i = 0;
+    while 16 <= s.len() - i {
+        if lacks(s, i, b) {
+            i = i + 16;
+        } else {
+            return i;
+        }
+    }
+    i
+}
+
 // The place of the first byte that is b, or the end.
 fn find(s: &[u8], b: u8) -> usize
     ensures { λ r. ⌜ r ≡ text.firstOf b (now (s .entry)) ⌝ }
 {
-    let mut i = 0;
+    let mut i = skip(s, b);
     while i < s.len() {
         if s[i] == b {
             return i;

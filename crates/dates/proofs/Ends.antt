@@ -39,3 +39,10 @@ no-end f (At d) p = f d p
 no-end f (After d) p = f d p
 no-end f (Before d) p = f d p
 no-end f (Between a b) p = rw (f a (p .0), f b (p .1))
+
+-- what follows of an end follows of every end
+pub each-end : {P Q : Datetime → Type 0} → ((d : Datetime) → P d → Q d) → (v : DateValue) → EachEnd P v → EachEnd Q v
+each-end f (At d) p = f d p
+each-end f (After d) p = f d p
+each-end f (Before d) p = f d p
+each-end f (Between a b) p = (f a (p .0), f b (p .1))

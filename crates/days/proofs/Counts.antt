@@ -22,7 +22,7 @@ use Rattle.days.specs.declared.Stretch.the-variants.{NoDate, Part}
 use Rattle.days.specs.Days.{yearLength, daysBefore, daysFrom, daysBack, newYear, monthStart}
 use Rattle.days.specs.Covered.{yearIn, partsIn, firstOf, lengthOf, lastOf, isDate, firstDay, lastDay, period, notADate, calendarDays}
 use Rattle.days.specs.Counts.{counted, askedMonth, askedYear, asked, daysTo, numbered, periodFrom}
-use Rattle.days.specs.Ways.{answer}
+use Rattle.days.specs.Ways.{stretchDays}
 use Rattle.days.proofs.Years.{year-most, year-least, from-most, leap-on, leap-back, from-on, from-back}
 use Rattle.days.proofs.Months.{before-first, before-most, before-same}
 use Rattle.days.proofs.Numbers.{counted-pos, counted-neg, year-neg, counted-in, numbered-on, numbered-pos, numbered-neg}
@@ -89,50 +89,50 @@ part first a k e h =
 abbrev coveredBy : Bool → ℤ → OptionMonth → OptionDay → Covered
 coveredBy u y month day = pick u (Days (period (firstOf y month day) (firstOf y month day +ℤ pos (lengthOf y month day - 1)))) notADate
 
-of-month : (y : ℤ) → yearIn y ≡ true → (m : ℕ) → m < 12 → Days (period (monthStart m y) (monthStart m y +ℤ pos (monthLength m y - 1))) ≡ answer daysTo (Part (counted y) m 0 (monthLength m y))
+of-month : (y : ℤ) → yearIn y ≡ true → (m : ℕ) → m < 12 → Days (period (monthStart m y) (monthStart m y +ℤ pos (monthLength m y - 1))) ≡ stretchDays daysTo (Part (counted y) m 0 (monthLength m y))
 of-month y t m h = part (monthStart m y) (daysTo (counted y) m + 0) (monthLength m y) (month-counted m y t ∙ ap numbered (omega arith)) (some-day m y h)
 
-of-day : (y : ℤ) → yearIn y ≡ true → (m d : ℕ) → Days (period (monthStart m y +ℤ pos d) (monthStart m y +ℤ pos d +ℤ pos (1 - 1))) ≡ answer daysTo (Part (counted y) m d 1)
+of-day : (y : ℤ) → yearIn y ≡ true → (m d : ℕ) → Days (period (monthStart m y +ℤ pos d) (monthStart m y +ℤ pos d +ℤ pos (1 - 1))) ≡ stretchDays daysTo (Part (counted y) m d 1)
 of-day y t m d =
     part (monthStart m y +ℤ pos d) (daysTo (counted y) m + d) 1 (ap (λ (z : ℤ). z +ℤ pos d) (month-counted m y t) ∙ numbered-on (daysTo (counted y) m) d) (omega arith)
 
-of-year : (y : ℤ) → yearIn y ≡ true → Days (period (newYear y) (newYear y +ℤ pos (yearLength y - 1))) ≡ answer daysTo (Part (counted y) 0 0 (yearLength y))
+of-year : (y : ℤ) → yearIn y ≡ true → Days (period (newYear y) (newYear y +ℤ pos (yearLength y - 1))) ≡ stretchDays daysTo (Part (counted y) 0 0 (yearLength y))
 unfolding daysTo
 of-year y t =
     part (newYear y) (daysTo (counted y) 0 + 0) (yearLength y) (year-counted y t ∙ ap numbered (omega (arith, before-first (pos (counted y))))) (omega (arith, year-least y))
 
-parts : (y : ℤ) → yearIn y ≡ true → (month : OptionMonth) (day : OptionDay) → coveredBy (partsIn y month day) y month day ≡ answer daysTo (askedYear y month day)
+parts : (y : ℤ) → yearIn y ≡ true → (month : OptionMonth) (day : OptionDay) → coveredBy (partsIn y month day) y month day ≡ stretchDays daysTo (askedYear y month day)
 unfolding partsIn firstOf lengthOf askedMonth askedYear pick
 parts y t NoMonth NoDay = of-year y t
 parts y t NoMonth (SomeDay d) = refl
 parts y t (SomeMonth m) NoDay = go (ltb (m .0) 12) refl
   where
-    go : (u : Bool) → ltb (m .0) 12 ≡ u → coveredBy u y (SomeMonth m) NoDay ≡ answer daysTo (pick u (askedMonth y (m .0) NoDay) NoDate)
+    go : (u : Bool) → ltb (m .0) 12 ≡ u → coveredBy u y (SomeMonth m) NoDay ≡ stretchDays daysTo (pick u (askedMonth y (m .0) NoDay) NoDate)
     go true e = of-month y t (m .0) (ltb-true (m .0) 12 e)
     go false e = refl
 parts y t (SomeMonth m) (SomeDay d) = go (ltb (m .0) 12) (ltb (d .0) (monthLength (m .0) y)) refl
   where
-    go : (u v : Bool) → ltb (d .0) (monthLength (m .0) y) ≡ v → coveredBy (u && v) y (SomeMonth m) (SomeDay d) ≡ answer daysTo (pick u (askedMonth y (m .0) (SomeDay d)) NoDate)
+    go : (u v : Bool) → ltb (d .0) (monthLength (m .0) y) ≡ v → coveredBy (u && v) y (SomeMonth m) (SomeDay d) ≡ stretchDays daysTo (pick u (askedMonth y (m .0) (SomeDay d)) NoDate)
     go true true e = rw e (of-day y t (m .0) (d .0))
     go true false e = rw e
     go false v e = refl
 
 -- what a Datetime covers in the calendar is the answer to what it asks
-pub answered : (d : Datetime) → calendarDays d ≡ answer daysTo (asked d)
+pub answered : (d : Datetime) → calendarDays d ≡ stretchDays daysTo (asked d)
 unfolding calendarDays isDate firstDay lastDay lastOf asked pick
 answered d = go (yearIn (d .year)) refl
   where
-    go : (u : Bool) → yearIn (d .year) ≡ u → coveredBy (u && partsIn (d .year) (d .month) (d .day)) (d .year) (d .month) (d .day) ≡ answer daysTo (pick u (askedYear (d .year) (d .month) (d .day)) NoDate)
+    go : (u : Bool) → yearIn (d .year) ≡ u → coveredBy (u && partsIn (d .year) (d .month) (d .day)) (d .year) (d .month) (d .day) ≡ stretchDays daysTo (pick u (askedYear (d .year) (d .month) (d .day)) NoDate)
     go true e = parts (d .year) e (d .month) (d .day)
     go false e = refl
 
 -- as a caller meets it: what was asked is told by the case, and the days before a month are counted in one of the ways
-pub not-covered : (before : ℕ → ℕ → ℕ) (d : Datetime) {s : Stretch} → s ≡ asked d → s ≡ NoDate → notADate ≡ answer before (asked d)
-not-covered before d e f = ap (answer before) (sym f ∙ e)
+pub not-covered : (before : ℕ → ℕ → ℕ) (d : Datetime) {s : Stretch} → s ≡ asked d → s ≡ NoDate → notADate ≡ stretchDays before (asked d)
+not-covered before d e f = ap (stretchDays before) (sym f ∙ e)
 
 module _ (d : Datetime) {s : Stretch} {n m p k : ℕ} (e : s ≡ asked d) (f : s ≡ Part n m p k) where
   pub bounds : (0 < n) × (n < 20000) × (m < 12) × (p < 31) × (0 < k) × (k < 367)
   bounds = subst In (sym e ∙ f) (asked-in d)
 
-  pub covers : (before : ℕ → ℕ → ℕ) {b : ℕ} → b ≡ before n m → Days (periodFrom (b + p) k) ≡ answer before (asked d)
-  covers before g = rw g (ap (answer before) (sym f ∙ e))
+  pub covers : (before : ℕ → ℕ → ℕ) {b : ℕ} → b ≡ before n m → Days (periodFrom (b + p) k) ≡ stretchDays before (asked d)
+  covers before g = rw g (ap (stretchDays before) (sym f ∙ e))

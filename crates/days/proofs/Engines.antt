@@ -13,7 +13,7 @@ use Rattle.days.specs.declared.Stretch.the-variants.{NoDate, Part}
 use Rattle.days.specs.Covered.{calendarDays, covered}
 use Rattle.days.specs.Counts.{asked, daysTo, lengthAt, monthsTo, periodFrom}
 use Rattle.days.specs.Table.{table}
-use Rattle.days.specs.Ways.{byFormula, byTable, answer, daysBy}
+use Rattle.days.specs.Ways.{byFormula, byTable, stretchDays, daysBy}
 use Rattle.days.proofs.Years.{from-is, cycles, leap-cycle}
 use Rattle.days.proofs.Months.{months-rule, before-next, before-first, before-last, before-same}
 use Rattle.days.proofs.Counts.{In, asked-in, answered}
@@ -69,15 +69,15 @@ table-is n m h =
     let e : getD table (n % 400 * 12 + m) 0 ≡ daysTo (n % 400) m = entry-is (n % 400 * 12 + m) (omega arith) ∙ months-are (n % 400) m h in
     omega (arith, e, from-cycle n m)
 
-same : (f g : ℕ → ℕ → ℕ) → ((n m : ℕ) → m < 12 → f n m ≡ g n m) → (s : Stretch) → In s → answer f s ≡ answer g s
+same : (f g : ℕ → ℕ → ℕ) → ((n m : ℕ) → m < 12 → f n m ≡ g n m) → (s : Stretch) → In s → stretchDays f s ≡ stretchDays g s
 same f g e NoDate h = refl
 same f g e (Part n m p k) h = ap (λ (b : ℕ). Days (periodFrom (b + p) k)) (e n m (h .2))
 
 -- by each way a Datetime has the days of the calendar
-pub formula-days : (d : Datetime) → calendarDays d ≡ answer byFormula (asked d)
+pub formula-days : (d : Datetime) → calendarDays d ≡ stretchDays byFormula (asked d)
 formula-days d = answered d ∙ same daysTo byFormula (λ n m h. sym (formula-is n m h)) (asked d) (asked-in d)
 
-pub table-days : (d : Datetime) → calendarDays d ≡ answer byTable (asked d)
+pub table-days : (d : Datetime) → calendarDays d ≡ stretchDays byTable (asked d)
 table-days d = answered d ∙ same daysTo byTable (λ n m h. sym (table-is n m h)) (asked d) (asked-in d)
 
 -- What a Datetime covers is what the formula gives,

@@ -41,10 +41,6 @@ pub to-next : (n m : ℕ) → daysTo n (suc m) ≡ daysTo n m + monthLength m (p
 unfolding daysTo
 to-next n m = omega (arith, before-next m (pos n))
 
-pub to-first : (n : ℕ) → daysTo n 0 ≡ daysFrom n
-unfolding daysTo
-to-first n = omega (arith, before-first (pos n))
-
 pub to-most : (n m : ℕ) → daysTo n m ≤ daysFrom (suc n)
 unfolding daysTo
 to-most n m = omega (arith, before-most m (pos n), from-next n)

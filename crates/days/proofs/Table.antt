@@ -2,11 +2,12 @@
 use mathlib.Core.Path.{_≡_, refl, sym, ap, _∙_}
 use mathlib.Core.Bool.{Bool, true, false}
 use mathlib.Core.List.{List, [], _∷_}
-use Prim.Native.Nat.{ℕ, zero, suc, _+_, _<_}
+use Prim.Native.Nat.{ℕ, zero, suc, _+_, _*_, _≤_, _<_}
 use native.Mathlib.Nat.{add-zero, add-suc, suc-add, zero-add, not-suc-le-zero, le-of-suc-le-suc}
 use native.Mathlib.Omega.{arith}
 use lib.Dec.{T, eqb, eqb→eq}
-use lib.ListN.{length, getD}
+use lib.ListN.{length, getD, take, drop}
+use lib.Seq.{getD-take, getD-drop}
 use Rattle.dates.specs.Calendar.{multiple, leapYear, february, monthLengths, monthLength}
 use Rattle.days.specs.Counts.{lengthAt, monthsTo}
 use Rattle.days.specs.Table.{table}
@@ -75,3 +76,22 @@ whole = ap monthsTo (ap (λ (k : ℕ). 0 + k) (sym long)) ∙ at-end 146097 tabl
 
 pub ends : getD table 4799 0 + lengthAt 4799 ≡ 146097
 ends = ap (λ (m : ℕ). m + lengthAt 4799) (entry-is 4799 (omega arith)) ∙ sym (months-next 4799) ∙ whole
+
+-- the entries of the four years from year 4q on; each is one of the table
+abbrev pub fourYears : ℕ → List ℕ
+fourYears q = take 48 (drop (q * 48) table)
+
+pub in-four-years : (q j : ℕ) → j < 48 → getD (fourYears q) j 0 ≡ getD table (q * 48 + j) 0
+in-four-years q j h = getD-take 48 (drop (q * 48) table) j 0 h ∙ getD-drop (q * 48) table j 0
+
+-- what the last arm of a match knows: the number is none of those below n
+abbrev pub Apart : ℕ → ℕ → Type 0
+Apart zero q = Unit {0}
+Apart (suc n) q = Apart n q × (q ≡ n → ⊥)
+
+above : (n q : ℕ) → Apart n q → n ≤ q
+above zero q h = omega arith
+above (suc n) q h = omega (arith, above n q (h .0), h .1)
+
+pub last : (n q : ℕ) → Apart n q → q < suc n → n ≡ q
+last n q h b = omega (arith, above n q h, b)

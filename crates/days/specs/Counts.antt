@@ -1,5 +1,6 @@
 -- What the two ways of counting compute on the way. Years are counted from -10000, which is 25 cycles of 400 years before the year 0 and
--- so has its calendar: no number is negative before the end. None of this need be believed, `covered` says what comes out.
+-- so has its calendar: no number is negative before the end. The calls promise what `covered` says; that both ways come out
+-- alike (`engines-equal`) is said over these.
 use Prim.Native.Nat.{ℕ, zero, suc, _+_, _-_, _/_, _%_}
 use lib.Dec.{ltb}
 use lib.IntN.{ℤ, pos, natAbs, _+ℤ_, _-ℤ_}

@@ -42,10 +42,10 @@ unfoldable pub byTable : ℕ → ℕ → ℕ
 byTable n m = n / 400 * 146097 + getD table (n % 400 * 12 + m) 0
 
 -- the days of what is asked, by the days before a month
-abbrev pub answer : (ℕ → ℕ → ℕ) → Stretch → Covered
-answer before NoDate = notADate
-answer before (Part n m p k) = Days (periodFrom (before n m + p) k)
+abbrev pub stretchDays : (ℕ → ℕ → ℕ) → Stretch → Covered
+stretchDays before NoDate = notADate
+stretchDays before (Part n m p k) = Days (periodFrom (before n m + p) k)
 
 -- the first and the last day of a Datetime, counted in one of the two ways; HasSeason comes before all else
 unfoldable pub daysBy : (ℕ → ℕ → ℕ) → Datetime → Covered
-daysBy before d = pick (hasSeason d) seasoned (answer before (asked d))
+daysBy before d = pick (hasSeason d) seasoned (stretchDays before (asked d))

@@ -2,8 +2,8 @@
 // They are counted in two ways, by a formula and from a table, and both give the same.
 ghost use mathlib.Core.Path.{_≡_};
 ghost use mathlib.Core.Bool.{true};
-ghost use Prim.Native.Nat.{_<_};
-ghost use lib.ListN.{take, getD};
+ghost use Prim.Native.Nat.{_+_, _*_, _<_};
+ghost use lib.ListN.{take, drop, getD};
 ghost use Rattle.dates.specs.Calendar.{monthLengths};
 ghost use Rattle.days.specs.Days.{total, yearLength, daysFrom};
 ghost use Rattle.days.specs.Covered as spec;
@@ -13,7 +13,6 @@ ghost use Rattle.days.specs.Ways as ways;
 
 mod cycle;
 
-use cycle::BEFORE;
 use dates::Datetime;
 use dates::Month;
 use dates::OptionDay;
@@ -49,7 +48,7 @@ enum Stretch {
 
 // The days of a Datetime without a season, by a formula.
 fn formula_days(d: Datetime) -> Covered
-    ensures { λ r. ⌜ r ≡ ways.answer ways.byFormula (counts.asked d) ⌝ }
+    ensures { λ r. ⌜ r ≡ ways.stretchDays ways.byFormula (counts.asked d) ⌝ }
 {
     match asked(d) {
         Stretch::NoDate => refused(),
@@ -67,7 +66,7 @@ fn formula_days(d: Datetime) -> Covered
 
 // The same from the table.
 fn table_days(d: Datetime) -> Covered
-    ensures { λ r. ⌜ r ≡ ways.answer ways.byTable (counts.asked d) ⌝ }
+    ensures { λ r. ⌜ r ≡ ways.stretchDays ways.byTable (counts.asked d) ⌝ }
 {
     match asked(d) {
         Stretch::NoDate => refused(),
@@ -238,16 +237,168 @@ fn by_table(year: u32, month: u8) -> u32
     requires { ⌜ (year < 20000) × (month < 12) ⌝ }
     ensures { λ r. ⌜ (r ≡ ways.byTable year month) × (r < 8000000) ⌝ }
 {
-    let i = year % 400 * 12 + month as u32;
-    year / 400 * 146097 + entry(i as usize)
+    let j = year % 4 * 12 + month as u32;
+    year / 400 * 146097 + entry(year % 400 / 4, j as usize)
 }
 
-// An entry of the table.
-fn entry(i: usize) -> u32
-    requires { ⌜ i < 4800 ⌝ }
-    ensures { λ r. ⌜ r ≡ getD table i 0 ⌝ }
+// An entry of the table: of the four years from year 4q on, that of month j.
+fn entry(q: u32, j: usize) -> u32
+    requires { ⌜ (q < 100) × (j < 48) ⌝ }
+    ensures { λ r. ⌜ r ≡ getD table (q * 48 + j) 0 ⌝ }
 {
-    BEFORE[i]
+    let months = four_years(q);
+    months[j]
+}
+
+// The entries of the four years from year 4q on. A constant that is an array is written to the stack where it is used, so there is one for every
+// four years, and only the one that is asked for is written.
+fn four_years(q: u32) -> [u32; 48]
+    requires { ⌜ q < 100 ⌝ }
+    ensures { λ r. ⌜ r ≡ take 48 (drop (q * 48) table) ⌝ }
+{
+    let n = q % 25;
+    match q / 25 {
+        0 => century_0(n),
+        1 => century_1(n),
+        2 => century_2(n),
+        _ => century_3(n),
+    }
+}
+
+// The same of the first century.
+fn century_0(q: u32) -> [u32; 48]
+    requires { ⌜ q < 25 ⌝ }
+    ensures { λ r. ⌜ r ≡ take 48 (drop (q * 48) table) ⌝ }
+{
+    match q {
+        0 => cycle::Y0,
+        1 => cycle::Y4,
+        2 => cycle::Y8,
+        3 => cycle::Y12,
+        4 => cycle::Y16,
+        5 => cycle::Y20,
+        6 => cycle::Y24,
+        7 => cycle::Y28,
+        8 => cycle::Y32,
+        9 => cycle::Y36,
+        10 => cycle::Y40,
+        11 => cycle::Y44,
+        12 => cycle::Y48,
+        13 => cycle::Y52,
+        14 => cycle::Y56,
+        15 => cycle::Y60,
+        16 => cycle::Y64,
+        17 => cycle::Y68,
+        18 => cycle::Y72,
+        19 => cycle::Y76,
+        20 => cycle::Y80,
+        21 => cycle::Y84,
+        22 => cycle::Y88,
+        23 => cycle::Y92,
+        _ => cycle::Y96,
+    }
+}
+
+// The same of the second century.
+fn century_1(q: u32) -> [u32; 48]
+    requires { ⌜ q < 25 ⌝ }
+    ensures { λ r. ⌜ r ≡ take 48 (drop ((25 + q) * 48) table) ⌝ }
+{
+    match q {
+        0 => cycle::Y100,
+        1 => cycle::Y104,
+        2 => cycle::Y108,
+        3 => cycle::Y112,
+        4 => cycle::Y116,
+        5 => cycle::Y120,
+        6 => cycle::Y124,
+        7 => cycle::Y128,
+        8 => cycle::Y132,
+        9 => cycle::Y136,
+        10 => cycle::Y140,
+        11 => cycle::Y144,
+        12 => cycle::Y148,
+        13 => cycle::Y152,
+        14 => cycle::Y156,
+        15 => cycle::Y160,
+        16 => cycle::Y164,
+        17 => cycle::Y168,
+        18 => cycle::Y172,
+        19 => cycle::Y176,
+        20 => cycle::Y180,
+        21 => cycle::Y184,
+        22 => cycle::Y188,
+        23 => cycle::Y192,
+        _ => cycle::Y196,
+    }
+}
+
+// The same of the third century.
+fn century_2(q: u32) -> [u32; 48]
+    requires { ⌜ q < 25 ⌝ }
+    ensures { λ r. ⌜ r ≡ take 48 (drop ((50 + q) * 48) table) ⌝ }
+{
+    match q {
+        0 => cycle::Y200,
+        1 => cycle::Y204,
+        2 => cycle::Y208,
+        3 => cycle::Y212,
+        4 => cycle::Y216,
+        5 => cycle::Y220,
+        6 => cycle::Y224,
+        7 => cycle::Y228,
+        8 => cycle::Y232,
+        9 => cycle::Y236,
+        10 => cycle::Y240,
+        11 => cycle::Y244,
+        12 => cycle::Y248,
+        13 => cycle::Y252,
+        14 => cycle::Y256,
+        15 => cycle::Y260,
+        16 => cycle::Y264,
+        17 => cycle::Y268,
+        18 => cycle::Y272,
+        19 => cycle::Y276,
+        20 => cycle::Y280,
+        21 => cycle::Y284,
+        22 => cycle::Y288,
+        23 => cycle::Y292,
+        _ => cycle::Y296,
+    }
+}
+
+// The same of the fourth century.
+fn century_3(q: u32) -> [u32; 48]
+    requires { ⌜ q < 25 ⌝ }
+    ensures { λ r. ⌜ r ≡ take 48 (drop ((75 + q) * 48) table) ⌝ }
+{
+    match q {
+        0 => cycle::Y300,
+        1 => cycle::Y304,
+        2 => cycle::Y308,
+        3 => cycle::Y312,
+        4 => cycle::Y316,
+        5 => cycle::Y320,
+        6 => cycle::Y324,
+        7 => cycle::Y328,
+        8 => cycle::Y332,
+        9 => cycle::Y336,
+        10 => cycle::Y340,
+        11 => cycle::Y344,
+        12 => cycle::Y348,
+        13 => cycle::Y352,
+        14 => cycle::Y356,
+        15 => cycle::Y360,
+        16 => cycle::Y364,
+        17 => cycle::Y368,
+        18 => cycle::Y372,
+        19 => cycle::Y376,
+        20 => cycle::Y380,
+        21 => cycle::Y384,
+        22 => cycle::Y388,
+        23 => cycle::Y392,
+        _ => cycle::Y396,
+    }
 }
 
 // The number of a day that is counted from -10000-01-01.

@@ -212,7 +212,7 @@ pub fn get_year(s: &[u8]) -> ReadYear
 }
 
 // The month of a name, or else of an abbreviation.
-fn month_for(t: &[u8]) -> OptionMonth
+pub fn month_for(t: &[u8]) -> OptionMonth
     ensures { λ r. ⌜ r ≡ names.monthFor (now (t .entry)) ⌝ }
 {
     match get_month_for_name(t) {

@@ -2,18 +2,14 @@
 -- Assumes nothing.
 use mathlib.Core.Path.{_≡_, refl, ap}
 use mathlib.Core.Bool.{Bool, true, false}
-use mathlib.Core.List.{List, [], _∷_, _++_}
+use mathlib.Core.List.{List, [], _∷_}
 use Prim.Native.Nat.{ℕ, _+_, _*_, _/_, _%_, _<_}
 use native.Mathlib.Omega.{arith}
 use lib.Dec.{T}
 use Rattle.chars.specs.Pick.{pick}
 use Rattle.chars.proofs.Below.{at, agree}
-use Rattle.dates.specs.declared.OptionSeason.{OptionSeason}
-use Rattle.dates.specs.declared.OptionSeason.the-variants.{NoSeason, Spring, Summer, Autumn, Winter}
-use Rattle.dates.specs.declared.Datetime.{Datetime}
-use Rattle.dates.specs.Value.{seasonNumber}
 use Rattle.hexes.specs.Hex.{isDigit, digitOf, allDigits, bytesOf}
-use Rattle.answers.specs.Answer.{glyph, hexText, datetimeBytes, endBytes}
+use Rattle.answers.specs.Answer.{glyph, hexText}
 use Rattle.frames.specs.Answers.{AllBytes}
 
 glyph-back : (d : ℕ) → d < 16 → digitOf (glyph d) ≡ d
@@ -44,20 +40,3 @@ bytes-back (b ∷ l) h =
     let p = h .0 in
     let e : b / 16 * 16 + b % 16 ≡ b = omega arith in
     rw (glyph-back (b / 16) (omega arith), glyph-back (b % 16) (omega arith), e) (ap (λ (t : List ℕ). b ∷ t) (bytes-back l (h .1)))
-
-all-bytes : (a b : List ℕ) → AllBytes a → AllBytes b → AllBytes (a ++ b)
-all-bytes [] b h g = g
-all-bytes (x ∷ a) b h g = (h .0, all-bytes a b (h .1) g)
-
-season-byte : (s : OptionSeason) → seasonNumber s < 256
-season-byte NoSeason = omega arith
-season-byte Spring = omega arith
-season-byte Summer = omega arith
-season-byte Autumn = omega arith
-season-byte Winter = omega arith
-
--- an end of level one is bytes where its Datetime is: its season is a byte too
-pub end-bytes : (level : Bool) (d : Datetime) → AllBytes (datetimeBytes d) → AllBytes (endBytes level d)
-unfolding endBytes
-end-bytes true d h = all-bytes (datetimeBytes d) (seasonNumber (d .season) ∷ []) h (season-byte (d .season), tt)
-end-bytes false d h = h

@@ -21,7 +21,8 @@ use Rattle.dates.specs.declared.DateValue.{DateValue}
 use Rattle.dates.specs.declared.DateValue.the-variants.{At, After, Before, Between}
 use Rattle.dates.specs.declared.Date.{Date}
 use Rattle.dates.specs.Value.{seasonNumber, isSeason}
-use Rattle.knobstream.specs.Plain.{hasMonth, monthNumber, hasDay, dayNumber, offsetSort, shiftOf, hoursOf, minutesOf, flag, datetime, date}
+use Rattle.codes.specs.Words.{hasMonth, monthNumber, hasDay, dayNumber, offsetSort, shiftOf, hoursOf, minutesOf, flag}
+use Rattle.knobstream.specs.Plain.{datetime, date}
 use Rattle.knobstream.specs.Back.{isSet, monthOf, dayOf, offsetOf, timeOf, seasonOf, datetimeOf, dateValue, dateBy, dateOf}
 
 flag-back : (b : Bool) → isSet (flag b) ≡ b

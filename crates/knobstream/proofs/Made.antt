@@ -14,16 +14,11 @@ use Rattle.chars.specs.Pick.{pick}
 use Rattle.chars.proofs.Cases.{of-test}
 use Rattle.refusals.specs.declared.Refusal.{Refusal}
 use Rattle.refusals.specs.Refusal.{number, refusal}
-use Rattle.dates.specs.declared.TimeOffset.{TimeOffset}
-use Rattle.dates.specs.declared.OptionOffset.the-variants.{NoOffset}
-use Rattle.dates.specs.declared.Time.{Time}
-use Rattle.dates.specs.declared.OptionTime.the-variants.{NoTime, SomeTime}
 use Rattle.dates.specs.declared.Datetime.{Datetime}
 use Rattle.dates.specs.declared.DateValue.{DateValue}
 use Rattle.dates.specs.declared.DateValue.the-variants.{At, After, Before, Between}
 use Rattle.dates.specs.declared.Date.{Date}
-use Rattle.dates.specs.Time.{time}
-use Rattle.dates.specs.Value.{seasonNumber, hasSeason, anySeason}
+use Rattle.dates.specs.Value.{hasSeason, anySeason}
 use Rattle.days.specs.declared.Period.{Period}
 use Rattle.days.specs.Covered.{period}
 use Rattle.instants.specs.Instants.{compared}
@@ -40,38 +35,10 @@ use Rattle.writer.specs.Texts.{partsOf, datetimeText, valueText, dateText, endP
 use Rattle.puts.specs.Marks.{markText}
 use Rattle.writer.specs.Fields.{endLines, valueLines, fieldsText}
 use Rattle.writer.specs.Level.{behindText, levelEnd, levelValue, levelText, levelEndPanics, levelValuePanics, levelPanics}
-use Rattle.knobstream.specs.declared.PlainDatetime.{PlainDatetime}
 use Rattle.knobstream.specs.declared.PlainDate.{PlainDate}
 use Rattle.knobstream.specs.declared.PlainWritten.{PlainWritten}
-use Rattle.knobstream.specs.Plain.{hasMonth, monthNumber, hasDay, dayNumber, shiftOf, offsetSort, hoursOf, minutesOf, datetime, written, measure, orderNumber, comparedNumber}
+use Rattle.knobstream.specs.Plain.{written, measure, orderNumber, comparedNumber}
 use Rattle.knobstream.specs.Back.{isSet, datetimeOf, dayOnly, dateValue, dateBy, dateOf}
-
--- the struct of a year and other numbers
-abbrev plain : ℤ → ℕ → ℕ → ℕ → ℕ → ℕ → Time → ℕ → ℕ → ℕ → ℕ → PlainDatetime
-plain y hm m hd n ht t sort hours minutes s =
-    record {
-      year = y;
-      «has_month» = hm;
-      month = m;
-      «has_day» = hd;
-      day = n;
-      «has_time» = ht;
-      hour = t .hour;
-      minute = t .minute;
-      second = t .second;
-      offset = sort;
-      «offset_hours» = hours;
-      «offset_minutes» = minutes;
-      season = s;
-    }
-
-module _ (d : Datetime) {y : ℤ} {hm m hd n s : ℕ} (ey : y ≡ d .year) (a : hm ≡ hasMonth (d .month)) (b : m ≡ monthNumber (d .month)) (e : hd ≡ hasDay (d .day)) (f : n ≡ dayNumber (d .day)) (es : s ≡ seasonNumber (d .season)) where
-  pub made-untimed : d .time ≡ NoTime → plain y hm m hd n 0 (time 0 0 0 NoOffset) 0 0 0 s ≡ datetime d
-  made-untimed g = rw (ey, a, b, e, f, g, es)
-
-  pub made-timed : {t : Time} {o : TimeOffset} {sort hours minutes : ℕ} → d .time ≡ SomeTime t → o ≡ shiftOf (t .offset) → sort ≡ offsetSort (t .offset) → hours ≡ hoursOf o → minutes ≡ minutesOf o
-      → plain y hm m hd n 1 t sort hours minutes s ≡ datetime d
-  made-timed g eo h i j = rw (ey, a, b, e, f, g, h, i, j, eo, es)
 
 -- the number of an order has 32 bits
 pub order-fits : (o : Order) → toZ w32 (ofZ w32 (orderNumber o)) ≡ orderNumber o

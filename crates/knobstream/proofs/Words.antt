@@ -1,17 +1,42 @@
 -- The seven words of an answer, stored, are the struct that a C caller lends, byte by byte; and they tell the answer whole.
 -- Assumes nothing.
-use mathlib.Core.Path.{_≡_, refl, ap}
+use mathlib.Core.Path.{_≡_, refl, ap, _∙_}
+use mathlib.Core.Bool.{Bool, true, false}
 use mathlib.Core.List.{List, [], _∷_, _++_, flatMap, append-assoc}
 use Prim.Native.Nat.{ℕ, suc, _+_, _*_, _/_, _%_, _<_}
 use native.Mathlib.Omega.{arith}
 use lib.IntN.{ℤ, pos, negsuc}
 use lib.Signed.{mag}
 use lib.ListN.{length}
-use Rattle.answers.specs.Answer.{twos}
+use Rattle.dates.specs.declared.OptionMonth.{OptionMonth}
+use Rattle.dates.specs.declared.OptionMonth.the-variants.{NoMonth, SomeMonth}
+use Rattle.dates.specs.declared.OptionDay.{OptionDay}
+use Rattle.dates.specs.declared.OptionDay.the-variants.{NoDay, SomeDay}
+use Rattle.dates.specs.declared.TimeOffset.the-variants.{Utc, Offset}
+use Rattle.dates.specs.declared.OptionOffset.{OptionOffset}
+use Rattle.dates.specs.declared.OptionOffset.the-variants.{NoOffset, SomeOffset}
+use Rattle.dates.specs.declared.OptionTime.{OptionTime}
+use Rattle.dates.specs.declared.OptionTime.the-variants.{NoTime, SomeTime}
+use Rattle.dates.specs.declared.OptionSeason.{OptionSeason}
+use Rattle.dates.specs.declared.OptionSeason.the-variants.{NoSeason, Spring, Summer, Autumn, Winter}
+use Rattle.dates.specs.declared.Datetime.{Datetime}
+use Rattle.dates.specs.declared.DateValue.{DateValue}
+use Rattle.dates.specs.declared.DateValue.the-variants.{At, After, Before, Between}
+use Rattle.dates.specs.declared.Date.{Date}
+use Rattle.dates.specs.Ends.{EachEnd}
+use Rattle.dates.specs.Value.{seasonNumber}
+use Rattle.refusals.specs.declared.Kind.{Kind}
+use Rattle.refusals.specs.declared.Refusal.{Refusal}
+use Rattle.refusals.specs.declared.ReadDate.{ReadDate}
+use Rattle.refusals.specs.declared.ReadDate.the-variants.{Accepted, Refused}
+use Rattle.refusals.specs.Refusal.{number}
+use Rattle.codes.specs.Words.{twos, flag, hasMonth, hasDay, hasTime, offsetSort, clockOf, shapeOf, fourBytes, lastWord, wordsOf}
+use Rattle.codes.specs.Typed.{Bytes, DatetimeTyped, Typed}
+use Rattle.codes.proofs.Laws.{number-in}
 use Rattle.knobstream.specs.declared.PlainDatetime.{PlainDatetime}
 use Rattle.knobstream.specs.declared.PlainRead.{PlainRead}
-use Rattle.knobstream.specs.Plain.{noDatetime, noDate, fourBytes, dayWord, timeWord, lastWord, words}
-use Rattle.knobstream.specs.Layout.{inBytes, inMemory, datetimeStruct, answerStruct, Bytes, DatetimeFits, Fits, Answered}
+use Rattle.knobstream.specs.Plain.{datetime, noDatetime, noDate, accepted, date, read, dayWord, timeWord, words}
+use Rattle.knobstream.specs.Layout.{inBytes, inMemory, datetimeStruct, answerStruct, DatetimeFits, Fits, listed, Answered}
 
 -- what is added above the lowest byte of a number leaves that byte as it is
 above : (n y v : ℕ) → inBytes (suc n) (y + 256 * v) ≡ y % 256 ∷ inBytes n (y / 256 + v)
@@ -90,14 +115,81 @@ none-fits : DatetimeFits noDatetime
 none-fits = omega arith
 
 -- a refusal has no Date
-pub refused-fits : (a b n : ℕ) → a < 18446744073709551616 → b < 18446744073709551616 → n < 256
+refused-fits : (a b n : ℕ) → a < 18446744073709551616 → b < 18446744073709551616 → n < 256
     → Fits (record { start = a; end = b; date = noDate; refusal = n })
 refused-fits a b n ha hb hn =
     record { start-fits = ha; end-fits = hb; first-fits = none-fits; second-fits = none-fits; bytes-fit = omega arith }
 
 -- what was stored, if it is the words of an answer whose numbers are of their types
-pub answered : (r : PlainRead) {ws : List ℕ} → Fits r → ws ≡ words r → Answered ws r
+answered : (r : PlainRead) {ws : List ℕ} → Fits r → ws ≡ words r → Answered ws r
 answered r h e = record { in-words = e; fits = h; in-bytes = rw e (laid-out r h) }
+
+-- the numbers that say whether a part is there
+month-there : (m : OptionMonth) → hasMonth m < 256
+month-there NoMonth = omega arith
+month-there (SomeMonth m) = omega arith
+
+day-there : (d : OptionDay) → hasDay d < 256
+day-there NoDay = omega arith
+day-there (SomeDay d) = omega arith
+
+time-there : (t : OptionTime) → hasTime t < 256
+time-there NoTime = omega arith
+time-there (SomeTime t) = omega arith
+
+sort-fits : (o : OptionOffset) → offsetSort o < 256
+sort-fits NoOffset = omega arith
+sort-fits (SomeOffset Utc) = omega arith
+sort-fits (SomeOffset (Offset true hours minutes)) = omega arith
+sort-fits (SomeOffset (Offset false hours minutes)) = omega arith
+
+season-fits : (s : OptionSeason) → seasonNumber s < 256
+season-fits NoSeason = omega arith
+season-fits Spring = omega arith
+season-fits Summer = omega arith
+season-fits Autumn = omega arith
+season-fits Winter = omega arith
+
+flag-fits : (b : Bool) → flag b < 256
+flag-fits true = omega arith
+flag-fits false = omega arith
+
+-- a Datetime whose numbers are of their types, as a struct
+datetime-fits : (d : Datetime) → DatetimeTyped d → DatetimeFits (datetime d)
+datetime-fits d h =
+    let (m, (n, (hour, (minute, (second, (hours, (minutes, _))))))) = h .bytes-typed in
+    record {
+      year-fits = h .year-typed;
+      bytes-fit = (
+        month-there (d .month),
+        (m, (day-there (d .day), (n, (time-there (d .time), (hour, (minute, (second, (sort-fits (clockOf (d .time) .offset), (hours, (minutes, (season-fits (d .season), tt))))))))))),
+      );
+    }
+
+-- an answer of two structs
+both-fit : {n : ℕ} (u p : Bool) {a b : PlainDatetime} → n < 256 → DatetimeFits a → DatetimeFits b
+    → Fits (accepted (record { shape = n; uncertain = flag u; approximate = flag p; first = a; second = b }))
+both-fit u p h f g =
+    record { start-fits = omega arith; end-fits = omega arith; first-fits = f; second-fits = g; bytes-fit = (h, (flag-fits u, (flag-fits p, (omega arith, tt)))) }
+
+accepted-fits : (d : Date) (v : DateValue) → d .value ≡ v → EachEnd DatetimeTyped v → Fits (accepted (date d))
+accepted-fits d (At a) e t = rw e (both-fit (d .uncertain) (d .approximate) (omega arith) (datetime-fits a t) none-fits)
+accepted-fits d (After a) e t = rw e (both-fit (d .uncertain) (d .approximate) (omega arith) (datetime-fits a t) none-fits)
+accepted-fits d (Before a) e t = rw e (both-fit (d .uncertain) (d .approximate) (omega arith) (datetime-fits a t) none-fits)
+accepted-fits d (Between a b) e t = rw e (both-fit (d .uncertain) (d .approximate) (omega arith) (datetime-fits a (t .0)) (datetime-fits b (t .1)))
+
+accepted-words : (d : Date) (v : DateValue) → d .value ≡ v → listed (wordsOf (Accepted d)) ≡ words (accepted (date d))
+unfolding twos
+accepted-words d (At a) e = rw e
+accepted-words d (After a) e = rw e
+accepted-words d (Before a) e = rw e
+accepted-words d (Between a b) e = rw e
+
+-- what a reader answers, in its words
+pub read-answered : (r : ReadDate) → Typed r → {ws : List ℕ} → ws ≡ listed (wordsOf r) → Answered ws (read r)
+unfolding twos
+read-answered (Accepted d) t e = answered (accepted (date d)) (accepted-fits d (d .value) refl t) (e ∙ accepted-words d (d .value) refl)
+read-answered (Refused q) t e = answered _ (refused-fits (q .place .0) (q .place .1) (number (q .kind)) (t .0) (t .1) (number-in (q .kind) .1)) e
 
 -- the struct has 56 bytes
 pub size : (r : PlainRead) → length (answerStruct r) ≡ 56

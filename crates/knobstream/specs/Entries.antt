@@ -6,7 +6,7 @@ use Rattle.chronology.specs.declared.Reply.{Reply}
 use Rattle.chronology.specs.declared.Reply.the-variants.{Told, Untold}
 use Rattle.knobstream.specs.declared.entries.PlainEntries.{PlainEntries}
 use Rattle.knobstream.specs.declared.entries.PlainReply.{PlainReply}
-use Rattle.knobstream.specs.Plain.{flag}
+use Rattle.codes.specs.Words.{flag}
 
 -- what a call answers: how many entries with refusal 0, or 0 with the refusal's number
 abbrev pub counted : Answer → PlainEntries

@@ -3,7 +3,9 @@ use Prim.Native.Nat.{ℕ, zero, suc, _/_, _%_, _<_}
 use mathlib.Core.Path.{_≡_}
 use mathlib.Core.List.{List, [], _∷_, _++_, flatMap}
 use lib.Signed.{mag}
-use Rattle.answers.specs.Answer.{twos}
+use Rattle.codes.specs.Words.{twos}
+use Rattle.codes.specs.Typed.{Bytes}
+use Rattle.codes.specs.declared.Words.{Words}
 use Rattle.knobstream.specs.declared.PlainDatetime.{PlainDatetime}
 use Rattle.knobstream.specs.declared.PlainDate.{PlainDate}
 use Rattle.knobstream.specs.declared.PlainRead.{PlainRead}
@@ -36,11 +38,6 @@ dateStruct d = datetimeStruct (d .first) ++ (datetimeStruct (d .second) ++ (d .s
 abbrev pub answerStruct : PlainRead → List ℕ
 answerStruct r = inBytes 8 (r .start) ++ (inBytes 8 (r .end) ++ (dateStruct (r .date) ++ (r .refusal ∷ 0 ∷ 0 ∷ 0 ∷ [])))
 
--- numbers that are bytes
-abbrev pub Bytes : List ℕ → Type 0
-Bytes [] = Unit {0}
-Bytes (n ∷ l) = (n < 256) × Bytes l
-
 -- the numbers of a Datetime are of their types
 pub record DatetimeFits (p : PlainDatetime) : Type 0 where
   -- an int32_t: from -2147483648 to 2147483647
@@ -60,6 +57,10 @@ pub record Fits (r : PlainRead) : Type 0 where
   pub second-fits : DatetimeFits (r .date .second)
   -- a uint8_t each
   pub bytes-fit : Bytes (r .date .shape ∷ r .date .uncertain ∷ r .date .approximate ∷ r .refusal ∷ [])
+
+-- the words of a reader's answer, as they are stored
+abbrev pub listed : Words → List ℕ
+listed w = w .start ∷ w .end ∷ w .first ∷ w .«first_time» ∷ w .second ∷ w .«second_time» ∷ w .last ∷ []
 
 -- what the words that a caller lends say after a call
 pub record Answered (ws : List ℕ) (r : PlainRead) : Type 0 where

@@ -1,6 +1,5 @@
 // The calls for C and Rust, over numbers, lent slices and plain structs. None has a `requires`: every number and every slice is taken, the
 // empty slice with a null pointer too.
-// A struct is returned arm by arm where its parts would else meet again in registers, and a usual text becomes one at once.
 ghost use mathlib.Core.Path.{_≡_};
 ghost use mathlib.Core.Bool.{false};
 ghost use Prim.Native.Nat.{_<_};
@@ -15,9 +14,12 @@ ghost use Rattle.writer.specs.Level.{levelPanics, levelText};
 ghost use Rattle.puts.specs.Answers.{measured, answer, afterwards};
 ghost use Rattle.writer.specs.Answers.{dateMeasured, dateAnswer, dateAfterwards};
 ghost use Rattle.frames.specs.Frame.{lineAnswer};
+ghost use Rattle.codes.specs.Words as words;
 ghost use Rattle.knobstream.specs.Plain as plain;
+ghost use Rattle.knobstream.specs.Layout as layout;
 ghost use Rattle.knobstream.specs.Layout.{Answered};
 ghost use Rattle.knobstream.specs.Back as back;
+use codes::Words;
 use dates::Date;
 use dates::DateValue;
 use dates::Datetime;
@@ -34,8 +36,6 @@ use order::Compared;
 use order::Order;
 use puts::Measured;
 use puts::Written;
-use quick::UsualText;
-use refusals::ReadDate;
 
 // The calls on a chronology.
 mod entries;
@@ -97,207 +97,9 @@ pub struct PlainWritten {
 // ---- from values to plain numbers
 
 fn flag(b: bool) -> u8
-    ensures { λ r. ⌜ r ≡ plain.flag b ⌝ }
+    ensures { λ r. ⌜ r ≡ words.flag b ⌝ }
 {
     if b { 1 } else { 0 }
-}
-
-fn has_month(m: OptionMonth) -> u8
-    ensures { λ r. ⌜ r ≡ plain.hasMonth m ⌝ }
-{
-    match m {
-        OptionMonth::NoMonth => 0,
-        OptionMonth::SomeMonth(_) => 1,
-    }
-}
-
-fn month_number(m: OptionMonth) -> u8
-    ensures { λ r. ⌜ r ≡ plain.monthNumber m ⌝ }
-{
-    match m {
-        OptionMonth::NoMonth => 0,
-        OptionMonth::SomeMonth(x) => x.0,
-    }
-}
-
-fn has_day(d: OptionDay) -> u8
-    ensures { λ r. ⌜ r ≡ plain.hasDay d ⌝ }
-{
-    match d {
-        OptionDay::NoDay => 0,
-        OptionDay::SomeDay(_) => 1,
-    }
-}
-
-fn day_number(d: OptionDay) -> u8
-    ensures { λ r. ⌜ r ≡ plain.dayNumber d ⌝ }
-{
-    match d {
-        OptionDay::NoDay => 0,
-        OptionDay::SomeDay(x) => x.0,
-    }
-}
-
-fn sort_of(o: TimeOffset) -> u8
-    ensures { λ r. ⌜ r ≡ plain.sortOf o ⌝ }
-{
-    match o {
-        TimeOffset::Utc => 1,
-        TimeOffset::Offset {
-            positive,
-            hours: _,
-            minutes: _,
-        } => if positive { 2 } else { 3 },
-    }
-}
-
-fn offset_sort(o: OptionOffset) -> u8
-    ensures { λ r. ⌜ r ≡ plain.offsetSort o ⌝ }
-{
-    match o {
-        OptionOffset::NoOffset => 0,
-        OptionOffset::SomeOffset(x) => sort_of(x),
-    }
-}
-
-// The offset, or UTC where there is none.
-fn shift_of(o: OptionOffset) -> TimeOffset
-    ensures { λ r. ⌜ r ≡ plain.shiftOf o ⌝ }
-{
-    match o {
-        OptionOffset::NoOffset => TimeOffset::Utc,
-        OptionOffset::SomeOffset(x) => x,
-    }
-}
-
-fn hours_of(o: TimeOffset) -> u8
-    ensures { λ r. ⌜ r ≡ plain.hoursOf o ⌝ }
-{
-    match o {
-        TimeOffset::Utc => 0,
-        TimeOffset::Offset {
-            positive: _,
-            hours,
-            minutes: _,
-        } => hours,
-    }
-}
-
-fn minutes_of(o: TimeOffset) -> u8
-    ensures { λ r. ⌜ r ≡ plain.minutesOf o ⌝ }
-{
-    match o {
-        TimeOffset::Utc => 0,
-        TimeOffset::Offset {
-            positive: _,
-            hours: _,
-            minutes,
-        } => minutes,
-    }
-}
-
-fn plain_datetime(d: Datetime) -> PlainDatetime
-    ensures { λ r. ⌜ r ≡ plain.datetime d ⌝ }
-{
-    let month = d.month;
-    let day = d.day;
-    let time = d.time;
-    let season = d.season;
-    let number = dates::season_number(season);
-    match time {
-        OptionTime::NoTime => {
-            return PlainDatetime {
-                year: d.year,
-                has_month: has_month(month),
-                month: month_number(month),
-                has_day: has_day(day),
-                day: day_number(day),
-                has_time: 0,
-                hour: 0,
-                minute: 0,
-                second: 0,
-                offset: 0,
-                offset_hours: 0,
-                offset_minutes: 0,
-                season: number,
-            };
-        }
-        OptionTime::SomeTime(t) => {
-            let offset = t.offset;
-            let o = shift_of(offset);
-            return PlainDatetime {
-                year: d.year,
-                has_month: has_month(month),
-                month: month_number(month),
-                has_day: has_day(day),
-                day: day_number(day),
-                has_time: 1,
-                hour: t.hour,
-                minute: t.minute,
-                second: t.second,
-                offset: offset_sort(offset),
-                offset_hours: hours_of(o),
-                offset_minutes: minutes_of(o),
-                season: number,
-            };
-        }
-    }
-}
-
-fn no_datetime() -> PlainDatetime
-    ensures { λ r. ⌜ r ≡ plain.noDatetime ⌝ }
-{
-    PlainDatetime {
-        year: 0,
-        has_month: 0,
-        month: 0,
-        has_day: 0,
-        day: 0,
-        has_time: 0,
-        hour: 0,
-        minute: 0,
-        second: 0,
-        offset: 0,
-        offset_hours: 0,
-        offset_minutes: 0,
-        season: 0,
-    }
-}
-
-// What a reader answers that read a Date with one Datetime.
-fn read_one(shape: u8, a: Datetime, uncertain: bool, approximate: bool) -> PlainRead
-    ensures { λ r. ⌜ r ≡ plain.accepted (plain.dateWith shape (plain.datetime a) plain.noDatetime uncertain approximate) ⌝ }
-{
-    PlainRead {
-        start: 0,
-        end: 0,
-        date: PlainDate {
-            shape,
-            uncertain: flag(uncertain),
-            approximate: flag(approximate),
-            first: plain_datetime(a),
-            second: no_datetime(),
-        },
-        refusal: 0,
-    }
-}
-
-// The same with two.
-fn read_two(a: Datetime, b: Datetime, uncertain: bool, approximate: bool) -> PlainRead
-    ensures { λ r. ⌜ r ≡ plain.accepted (plain.dateWith 3 (plain.datetime a) (plain.datetime b) uncertain approximate) ⌝ }
-{
-    PlainRead {
-        start: 0,
-        end: 0,
-        date: PlainDate {
-            shape: 3,
-            uncertain: flag(uncertain),
-            approximate: flag(approximate),
-            first: plain_datetime(a),
-            second: plain_datetime(b),
-        },
-        refusal: 0,
-    }
 }
 
 fn plain_written(w: Written) -> PlainWritten
@@ -359,78 +161,21 @@ fn plain_compared(c: Compared) -> i32
     }
 }
 
-// ---- from plain numbers to words: the first byte of a word is its lowest
-
-fn four_bytes(a: u8, b: u8, c: u8, d: u8) -> u64
-    ensures { λ r. ⌜ (r ≡ plain.fourBytes a b c d) × (r < 4294967296) ⌝ }
-{
-    a as u64 + 256 * (b as u64) + 65536 * (c as u64) + 16777216 * (d as u64)
-}
-
-fn day_word(p: PlainDatetime) -> u64
-    ensures { λ r. ⌜ r ≡ plain.dayWord p ⌝ }
-{
-    answers::twos(p.year) as u64 + 4294967296 * four_bytes(p.has_month, p.month, p.has_day, p.day)
-}
-
-fn time_word(p: PlainDatetime) -> u64
-    ensures { λ r. ⌜ r ≡ plain.timeWord p ⌝ }
-{
-    four_bytes(p.has_time, p.hour, p.minute, p.second)
-        + 4294967296 * four_bytes(p.offset, p.offset_hours, p.offset_minutes, p.season)
-}
-
-fn last_word(shape: u8, uncertain: u8, approximate: u8, refusal: u8) -> u64
-    ensures { λ r. ⌜ r ≡ plain.lastWord shape uncertain approximate refusal ⌝ }
-{
-    four_bytes(shape, uncertain, approximate, 0) + 4294967296 * four_bytes(refusal, 0, 0, 0)
-}
+// ---- from words to what a caller lends
 
 // Stores an answer into the words that a caller lends.
-fn put(r: PlainRead, words: &mut [u64; 7])
-    ensures { λ _. ⌜ Answered (now (words .exit)) r ⌝ }
+fn put(w: Words, answer: &mut [u64; 7])
+    ensures { λ _. ⌜ now (answer .exit) ≡ layout.listed w ⌝ }
 {
-    let date = r.date;
-    let first = date.first;
-    let second = date.second;
-    let a = day_word(first);
-    let b = time_word(first);
-    let c = day_word(second);
-    let d = time_word(second);
-    let last = last_word(date.shape, date.uncertain, date.approximate, r.refusal);
-    *words = [r.start, r.end, a, b, c, d, last];
-}
-
-// Stores what a reader answers.
-fn put_read(r: ReadDate, words: &mut [u64; 7])
-    ensures { λ _. ⌜ Answered (now (words .exit)) (plain.read r) ⌝ }
-{
-    match r {
-        ReadDate::Accepted(d) => {
-            let v = d.value;
-            match v {
-                DateValue::At(a) => {
-                    put(read_one(0, a, d.uncertain, d.approximate), words);
-                }
-                DateValue::After(a) => {
-                    put(read_one(1, a, d.uncertain, d.approximate), words);
-                }
-                DateValue::Before(a) => {
-                    put(read_one(2, a, d.uncertain, d.approximate), words);
-                }
-                DateValue::Between(a, b) => {
-                    put(read_two(a, b, d.uncertain, d.approximate), words);
-                }
-            }
-        }
-        ReadDate::Refused(e) => {
-            let kind = e.kind;
-            let start = e.place.0;
-            let end = e.place.1;
-            let last = last_word(0, 0, 0, refusals::number(kind));
-            *words = [start, end, 0, 0, 0, 0, last];
-        }
-    }
+    *answer = [
+        w.start,
+        w.end,
+        w.first,
+        w.first_time,
+        w.second,
+        w.second_time,
+        w.last,
+    ];
 }
 
 // ---- from plain numbers to values: each number has a meaning
@@ -585,21 +330,7 @@ pub extern "C" fn knobstream_version() -> u32
 pub extern "C" fn knobstream_parse(bytes: &[u8], table: &[u64], answer: &mut [u64; 7])
     ensures { λ _. ⌜ Answered (now (answer .exit)) (plain.read (parsed (now (bytes .entry)) (now (table .entry)))) ⌝ }
 {
-    if reader::is_one_normal(bytes, table) {
-        match quick::text(bytes) {
-            UsualText::One(d) => {
-                put(read_one(0, d, false, false), answer);
-            }
-            UsualText::Two(a, b) => {
-                put(read_two(a, b, false, false), answer);
-            }
-            UsualText::Other => {
-                put_read(reader::parse_unusual(bytes, table), answer);
-            }
-        }
-        return;
-    }
-    put_read(reader::parse_unusual(bytes, table), answer);
+    put(reader::parse_words(bytes, table), answer);
 }
 
 // A date field, read by the strict grammar alone.
@@ -607,21 +338,7 @@ pub extern "C" fn knobstream_parse(bytes: &[u8], table: &[u64], answer: &mut [u6
 pub extern "C" fn knobstream_parse_strict(bytes: &[u8], table: &[u64], answer: &mut [u64; 7])
     ensures { λ _. ⌜ Answered (now (answer .exit)) (plain.read (parsedStrict (now (bytes .entry)) (now (table .entry)))) ⌝ }
 {
-    if reader::is_one_normal(bytes, table) {
-        match quick::text(bytes) {
-            UsualText::One(d) => {
-                put(read_one(0, d, false, false), answer);
-            }
-            UsualText::Two(a, b) => {
-                put(read_two(a, b, false, false), answer);
-            }
-            UsualText::Other => {
-                put_read(reader::parse_strict_unusual(bytes, table), answer);
-            }
-        }
-        return;
-    }
-    put_read(reader::parse_strict_unusual(bytes, table), answer);
+    put(reader::parse_strict_words(bytes, table), answer);
 }
 
 // A date field, read by the grammar of level one: strict texts, seasons and long years.
@@ -629,7 +346,7 @@ pub extern "C" fn knobstream_parse_strict(bytes: &[u8], table: &[u64], answer: &
 pub extern "C" fn knobstream_parse_level_one(bytes: &[u8], table: &[u64], answer: &mut [u64; 7])
     ensures { λ _. ⌜ Answered (now (answer .exit)) (plain.read (parsedLevelOne (now (bytes .entry)) (now (table .entry)))) ⌝ }
 {
-    put_read(reader::parse_level_one(bytes, table), answer);
+    put(reader::level_words(bytes, table), answer);
 }
 
 // The fields year, month and day; a list is absent if the number before it is 0, and then is not looked at.
@@ -647,7 +364,7 @@ pub extern "C" fn knobstream_parse_three_fields(
 )
     ensures { λ _. ⌜ Answered (now (answer .exit)) (plain.read (threeFields (three (lent (now (year .entry)) (now («year_table» .entry))) (optional (back.isSet «has_month») (now (month .entry)) (now («month_table» .entry))) (optional (back.isSet «has_day») (now (day .entry)) (now («day_table» .entry)))))) ⌝ }
 {
-    let read = reader::parse_three_fields(
+    let words = reader::three_words(
         year,
         year_table,
         is_set(has_month),
@@ -657,7 +374,7 @@ pub extern "C" fn knobstream_parse_three_fields(
         day,
         day_table,
     );
-    put_read(read, answer);
+    put(words, answer);
 }
 
 // How long the text of a Date is, for whoever must reserve room before it is written; it refuses what the writer refuses, apart from NoRoom. The

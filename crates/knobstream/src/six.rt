@@ -48,5 +48,5 @@ pub extern "C" fn knobstream_parse_six_fields(
         end_day,
         end_day_table,
     );
-    crate::put_read(read, answer);
+    crate::put(codes::pack(read), answer);
 }

@@ -7,7 +7,7 @@ use borrow.Author.Tests.{eqb-true, eqb-false}
 use lib.Dec.{eqb}
 use Rattle.chars.specs.Pick.{pick}
 use Rattle.chars.proofs.Cases.{of-test}
-use Rattle.lines.specs.Lines.{linesFrom, restFrom, lineLength, NoFeed, FeedFree, AllFree, joined}
+use Rattle.lines.specs.Lines.{linesFrom, restFrom, lineLength, NoFeed, FeedFree, AllFree, withFeeds}
 
 free-then : (k : List ℕ) (x : ℕ) → FeedFree k → (x ≡ 10 → ⊥) → FeedFree (k ++ (x ∷ []))
 free-then [] x h n = (n, tt)
@@ -32,7 +32,7 @@ rest-free k (x ∷ s) h =
     (λ q. rw q (rest-free (k ++ (x ∷ [])) s (free-then k x h (eqb-false x 10 q))))
 
 -- and the lines, each with its line feed, and the rest are the stream
-pub lines-joined : (k s : List ℕ) → joined (linesFrom k s) (restFrom k s) ≡ k ++ s
+pub lines-joined : (k s : List ℕ) → withFeeds (linesFrom k s) (restFrom k s) ≡ k ++ s
 unfolding linesFrom restFrom pick
 lines-joined k [] = sym (append-nil k)
 lines-joined k (x ∷ s) =

@@ -51,6 +51,6 @@ AllFree [] = Unit {0}
 AllFree (l ∷ ls) = FeedFree l × AllFree ls
 
 -- the lines, each with its line feed, and what stands behind the last
-abbrev pub joined : List (List ℕ) → List ℕ → List ℕ
-joined [] rest = rest
-joined (l ∷ ls) rest = l ++ (10 ∷ joined ls rest)
+abbrev pub withFeeds : List (List ℕ) → List ℕ → List ℕ
+withFeeds [] rest = rest
+withFeeds (l ∷ ls) rest = l ++ (10 ∷ withFeeds ls rest)

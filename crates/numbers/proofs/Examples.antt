@@ -8,7 +8,7 @@ use Rattle.chars.specs.Ascii.{ascii, digitOf}
 use Rattle.chars.specs.Pick.{pick}
 use Rattle.chars.specs.Signs.{signed}
 use Rattle.chars.specs.Classes.{within, isWhitespace, isAsciiDigit, isNumeric}
-use Rattle.chars.specs.Utf8.{lenOf, isCont, isSurrogate, two, three, decode, first, decodeAt}
+use Rattle.chars.specs.Utf8.{lenOf, isCont, isSurrogate, decode2, decode3, decode, first, decodeAt}
 use Rattle.scanner.specs.Class.{inClass}
 use Rattle.scanner.specs.Scan.{lenIn, matchLen, walk, eatWhile, eatIf, standsAt, part}
 use Rattle.numbers.specs.declared.Digits.{Digits}
@@ -55,7 +55,7 @@ runs =
     ∷ []
 
 pub run-examples : map (λ (e : RunExample). parseUnsignedInt (e .text) (e .at) (e .digits)) runs ≡ map (λ (e : RunExample). e .says) runs
-unfolding parseUnsignedInt runAt runOf runValue admits digitsFrom wholeValue digitOf part eatWhile walk matchLen lenIn decodeAt first decode lenOf isCont two inClass within isWhitespace isAsciiDigit isNumeric pick
+unfolding parseUnsignedInt runAt runOf runValue admits digitsFrom wholeValue digitOf part eatWhile walk matchLen lenIn decodeAt first decode lenOf isCont decode2 inClass within isWhitespace isAsciiDigit isNumeric pick
 run-examples = refl
 
 -- the same with a sign
@@ -84,7 +84,7 @@ ints =
     ∷ []
 
 pub int-examples : map (λ (e : IntExample). parseInt (e .text) (e .at) (e .digits)) ints ≡ map (λ (e : IntExample). e .says) ints
-unfolding parseInt intAt withSign signed behindSign orKept eatIf standsAt parseUnsignedInt runAt runOf runValue admits digitsFrom wholeValue digitOf part eatWhile walk matchLen lenIn decodeAt first decode lenOf isCont two inClass within isWhitespace isAsciiDigit isNumeric pick
+unfolding parseInt intAt withSign signed behindSign orKept eatIf standsAt parseUnsignedInt runAt runOf runValue admits digitsFrom wholeValue digitOf part eatWhile walk matchLen lenIn decodeAt first decode lenOf isCont decode2 inClass within isWhitespace isAsciiDigit isNumeric pick
 int-examples = refl
 
 -- a whole text, the largest number, and what is read
@@ -142,9 +142,9 @@ trims =
     ∷ []
 
 pub end-examples : map (λ (e : TrimExample). trimEnd (e .text)) trims ≡ map (λ (e : TrimExample). e .end) trims
-unfolding trimEnd trimFrom trimStep stepOver stepBy eatWhile walk matchLen lenIn decodeAt first decode lenOf isCont isSurrogate two three inClass within isWhitespace pick
+unfolding trimEnd trimFrom trimStep stepOver stepBy eatWhile walk matchLen lenIn decodeAt first decode lenOf isCont isSurrogate decode2 decode3 inClass within isWhitespace pick
 end-examples = refl
 
 pub trim-examples : map (λ (e : TrimExample). trim (e .text)) trims ≡ map (λ (e : TrimExample). e .left) trims
-unfolding trim part trimEnd trimFrom trimStep stepOver stepBy eatWhile walk matchLen lenIn decodeAt first decode lenOf isCont isSurrogate two three inClass within isWhitespace pick
+unfolding trim part trimEnd trimFrom trimStep stepOver stepBy eatWhile walk matchLen lenIn decodeAt first decode lenOf isCont isSurrogate decode2 decode3 inClass within isWhitespace pick
 trim-examples = refl

@@ -1,23 +1,25 @@
 -- What callers use of the trimming.
 -- Assumes nothing.
 use mathlib.Core.Path.{_≡_, refl, sym, ap, subst, _∙_}
-use mathlib.Core.Bool.{false}
+use mathlib.Core.Bool.{true, false}
 use mathlib.Core.List.{List, [], _∷_}
-use Prim.Native.Nat.{ℕ, _+_, _-_, _≤_, _<_}
+use Prim.Native.Nat.{ℕ, zero, suc, _+_, _-_, _≤_, _<_}
 use native.Mathlib.Nat.{add-zero, le-refl, lt-irrefl}
 use native.Mathlib.Omega.{arith}
-use lib.ListN.{length, take, drop, length-drop}
+use borrow.Author.Tests.{lt-ltb, le-ltb, le-leb}
+use lib.ListN.{length, getD, take, drop, length-drop}
 use Rattle.chars.specs.Pick.{pick}
-use Rattle.chars.specs.Utf8.{decodeAt}
+use Rattle.chars.specs.Utf8.{lenOf, isCont, code2, decode2, decode, decodeAt}
 use Rattle.chars.specs.declared.Decoded.{Decoded}
 use Rattle.chars.specs.declared.Decoded.the-variants.{Char, Bad, End}
 use Rattle.chars.proofs.Cases.{of-test}
-use Rattle.chars.proofs.Laws.{Sound, char, bad, end, sound, found, first-end, past-end}
+use Rattle.chars.proofs.Laws.{Sound, char, bad, end, sound, found, first-end, past-end, ascii, inside-is, cont}
 use Rattle.scanner.specs.declared.Class.the-variants.{Whitespace}
 use Rattle.scanner.specs.Class.{inClass}
 use Rattle.scanner.specs.Scan.{lenIn, matchLen, eatWhile, part}
 use Rattle.scanner.proofs.Walk.{walk-stop, walk-go, walk-kept, walk-ended, walk-inside}
-use Rattle.scanner.proofs.Laws.{at-least, stopped, all-eaten}
+use Rattle.scanner.proofs.Laws.{at-least, stopped, stop, all-eaten, go-ascii, stop-ascii}
+use Rattle.scanner.proofs.Blanks.{match-two}
 use Rattle.scanner.proofs.Front.{From, from-start, front-rest, front-stop, front-char, front-end, front-past}
 use Rattle.numbers.specs.Trim.{stepBy, stepOver, trimStep, trimFrom, trimEnd, trim, Over, past, ill, Solid, Ended, empty, both, Trimmed}
 
@@ -41,6 +43,58 @@ trim-stop s at h = walk-stop (trimStep s) (length s) (step-fits s) (length s) at
 pub trim-go : (s : List ℕ) (at : ℕ) → 0 < trimStep s at → trimFrom s at ≡ trimFrom s (at + trimStep s at)
 unfolding trimFrom
 trim-go s at h = walk-go (trimStep s) (length s) (step-fits s) at h
+
+-- an ASCII character: a step of its own, or white space before one
+on-white : (i a : ℕ) (d : Decoded) → i + 1 ≤ a → 0 < stepBy (i + 1) a d → i + stepBy i a d ≡ i + 1 + stepBy (i + 1) a d
+unfolding stepBy
+on-white i a (Char code len) h l = omega arith
+on-white i a Bad h l = absurd (lt-irrefl 0 l)
+on-white i a End h l = absurd (lt-irrefl 0 l)
+
+module _ (s : List ℕ) (at : ℕ) (h : at < length s) (l : getD s at 0 < 128) where
+  solid-step : inClass Whitespace (getD s at 0) ≡ false → trimStep s at ≡ 1
+  unfolding trimStep stepOver stepBy
+  solid-step w = rw (stop-ascii Whitespace s at h l w, ascii s at h l) (omega arith)
+
+  white-step : inClass Whitespace (getD s at 0) ≡ true → 0 < trimStep s (at + 1) → at + trimStep s at ≡ at + 1 + trimStep s (at + 1)
+  unfolding trimStep stepOver
+  white-step w p =
+      rw (go-ascii Whitespace s at h l w)
+      (on-white at (eatWhile Whitespace s (at + 1)) (decodeAt s (eatWhile Whitespace s (at + 1))) (at-least Whitespace s (at + 1)) p)
+
+-- a character of two bytes from U+00C0 on
+pub pair-step : (s : List ℕ) (i : ℕ) → i < length s → 0xC3 ≤ getD s i 0 → getD s i 0 < 0xE0 → isCont (getD s (i + 1) 0) ≡ true → trimStep s i ≡ 2
+unfolding trimStep stepOver stepBy decode lenOf decode2 pick
+pair-step s i h l m k =
+    let d = cont (getD s (i + 1) 0) k in
+    rw (
+      stop Whitespace s i (match-two s i l m),
+      inside-is s i h,
+      le-ltb (getD s i 0) 0x80 (omega arith),
+      le-ltb (getD s i 0) 0xC0 (omega arith),
+      lt-ltb (getD s i 0) 0xE0 m,
+      k,
+      le-leb 0x80 (code2 (getD s i 0) (getD s (i + 1) 0)) (omega (arith, d .low, d .high)),
+    )
+    (omega arith)
+
+one-on : (i j : ℕ) → i + 1 + j ≡ i + suc j
+one-on i j = omega arith
+
+-- over ASCII characters to one that is no white space: there is a step, and the walk comes to the place behind them
+pub over-ascii : (n : ℕ) (s : List ℕ) (at : ℕ) → at + n < length s → ((j : ℕ) → j ≤ n → getD s (at + j) 0 < 128) → inClass Whitespace (getD s (at + n) 0) ≡ false → (0 < trimStep s at) × (trimFrom s at ≡ trimFrom s (at + (n + 1)))
+over-ascii zero s at h low w =
+    let e = solid-step s at (omega arith) (rw (add-zero at) at (low 0 (omega arith))) (rw (add-zero at) at w) in
+    (omega arith, trim-go s at (omega arith) ∙ ap (λ (k : ℕ). trimFrom s (at + k)) e)
+over-ascii (suc n) s at h low w =
+    let here : getD s at 0 < 128 = rw (add-zero at) at (low 0 (omega arith)) in
+    let rest = over-ascii n s (at + 1) (omega arith) (λ j l. rw (one-on at j) (low (suc j) (omega arith))) (rw (one-on at n) w) in
+    let far : trimFrom s (at + 1) ≡ trimFrom s (at + (suc n + 1)) = rest .1 ∙ ap (trimFrom s) (omega arith) in
+    of-test (inClass Whitespace (getD s at 0))
+    (λ t.
+    let e = white-step s at (omega arith) here t (rest .0) in
+    (omega (arith, rest .0), trim-go s at (omega (arith, rest .0)) ∙ ap (trimFrom s) e ∙ sym (trim-go s (at + 1) (rest .0)) ∙ far))
+    (λ t. let e = solid-step s at (omega arith) here t in (omega arith, trim-go s at (omega arith) ∙ ap (λ (k : ℕ). trimFrom s (at + k)) e ∙ far))
 
 -- ASCII characters, none of them white space
 abbrev pub Plain : List ℕ → Type 0

@@ -1,9 +1,12 @@
 // Numbers of a text: a run of numeric characters, with white space and a sign before it as the ported code takes them.
 ghost use mathlib.Core.Path.{_≡_};
-ghost use Prim.Native.Nat.{_<_, _-_};
+ghost use mathlib.Core.Bool.{true};
+ghost use Prim.Native.Nat.{_+_, _<_, _≤_, _-_};
+ghost use lib.ListN.{length};
 ghost use Rattle.numbers.specs.Number as spec;
 ghost use Rattle.chars.specs.Signs.{signed};
 ghost use Rattle.numbers.specs.Trim as trims;
+ghost use Rattle.numbers.specs.Steps.{Steps};
 ghost use Rattle.numbers.specs.Parse as whole;
 use chars::Decoded;
 use chars::digit;
@@ -124,11 +127,95 @@ fn trim_step(s: &[u8], i: usize) -> usize
     }
 }
 
+// Whether sixteen bytes are ASCII and the last of them prints: then it goes on behind them. No byte decides where the loop goes on: the
+// compiler takes them all at once.
+fn is_stride(s: &[u8], at: usize) -> bool
+    requires { ⌜ at + 16 ≤ length (now s) ⌝ }
+    ensures { λ r. ⌜ (r ≡ true → trims.trimFrom (now (s .entry)) (at + 16) ≡ trims.trimFrom (now (s .entry)) at) ⌝ }
+{
+    let mut ok = b' ' < s[at + 15];
+    let mut i = 0;
+    while i < 16 {
+        ok = ok & (s[at + i] < 0x80);
+        i = i + 1;
+    }
+    ok
+}
+
+// Whether a character of two bytes from U+00C0 on stands at a place: it is no white space.
+fn is_pair(s: &[u8], i: usize) -> bool
+    ensures { λ r. ⌜ (r ≡ true → trims.trimStep (now (s .entry)) i ≡ 2) ⌝ }
+{
+    if i < s.len() {
+        let a = s[i];
+        let b = chars::byte_at(s, i + 1);
+        return ((0xC3 <= a) & (a < 0xE0)) & ((0x80 <= b) & (b < 0xC0));
+    }
+    false
+}
+
+// A step, with a look at such a character first.
+fn trim_quick(s: &[u8], i: usize) -> usize
+    ensures { λ r. ⌜ r ≡ trims.trimStep (now (s .entry)) i ⌝ }
+{
+    if is_pair(s, i) {
+        return 2;
+    }
+    trim_step(s, i)
+}
+
+// A place that is reached by steps, and whether no step goes on from it.
+struct Reached {
+    at: usize,
+    over: bool,
+}
+
+// A few steps from a place on.
+fn trim_some(s: &[u8], at: usize) -> Reached
+    requires { ⌜ at ≤ length (now s) ⌝ }
+    ensures { λ r. ⌜ Steps (now (s .entry)) at (r .at) (r .over) ⌝ }
+{
+    let mut i = at;
+    let mut k: usize = 0;
+    while k < 8 {
+        let n = trim_quick(s, i);
+        if n == 0 {
+            return Reached { at: i, over: true };
+        }
+        i = i + n;
+        k = k + 1;
+    }
+    Reached { at: i, over: false }
+}
+
+// On by strides while sixteen bytes are left, and by steps between them.
+fn trim_strides(s: &[u8]) -> Reached
+    ensures { λ r. ⌜ (trims.trimFrom (now (s .entry)) (r .at) ≡ trims.trimEnd (now (s .entry))) × (r .over ≡ true → trims.trimStep (now (s .entry)) (r .at) ≡ 0) ⌝ }
+{
+    let mut i = 0;
+    while 16 <= s.len() - i {
+        if is_stride(s, i) {
+            i = i + 16;
+        } else {
+            let e = trim_some(s, i);
+            if e.over {
+                return e;
+            }
+            i = e.at;
+        }
+    }
+    Reached { at: i, over: false }
+}
+
 // The place behind the last character that is no white space.
 pub fn trim_end(s: &[u8]) -> Cursor
     ensures { λ r. ⌜ r .0 ≡ trims.trimEnd (now (s .entry)) ⌝ }
 {
-    let mut i = 0;
+    let e = trim_strides(s);
+    if e.over {
+        return Cursor(e.at);
+    }
+    let mut i = e.at;
     loop {
         let n = trim_step(s, i);
         if n == 0 {

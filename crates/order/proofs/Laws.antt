@@ -19,12 +19,6 @@ use Rattle.order.specs.Laws.{mirror, Lawful}
 use Rattle.dates.proofs.Less.{lt-trans}
 use Rattle.order.proofs.Numbers.{Cases, less, equal, greater, cases, number-less, number-greater, number-same}
 
-mirror-twice : (o : Order) → mirror (mirror o) ≡ o
-mirror-twice Less = refl
-mirror-twice Equal = refl
-mirror-twice Greater = refl
-mirror-twice None = refl
-
 -- which answer it is, to tell two apart
 abbrev isLess : Order → Bool
 isLess Less = true

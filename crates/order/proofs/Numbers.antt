@@ -1,8 +1,10 @@
 -- The order of two numbers: which of its three answers it gives, and what that says. Assumes nothing.
 use mathlib.Core.Path.{_≡_, refl}
 use mathlib.Core.Bool.{Bool, true, false}
-use lib.IntN.{ℤ}
+use Prim.Native.Nat.{ℕ, _≤_, _<_}
+use lib.IntN.{ℤ, pos}
 use lib.Signed.{ltZ}
+use borrow.Author.Tests.{lt-ltb, le-ltb}
 use Rattle.chars.specs.Pick.{pick}
 use Rattle.dates.proofs.Less.{lt-asym, lt-same, irrefl}
 use Rattle.order.specs.declared.Order.{Order}
@@ -35,3 +37,18 @@ number-greater a b h = rw (lt-asym b a h, h)
 pub number-same : (a : ℤ) → numberOrder a a ≡ Equal
 unfolding numberOrder pick
 number-same a = rw (irrefl a)
+
+pub number-equal : (a b : ℤ) → ltZ a b ≡ false → ltZ b a ≡ false → numberOrder a b ≡ Equal
+unfolding numberOrder pick
+number-equal a b p q = rw (p, q)
+
+-- the same of stored months and days
+module _ (m n : ℕ) where
+  pub stored-less : m < n → numberOrder (pos m) (pos n) ≡ Less
+  stored-less h = number-less (pos m) (pos n) (lt-ltb m n h)
+
+  pub stored-greater : n < m → numberOrder (pos m) (pos n) ≡ Greater
+  stored-greater h = number-greater (pos m) (pos n) (lt-ltb n m h)
+
+  pub stored-equal : n ≤ m → m ≤ n → numberOrder (pos m) (pos n) ≡ Equal
+  stored-equal g h = number-equal (pos m) (pos n) (le-ltb m n g) (le-ltb n m h)

@@ -1,6 +1,5 @@
 // The two partial orders of the ported code: of times, and of dates with them.
 ghost use mathlib.Core.Path.{_≡_};
-ghost use lib.IntN.{pos};
 ghost use Rattle.order.specs.Order as spec;
 use dates::Datetime;
 use dates::OptionDay;
@@ -37,20 +36,6 @@ pub fn cmp(a: i64, b: i64) -> Order
         return Order::Greater;
     }
     Order::Equal
-}
-
-// Years, negative ones too.
-fn cmp_year(a: i32, b: i32) -> Order
-    ensures { λ r. ⌜ r ≡ spec.numberOrder a b ⌝ }
-{
-    cmp(a as i64, b as i64)
-}
-
-// Two stored months or days.
-fn cmp_stored(a: u8, b: u8) -> Order
-    ensures { λ r. ⌜ r ≡ spec.numberOrder (pos a) (pos b) ⌝ }
-{
-    cmp(a as i64, b as i64)
 }
 
 // Whether both have an offset, or neither has.
@@ -112,12 +97,15 @@ fn from_day(a: Datetime, b: Datetime) -> Order
         },
         OptionDay::SomeDay(x) => match e {
             OptionDay::NoDay => Order::None,
-            OptionDay::SomeDay(y) => match cmp_stored(x.0, y.0) {
-                Order::Less => Order::Less,
-                Order::Equal => from_time(a, b),
-                Order::Greater => Order::Greater,
-                Order::None => Order::None,
-            },
+            OptionDay::SomeDay(y) => {
+                if x.0 < y.0 {
+                    return Order::Less;
+                }
+                if y.0 < x.0 {
+                    return Order::Greater;
+                }
+                from_time(a, b)
+            }
         },
     }
 }
@@ -135,12 +123,15 @@ fn from_month(a: Datetime, b: Datetime) -> Order
         },
         OptionMonth::SomeMonth(x) => match n {
             OptionMonth::NoMonth => Order::None,
-            OptionMonth::SomeMonth(y) => match cmp_stored(x.0, y.0) {
-                Order::Less => Order::Less,
-                Order::Equal => from_day(a, b),
-                Order::Greater => Order::Greater,
-                Order::None => Order::None,
-            },
+            OptionMonth::SomeMonth(y) => {
+                if x.0 < y.0 {
+                    return Order::Less;
+                }
+                if y.0 < x.0 {
+                    return Order::Greater;
+                }
+                from_day(a, b)
+            }
         },
     }
 }
@@ -149,12 +140,15 @@ fn from_month(a: Datetime, b: Datetime) -> Order
 fn from_year(a: Datetime, b: Datetime) -> Order
     ensures { λ r. ⌜ r ≡ spec.order a b ⌝ }
 {
-    match cmp_year(a.year, b.year) {
-        Order::Less => Order::Less,
-        Order::Equal => from_month(a, b),
-        Order::Greater => Order::Greater,
-        Order::None => Order::None,
+    let x = a.year;
+    let y = b.year;
+    if x < y {
+        return Order::Less;
     }
+    if y < x {
+        return Order::Greater;
+    }
+    from_month(a, b)
 }
 
 // The refusal of a date with a season.

@@ -22,7 +22,7 @@ use Rattle.pages.specs.declared.ReadNumber.the-variants.{NumberIs, NoNum
 use Rattle.pages.specs.declared.Answer.{Answer}
 use Rattle.pages.specs.declared.Answer.the-variants.{Ranges, Refused}
 use Rattle.pages.specs.Piece.{numbered, numberOf, numberAt}
-use Rattle.pages.specs.Pieces.{addsUp, piecesOf, judged, refusedPages, Fits, pagesAnswer, put, tableAfter, pagesAfterwards}
+use Rattle.pages.specs.Pieces.{addsUp, piecesOf, judged, refusedPages, PiecesFit, pagesAnswer, put, tableAfter, pagesAfterwards}
 
 module _ (s : List ℕ) (start at : ℕ) {run : Run} {t : List ℕ} {p : ParsedNumber} (r : run ≡ nextRun AsciiDigit s at) (f : t ≡ part s (run .start .0) (run .end .0)) (q : p ≡ parse 4294967295 t) where
   by-run : numbered start run p ≡ numberAt s start at
@@ -42,7 +42,7 @@ isRanges (Ranges n) = true
 isRanges (Refused e) = false
 
 -- an answer that counts ranges: there are not too many pieces, all adds up, and there is room
-pub fitting : (b t cs : List ℕ) (room : ℕ) {n : ℕ} → pagesAnswer b t cs room ≡ Ranges n → Fits b t cs room
+pub fitting : (b t cs : List ℕ) (room : ℕ) {n : ℕ} → pagesAnswer b t cs room ≡ Ranges n → PiecesFit b t cs room
 unfolding pagesAnswer refusedPages pick
 fitting b t cs room e =
     of-test (leb (length cs) 64)

@@ -18,7 +18,7 @@ use Rattle.pages.specs.declared.ReadRange.the-variants.{Range, NoRange}
 use Rattle.pages.specs.declared.Answer.{Answer}
 use Rattle.pages.specs.declared.Answer.the-variants.{Ranges, Refused}
 use Rattle.chunks.specs.Lent.{Lent}
-use Rattle.pages.specs.Pieces.{total, addsUp, sizeOf, firstOf, piecesOf, pieceAt, said, isRange, onRange, judged, numbersOf, put, Fits, pagesAnswer, tableAfter, pagesAfterwards}
+use Rattle.pages.specs.Pieces.{total, addsUp, sizeOf, firstOf, piecesOf, pieceAt, said, isRange, onRange, judged, numbersOf, put, PiecesFit, pagesAnswer, tableAfter, pagesAfterwards}
 use Rattle.pages.proofs.Sums.{split}
 use Rattle.pages.proofs.Answers.{isRanges, fitting, by-pieces}
 
@@ -131,7 +131,7 @@ module _ (b t cs : List ℕ) where
   ps = piecesOf b t cs
 
   -- the answer counts ranges exactly if all fits and each piece by itself is a range; and it counts them all
-  pub ranges-exactly : (room n : ℕ) → (pagesAnswer b t cs room ≡ Ranges n) ↔ (Fits b t cs room × (n ≡ length cs) × ((i : ℕ) → i < length cs → isRange (said (pieceAt b t cs i)) ≡ true))
+  pub ranges-exactly : (room n : ℕ) → (pagesAnswer b t cs room ≡ Ranges n) ↔ (PiecesFit b t cs room × (n ≡ length cs) × ((i : ℕ) → i < length cs → isRange (said (pieceAt b t cs i)) ≡ true))
   unfolding pieceAt
   ranges-exactly room n = (
     λ e. let f = fitting b t cs room e in
@@ -142,7 +142,7 @@ module _ (b t cs : List ℕ) where
   )
 
   -- where all fits, the refusal of the first refused piece is the answer
-  pub first-refused : (room : ℕ) → Fits b t cs room → (i : ℕ) → i < length cs → ((j : ℕ) → j < i → isRange (said (pieceAt b t cs j)) ≡ true) → {e : Refusal} → said (pieceAt b t cs i) ≡ NoRange e → pagesAnswer b t cs room ≡ Refused e
+  pub first-refused : (room : ℕ) → PiecesFit b t cs room → (i : ℕ) → i < length cs → ((j : ℕ) → j < i → isRange (said (pieceAt b t cs j)) ≡ true) → {e : Refusal} → said (pieceAt b t cs i) ≡ NoRange e → pagesAnswer b t cs room ≡ Refused e
   unfolding pieceAt
   first-refused room f i h g e =
       sym (by-pieces b t cs room (f .0) (f .1) (f .2)) ∙ judged-first (length cs) ps i (omega (arith, length-pieces b t cs)) g e

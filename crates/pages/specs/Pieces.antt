@@ -83,8 +83,8 @@ unfoldable pub refusedPages : Kind → Answer
 refusedPages k = Refused (nowhere k)
 
 -- the limits, the shape and the room, as they must be
-abbrev pub Fits : List ℕ → List ℕ → List ℕ → ℕ → Type 0
-Fits b table counts room = (length counts ≤ 64) × (addsUp b table counts ≡ true) × (2 * length counts ≤ room)
+abbrev pub PiecesFit : List ℕ → List ℕ → List ℕ → ℕ → Type 0
+PiecesFit b table counts room = (length counts ≤ 64) × (addsUp b table counts ≡ true) × (2 * length counts ≤ room)
 
 -- the limits, the shape and the room come before the pieces
 unfoldable pub pagesAnswer : List ℕ → List ℕ → List ℕ → ℕ → Answer

@@ -1,3 +1,3 @@
 pub mod Lists
-pub mod Usual
-pub mod Quick
+pub mod Said
+pub mod Fields

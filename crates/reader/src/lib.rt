@@ -1,10 +1,12 @@
-// The readers over chunk lists: a date field by the ported reader, by the strict one and by the one of level one. The first two read a usual text
-// at once, where it stands, and so any text of one Normal chunk that the strict grammar derives; any other list goes the way for all. All ways
-// give the same, since what the strict reader accepts has the ported reader's Date, but for a range of days that an X stands for, which the
-// ported reader reads itself.
+// The readers over chunk lists: a date field by the ported reader, by the strict one and by the one of level one, and three fields. Each answers in
+// words, which are handed on in registers; a usual text is answered at once (`codes`), where it stands or formatted, and any other goes the way for
+// all. The same answers as a Date are for who wants one.
 // No call keeps anything, and no refusal changes a lent byte: the lists are lent for reading only.
 ghost use mathlib.Core.Path.{_≡_};
 ghost use mathlib.Core.Bool.{true, false};
+ghost use mathlib.Core.List.{[]};
+ghost use mathlib.Core.Option.{none, some};
+ghost use lib.Dec.{ltb};
 ghost use Prim.Native.Nat.{_≤_};
 ghost use lib.ListN.{length, take};
 ghost use Rattle.chunks.specs.Chunks.{isShort, chunksOf, spanOf};
@@ -12,20 +14,25 @@ ghost use Rattle.chunks.specs.Answer.{roomOf};
 ghost use Rattle.chunks.specs.declared.Checked.the-variants.{Clean};
 ghost use Rattle.chunks.specs.Check.{checked};
 ghost use Rattle.chunks.specs.Format.{formatted};
-ghost use Rattle.dates.specs.Value.{date};
-ghost use Rattle.dates.specs.declared.DateValue.the-variants.{Between};
+ghost use Rattle.codes.specs.Words.{wordsOr, wordsOf, yearWord, monthWord, dayPartWord};
+ghost use Rattle.codes.specs.Typed.{Typed};
+ghost use Rattle.codes.specs.Parts.{yearPart};
+ghost use Rattle.chars.specs.Pick.{pick};
+ghost use Rattle.codes.specs.Points.{onSome};
+ghost use Rattle.codes.specs.Ported.{ported, movedBy};
+ghost use Rattle.codes.specs.Lists as lists;
+ghost use Rattle.datefield.specs.Value.{parseText};
 ghost use Rattle.fields.specs.Month.{monthField};
 ghost use Rattle.fields.specs.Day.{dayField};
 ghost use Rattle.reading_laws.specs.Field as field;
 ghost use Rattle.chunks.specs.Lent.{lent, optional, three};
 ghost use Rattle.reading_laws.specs.Fields as fieldset;
-ghost use Rattle.reader.specs.Once as once;
 ghost use Rattle.reader.specs.Readable.{Readable, Small};
-use chars::byte_at;
 use chunks::Checked;
 use chunks::Formatted;
+use codes::NOTHING;
+use codes::Words;
 use dates::Date;
-use dates::DateValue;
 use dates::Datetime;
 use dates::OptionDay;
 use dates::OptionMonth;
@@ -34,7 +41,6 @@ use fields::ReadDay;
 use fields::ReadDayField;
 use fields::ReadMonth;
 use fields::ReadYear;
-use quick::UsualText;
 use reading_laws::FieldYear;
 use reading_laws::Parts;
 use refusals::FileSpan;
@@ -44,29 +50,43 @@ use refusals::ReadDate;
 use scanner::Cursor;
 use strict::Matched;
 
+// The formatted text of a date field. One of several chunks may be usual, too.
+fn text_words(s: &[u8], span: FileSpan) -> Words
+    ensures { λ r. ⌜ r ≡ wordsOf (parseText span (now (s .entry))) ⌝ }
+    ensures { λ r. ⌜ Typed (parseText span (now (s .entry))) ⌝ }
+{
+    let w = codes::text(s);
+    if w.last != NOTHING {
+        return w;
+    }
+    codes::pack(datefield::parse_text(s, span))
+}
+
 // A date field, formatted into a buffer with room for it.
-fn parse_in(bytes: &[u8], table: &[u64], buf: &mut [u8]) -> ReadDate
+fn words_in(bytes: &[u8], table: &[u64], buf: &mut [u8]) -> Words
     requires { ⌜ (isShort (now bytes) (now table) ≡ true → roomOf (now bytes) (now table) ≤ length (now buf)) ⌝ }
-    ensures { λ r. ⌜ r ≡ field.parsed (now (bytes .entry)) (now (table .entry)) ⌝ }
+    ensures { λ r. ⌜ r ≡ wordsOf (field.parsed (now (bytes .entry)) (now (table .entry))) ⌝ }
+    ensures { λ r. ⌜ Typed (field.parsed (now (bytes .entry)) (now (table .entry))) ⌝ }
 {
     match chunks::format_uppercase(bytes, table, buf) {
-        Formatted::Text(n) => datefield::parse_text(&buf[..n], chunks::span(table)),
-        Formatted::Refused(e) => ReadDate::Refused(e),
+        Formatted::Text(n) => text_words(&buf[..n], chunks::span(table)),
+        Formatted::Refused(e) => codes::pack(ReadDate::Refused(e)),
     }
 }
 
 // A date field by the way for all. A short list is formatted into a small array, which costs less to clear.
-fn parse_any(bytes: &[u8], table: &[u64]) -> ReadDate
-    ensures { λ r. ⌜ r ≡ field.parsed (now (bytes .entry)) (now (table .entry)) ⌝ }
+fn any_words(bytes: &[u8], table: &[u64]) -> Words
+    ensures { λ r. ⌜ r ≡ wordsOf (field.parsed (now (bytes .entry)) (now (table .entry))) ⌝ }
+    ensures { λ r. ⌜ Typed (field.parsed (now (bytes .entry)) (now (table .entry))) ⌝ }
 {
     if bytes.len() <= 56 {
         if table.len() <= 16 {
             let mut small = [0u8; 64];
-            return parse_in(bytes, table, &mut small);
+            return words_in(bytes, table, &mut small);
         }
     }
     let mut buf = [0u8; 4224];
-    parse_in(bytes, table, &mut buf)
+    words_in(bytes, table, &mut buf)
 }
 
 // What the strict matcher says of a text.
@@ -126,10 +146,9 @@ fn parse_by(level: bool, bytes: &[u8], table: &[u64]) -> ReadDate
 
 // ---- at once
 
-// Whether a list is one Normal chunk with all of the bytes. Then `quick::text` says whether they are a usual text: for who makes something else
-// of it than a Date. What is none is for `parse_unusual` or `parse_strict_unusual`, which do not look for a usual text again.
-pub fn is_one_normal(bytes: &[u8], table: &[u64]) -> bool
-    ensures { λ r. ⌜ r ≡ once.oneNormal (now (bytes .entry)) (now (table .entry)) ⌝ }
+// Whether a list is one Normal chunk with all of the bytes.
+fn is_one_normal(bytes: &[u8], table: &[u64]) -> bool
+    ensures { λ r. ⌜ r ≡ lists.oneNormal (now (bytes .entry)) (now (table .entry)) ⌝ }
 {
     if table.len() == 4 {
         if table[0] == 0 {
@@ -139,92 +158,97 @@ pub fn is_one_normal(bytes: &[u8], table: &[u64]) -> bool
     false
 }
 
-// What the strict grammar says of such a list's bytes; no other list is looked at.
-fn at_once(bytes: &[u8], table: &[u64]) -> Matched
-    ensures { λ r. ⌜ r ≡ once.atOnce (now (bytes .entry)) (now (table .entry)) ⌝ }
+// What is said at once of the text of such a list.
+fn at_once(bytes: &[u8], table: &[u64]) -> Words
+    ensures { λ r. ⌜ r ≡ wordsOr (lists.listWritten (now (bytes .entry)) (now (table .entry))) ⌝ }
 {
     if is_one_normal(bytes, table) {
-        return strict::match_text(bytes);
+        return codes::text(bytes);
     }
-    Matched::NotStrict
+    codes::no_words()
 }
 
-// The same for the ported reader: no text is looked at in which an X stands for a day.
-fn at_once_ported(bytes: &[u8], table: &[u64]) -> Matched
-    ensures { λ r. ⌜ r ≡ once.atOncePorted (now (bytes .entry)) (now (table .entry)) ⌝ }
+// What the ported reader alone says at once of a text, in a list whose span starts at a place.
+fn ported_from(bytes: &[u8], start: u64) -> Words
+    ensures { λ r. ⌜ r ≡ wordsOr (pick (ltb start 0x8000000000000000) (onSome (ported (now (bytes .entry))) λ x. some (movedBy start x)) none) ⌝ }
 {
-    if byte_at(bytes, 8) == b'X' {
-        return Matched::NotStrict;
+    if start < 0x8000000000000000 {
+        let w = codes::ported(bytes);
+        if w.last == NOTHING {
+            return w;
+        }
+        return codes::moved(w, start);
     }
-    at_once(bytes, table)
+    codes::no_words()
 }
 
-// A date field as `parse` reads it, for a text that is not usual: any other is read too, but not so fast.
-pub fn parse_unusual(bytes: &[u8], table: &[u64]) -> ReadDate
-    ensures { λ r. ⌜ r ≡ field.parsed (now (bytes .entry)) (now (table .entry)) ⌝ }
+// The same of a list that is one Normal chunk.
+fn at_once_ported(bytes: &[u8], table: &[u64]) -> Words
+    ensures { λ r. ⌜ r ≡ wordsOr (lists.listPorted (now (bytes .entry)) (now (table .entry))) ⌝ }
 {
-    match at_once_ported(bytes, table) {
-        Matched::Strict(d) => ReadDate::Accepted(d),
-        Matched::NotStrict => parse_any(bytes, table),
+    if is_one_normal(bytes, table) {
+        return ported_from(bytes, table[2]);
     }
-}
-
-// The same by the strict grammar.
-pub fn parse_strict_unusual(bytes: &[u8], table: &[u64]) -> ReadDate
-    ensures { λ r. ⌜ r ≡ field.parsedStrict (now (bytes .entry)) (now (table .entry)) ⌝ }
-{
-    match at_once(bytes, table) {
-        Matched::Strict(d) => ReadDate::Accepted(d),
-        Matched::NotStrict => parse_by(false, bytes, table),
-    }
-}
-
-// A range of two dates, with no mark.
-fn range(a: Datetime, b: Datetime) -> Date
-    ensures { λ r. ⌜ r ≡ date (Between a b) false false ⌝ }
-{
-    Date {
-        value: DateValue::Between(a, b),
-        uncertain: false,
-        approximate: false,
-    }
+    codes::no_words()
 }
 
 // ---- the calls for a date field
 
 // A date field, read as the Rust reads it.
-pub fn parse(bytes: &[u8], table: &[u64]) -> ReadDate
-    ensures { λ r. ⌜ r ≡ field.parsed (now (bytes .entry)) (now (table .entry)) ⌝ }
+pub fn parse_words(bytes: &[u8], table: &[u64]) -> Words
+    ensures { λ r. ⌜ r ≡ wordsOf (field.parsed (now (bytes .entry)) (now (table .entry))) ⌝ }
+    ensures { λ r. ⌜ Typed (field.parsed (now (bytes .entry)) (now (table .entry))) ⌝ }
 {
-    if is_one_normal(bytes, table) {
-        return match quick::text(bytes) {
-            UsualText::One(d) => ReadDate::Accepted(Date::from_datetime(d)),
-            UsualText::Two(a, b) => ReadDate::Accepted(range(a, b)),
-            UsualText::Other => parse_unusual(bytes, table),
-        };
+    let w = at_once(bytes, table);
+    if w.last != NOTHING {
+        return w;
     }
-    parse_unusual(bytes, table)
+    let p = at_once_ported(bytes, table);
+    if p.last != NOTHING {
+        return p;
+    }
+    any_words(bytes, table)
 }
 
 // A date field by the strict grammar alone: neither trimmed nor in upper case.
-pub fn parse_strict(bytes: &[u8], table: &[u64]) -> ReadDate
-    ensures { λ r. ⌜ r ≡ field.parsedStrict (now (bytes .entry)) (now (table .entry)) ⌝ }
+pub fn parse_strict_words(bytes: &[u8], table: &[u64]) -> Words
+    ensures { λ r. ⌜ r ≡ wordsOf (field.parsedStrict (now (bytes .entry)) (now (table .entry))) ⌝ }
+    ensures { λ r. ⌜ Typed (field.parsedStrict (now (bytes .entry)) (now (table .entry))) ⌝ }
 {
-    if is_one_normal(bytes, table) {
-        return match quick::text(bytes) {
-            UsualText::One(d) => ReadDate::Accepted(Date::from_datetime(d)),
-            UsualText::Two(a, b) => ReadDate::Accepted(range(a, b)),
-            UsualText::Other => parse_strict_unusual(bytes, table),
-        };
+    let w = at_once(bytes, table);
+    if w.last != NOTHING {
+        return w;
     }
-    parse_strict_unusual(bytes, table)
+    codes::pack(parse_by(false, bytes, table))
 }
 
 // A date field by the grammar of level one.
+pub fn level_words(bytes: &[u8], table: &[u64]) -> Words
+    ensures { λ r. ⌜ r ≡ wordsOf (field.parsedLevelOne (now (bytes .entry)) (now (table .entry))) ⌝ }
+    ensures { λ r. ⌜ Typed (field.parsedLevelOne (now (bytes .entry)) (now (table .entry))) ⌝ }
+{
+    codes::pack(parse_by(true, bytes, table))
+}
+
+// The same as a Date.
+pub fn parse(bytes: &[u8], table: &[u64]) -> ReadDate
+    ensures { λ r. ⌜ r ≡ field.parsed (now (bytes .entry)) (now (table .entry)) ⌝ }
+{
+    codes::unpack(parse_words(bytes, table))
+}
+
+// The strict one.
+pub fn parse_strict(bytes: &[u8], table: &[u64]) -> ReadDate
+    ensures { λ r. ⌜ r ≡ field.parsedStrict (now (bytes .entry)) (now (table .entry)) ⌝ }
+{
+    codes::unpack(parse_strict_words(bytes, table))
+}
+
+// And that of level one.
 pub fn parse_level_one(bytes: &[u8], table: &[u64]) -> ReadDate
     ensures { λ r. ⌜ r ≡ field.parsedLevelOne (now (bytes .entry)) (now (table .entry)) ⌝ }
 {
-    parse_by(true, bytes, table)
+    codes::unpack(level_words(bytes, table))
 }
 
 // ---- three fields
@@ -504,9 +528,77 @@ fn read_clean(
     )
 }
 
-// The fields year, month and day. A list that is not present is not looked at, whatever is passed for it; nor is a day list without a
-// month list.
-pub fn parse_three_fields(
+// ---- three fields at once
+
+// The year of a list that is one Normal chunk.
+fn year_at_once(bytes: &[u8], table: &[u64]) -> u64
+    ensures { λ r. ⌜ r ≡ yearWord (lists.onNormal (lent (now (bytes .entry)) (now (table .entry))) yearPart) ⌝ }
+{
+    if is_one_normal(bytes, table) {
+        return codes::year_part(bytes);
+    }
+    NOTHING
+}
+
+// The month of one, if it is present.
+fn month_at_once(has: bool, bytes: &[u8], table: &[u64]) -> u64
+    ensures { λ r. ⌜ r ≡ monthWord (lists.monthOr (optional has (now (bytes .entry)) (now (table .entry)))) ⌝ }
+{
+    if has {
+        if is_one_normal(bytes, table) {
+            return codes::month_part(bytes);
+        }
+        return NOTHING;
+    }
+    0
+}
+
+// The day of one, if it is present beside a month.
+fn day_at_once(has_month: bool, has: bool, bytes: &[u8], table: &[u64]) -> u64
+    ensures { λ r. ⌜ r ≡ dayPartWord (lists.dayOr (optional «has_month» [] []) (optional has (now (bytes .entry)) (now (table .entry)))) ⌝ }
+{
+    if has_month {
+        if has {
+            if is_one_normal(bytes, table) {
+                return codes::day_part(bytes);
+            }
+            return NOTHING;
+        }
+        return 0;
+    }
+    0
+}
+
+// What three fields say at once.
+fn three_at_once(
+    year: &[u8],
+    year_table: &[u64],
+    has_month: bool,
+    month: &[u8],
+    month_table: &[u64],
+    has_day: bool,
+    day: &[u8],
+    day_table: &[u64],
+) -> Words
+    ensures { λ r. ⌜ r ≡ wordsOr (lists.listThree (three (lent (now (year .entry)) (now («year_table» .entry))) (optional «has_month» (now (month .entry)) (now («month_table» .entry))) (optional «has_day» (now (day .entry)) (now («day_table» .entry))))) ⌝ }
+{
+    let y = year_at_once(year, year_table);
+    let m = month_at_once(has_month, month, month_table);
+    let d = day_at_once(has_month, has_day, day, day_table);
+    if y == NOTHING {
+        return codes::no_words();
+    }
+    if m == NOTHING {
+        return codes::no_words();
+    }
+    if d == NOTHING {
+        return codes::no_words();
+    }
+    codes::at_word(y + m + d)
+}
+
+// Three fields by the way for all. A list that is not present is not looked at, whatever is passed for it; nor is a day list without a month list.
+fn any_fields(
     year: &[u8],
     year_table: &[u64],
     has_month: bool,
@@ -540,4 +632,70 @@ pub fn parse_three_fields(
         ),
         Checked::Faulty(e) => ReadDate::Refused(e),
     }
+}
+
+// The fields year, month and day, in words.
+pub fn three_words(
+    year: &[u8],
+    year_table: &[u64],
+    has_month: bool,
+    month: &[u8],
+    month_table: &[u64],
+    has_day: bool,
+    day: &[u8],
+    day_table: &[u64],
+) -> Words
+    ensures { λ r. ⌜ r ≡ wordsOf (fieldset.threeFields (three (lent (now (year .entry)) (now («year_table» .entry))) (optional «has_month» (now (month .entry)) (now («month_table» .entry))) (optional «has_day» (now (day .entry)) (now («day_table» .entry))))) ⌝ }
+    ensures { λ r. ⌜ Typed (fieldset.threeFields (three (lent (now (year .entry)) (now («year_table» .entry))) (optional «has_month» (now (month .entry)) (now («month_table» .entry))) (optional «has_day» (now (day .entry)) (now («day_table» .entry))))) ⌝ }
+{
+    let w = three_at_once(
+        year,
+        year_table,
+        has_month,
+        month,
+        month_table,
+        has_day,
+        day,
+        day_table,
+    );
+    if w.last != NOTHING {
+        return w;
+    }
+    let read = any_fields(
+        year,
+        year_table,
+        has_month,
+        month,
+        month_table,
+        has_day,
+        day,
+        day_table,
+    );
+    codes::pack(read)
+}
+
+// The same as a Date.
+pub fn parse_three_fields(
+    year: &[u8],
+    year_table: &[u64],
+    has_month: bool,
+    month: &[u8],
+    month_table: &[u64],
+    has_day: bool,
+    day: &[u8],
+    day_table: &[u64],
+) -> ReadDate
+    ensures { λ r. ⌜ r ≡ fieldset.threeFields (three (lent (now (year .entry)) (now («year_table» .entry))) (optional «has_month» (now (month .entry)) (now («month_table» .entry))) (optional «has_day» (now (day .entry)) (now («day_table» .entry)))) ⌝ }
+{
+    let words = three_words(
+        year,
+        year_table,
+        has_month,
+        month,
+        month_table,
+        has_day,
+        day,
+        day_table,
+    );
+    codes::unpack(words)
 }

@@ -1,3 +1,4 @@
 pub mod Sums
 pub mod Numbers
+pub mod Told
 pub mod Examples

@@ -1,6 +1,7 @@
 // Refusals: why a call refuses, and where. A place in the formatted text and a place in the file are two types. Only the functions here
 // make one of the other.
 ghost use mathlib.Core.Path.{_≡_};
+ghost use Rattle.refusals.specs.declared.Kind.{Kind};
 ghost use Rattle.refusals.specs.Refusal as spec;
 ghost use Rattle.refusals.specs.Offset as move_;
 use dates::Date;
@@ -135,6 +136,40 @@ pub fn number(kind: Kind) -> u8
         Kind::HasSeason => 24,
         Kind::NoInstant => 25,
         Kind::BadChronology => 26,
+    }
+}
+
+// The kind of a number; of numbers that are none of theirs, the last.
+pub fn kind_of(n: u8) -> Kind
+    ensures { λ r. ⌜ ((k : Kind) → n ≡ spec.number k → r ≡ k) ⌝ }
+{
+    match n {
+        1 => Kind::UndefinedRange,
+        2 => Kind::DayOutOfRange,
+        3 => Kind::MonthOutOfRange,
+        4 => Kind::InvalidNumber,
+        5 => Kind::MissingNumber,
+        6 => Kind::WrongNumberOfDigits,
+        7 => Kind::InvalidFormat,
+        8 => Kind::YearZeroCE,
+        9 => Kind::RustPanics,
+        10 => Kind::BadUtf8,
+        11 => Kind::UnsupportedChar,
+        12 => Kind::NotStrict,
+        13 => Kind::NoRoom,
+        14 => Kind::BadFrame,
+        15 => Kind::BadChunks,
+        16 => Kind::TooLong,
+        17 => Kind::NotACalendarDate,
+        18 => Kind::BadPeriod,
+        19 => Kind::DuplicateEntry,
+        20 => Kind::ChronologyFull,
+        21 => Kind::UnknownEntry,
+        22 => Kind::BadTime,
+        23 => Kind::NotLevelOne,
+        24 => Kind::HasSeason,
+        25 => Kind::NoInstant,
+        _ => Kind::BadChronology,
     }
 }
 

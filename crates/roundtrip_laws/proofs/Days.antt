@@ -51,15 +51,15 @@ use Rattle.datefield.specs.Value.{xRange, value}
 use Rattle.reading_laws.specs.Field.{parsed}
 use Rattle.roundtrip_laws.specs.Domain.{AllDated, ShortMonthRange, days-xx, daysUpto}
 use Rattle.roundtrip_laws.proofs.Accepted.{Holds, holds, fails, of-x, of-accepted}
-use Rattle.roundtrip_laws.specs.Days.{Run, Hyphens, hyphens, DaysText, dddd-mm-XX}
-use Rattle.roundtrip_laws.specs.Days.Run.{none, more}
+use Rattle.roundtrip_laws.specs.Days.{ClassRun, Hyphens, hyphens, DaysText, dddd-mm-XX}
+use Rattle.roundtrip_laws.specs.Days.ClassRun.{none, more}
 use Rattle.roundtrip_laws.proofs.Runs.{parse-is}
 
 -- ---- runs
 
-run-snoc : (k : Class) {w : List ℕ} (c : ℕ) → Run k w → inClass k c ≡ true → Run k (w ++ encode c)
-run-snoc k c none e = subst (Run k) (append-nil (encode c)) (more c e none)
-run-snoc k c (more b {t} h r) e = subst (Run k) (sym (append-assoc (encode b) t (encode c))) (more b h (run-snoc k c r e))
+run-snoc : (k : Class) {w : List ℕ} (c : ℕ) → ClassRun k w → inClass k c ≡ true → ClassRun k (w ++ encode c)
+run-snoc k c none e = subst (ClassRun k) (append-nil (encode c)) (more c e none)
+run-snoc k c (more b {t} h r) e = subst (ClassRun k) (sym (append-assoc (encode b) t (encode c))) (more b h (run-snoc k c r e))
 
 module _ (k : Class) (s : List ℕ) where
   matched : (i : ℕ) (d : Decoded) → decodeAt s i ≡ d → 0 < lenIn k d → (c : ℕ) × (inClass k c ≡ true) × (encode c ≡ take (lenIn k d) (drop i s))
@@ -76,19 +76,19 @@ module _ (k : Class) (s : List ℕ) where
       ap (λ (n : ℕ). take n (drop at s)) e ∙ take-add (i - at) l (drop at s)
       ∙ ap (λ (t : List ℕ). take (i - at) (drop at s) ++ take l t) (drop-drop (i - at) at s ∙ ap (λ (n : ℕ). drop n s) f)
 
-  start : (at : ℕ) → Run k (part s at at)
+  start : (at : ℕ) → ClassRun k (part s at at)
   unfolding part
-  start at = let e : at - at ≡ 0 = omega arith in subst (λ (n : ℕ). Run k (take n (drop at s))) (sym e) none
+  start at = let e : at - at ≡ 0 = omega arith in subst (λ (n : ℕ). ClassRun k (take n (drop at s))) (sym e) none
 
-  step : (at i : ℕ) → 0 < matchLen k s i → (at ≤ i) × Run k (part s at i) → (at ≤ i + matchLen k s i) × Run k (part s at (i + matchLen k s i))
+  step : (at i : ℕ) → 0 < matchLen k s i → (at ≤ i) × ClassRun k (part s at i) → (at ≤ i + matchLen k s i) × ClassRun k (part s at (i + matchLen k s i))
   unfolding matchLen
   step at i h p =
       let m = matched i (decodeAt s i) refl h in
-      (omega (arith, p .0), subst (Run k) (sym (grown at i (lenIn k (decodeAt s i)) (p .0) ∙ ap (λ (t : List ℕ). part s at i ++ t) (sym (m .2)))) (run-snoc k (m .0) (p .1) (m .1)))
+      (omega (arith, p .0), subst (ClassRun k) (sym (grown at i (lenIn k (decodeAt s i)) (p .0) ∙ ap (λ (t : List ℕ). part s at i ++ t) (sym (m .2)))) (run-snoc k (m .0) (p .1) (m .1)))
 
   -- what was eaten is a run
-  eaten-run : (at : ℕ) → Run k (part s at (eatWhile k s at))
-  eaten-run at = kept k s (λ j. (at ≤ j) × Run k (part s at j)) (step at) at (le-refl at, start at) .1
+  eaten-run : (at : ℕ) → ClassRun k (part s at (eatWhile k s at))
+  eaten-run at = kept k s (λ j. (at ≤ j) × ClassRun k (part s at j)) (step at) at (le-refl at, start at) .1
 
   eaten-long : (at : ℕ) → length (part s at (eatWhile k s at)) ≡ eatWhile k s at - at
   unfolding part
@@ -116,7 +116,7 @@ digit-of c e =
     let h = leb-true c 0x39 (p .1) in
     (c - 48, omega arith, omega arith)
 
-digits-of : {w : List ℕ} → Run AsciiDigit w → (ds : List ℕ) × AreDigits ds × (w ≡ bytes ds)
+digits-of : {w : List ℕ} → ClassRun AsciiDigit w → (ds : List ℕ) × AreDigits ds × (w ≡ bytes ds)
 digits-of none = ([], tt, refl)
 digits-of (more c {t} e r) =
     let d = digit-of c e in
@@ -158,21 +158,21 @@ two-of (a ∷ b ∷ []) n h l e =
     rw (ea, eb)
 two-of (a ∷ b ∷ x ∷ ds) n h l e = absurd (omega arith)
 
-four-digits : {w : List ℕ} (y : ℕ) → Run AsciiDigit w → length w ≡ 4 → parse 9999 w ≡ Value y → w ≡ bytes (four y)
+four-digits : {w : List ℕ} (y : ℕ) → ClassRun AsciiDigit w → length w ≡ 4 → parse 9999 w ≡ Value y → w ≡ bytes (four y)
 four-digits y r l e = let q = digits-of r in q .2 ∙ four-of (q .0) y (q .1) (sym (ap length (q .2)) ∙ l) (sym (ap (parse 9999) (q .2)) ∙ e)
 
-two-digits : {w : List ℕ} (n : ℕ) → Run AsciiDigit w → length w ≡ 2 → parse 255 w ≡ Value n → w ≡ bytes (two n)
+two-digits : {w : List ℕ} (n : ℕ) → ClassRun AsciiDigit w → length w ≡ 2 → parse 255 w ≡ Value n → w ≡ bytes (two n)
 two-digits n r l e = let q = digits-of r in q .2 ∙ two-of (q .0) n (q .1) (sym (ap length (q .2)) ∙ l) (sym (ap (parse 255) (q .2)) ∙ e)
 
 -- X and X
-same-run : (b : ℕ) → b < 0x80 → {w : List ℕ} → Run (Is b) w → w ≡ replicate (length w) b
+same-run : (b : ℕ) → b < 0x80 → {w : List ℕ} → ClassRun (Is b) w → w ≡ replicate (length w) b
 unfolding inClass
 same-run b h none = refl
 same-run b h (more c {t} e r) =
     let q : encode c ≡ b ∷ [] = ap encode (eqb-true c b e) ∙ encode-one b h in
     subst (λ (l : List ℕ). l ++ t ≡ replicate (length (l ++ t)) b) (sym q) (ap (λ (l : List ℕ). b ∷ l) (same-run b h r))
 
-two-x : {w : List ℕ} → Run (Is 0x58) w → length w ≡ 2 → w ≡ 0x58 ∷ 0x58 ∷ []
+two-x : {w : List ℕ} → ClassRun (Is 0x58) w → length w ≡ 2 → w ≡ 0x58 ∷ 0x58 ∷ []
 two-x r h = same-run 0x58 (lit< tt) r ∙ ap (λ (n : ℕ). replicate n 0x58) h
 
 -- ---- hyphens
@@ -226,7 +226,7 @@ years-shaped : {s : List ℕ} (digits variable : ℕ) → Shaped s (years digits
 unfolding years
 years-shaped digits variable = of-others refl
 
-module _ (s : List ℕ) {u : List ℕ} (y : ℕ) (ru : Run Whitespace u) where
+module _ (s : List ℕ) {u : List ℕ} (y : ℕ) (ru : ClassRun Whitespace u) where
   behind-month : (at m : ℕ) {h : List ℕ} → Hyphens h → s ≡ u ++ (bytes (four y) ++ (h ++ (bytes (two (m + 1)) ++ drop at s))) → Shaped s (behindMonth s at y m)
   unfolding behindMonth dayRun endOfDays doneAt
   behind-month at m {h} rh pre =

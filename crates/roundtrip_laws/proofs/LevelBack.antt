@@ -40,6 +40,7 @@ use Rattle.puts.specs.Marks.{markText}
 use Rattle.writer.specs.Level.{longSign, behindText, levelEnd, levelValue, levelText, levelEndPanics, levelValuePanics, levelPanics}
 use Rattle.puts.proofs.Counts.{one-more, no-digits, few, padded, unpadded}
 use Rattle.dates.specs.Ends.{EachEnd}
+use Rattle.dates.proofs.Ends.{no-end}
 use Rattle.roundtrip_laws.specs.Domain.{Untimed}
 use Rattle.roundtrip_laws.specs.Level.{LevelIn, of-calendar, of-season, of-long-year, InLevel, Given, on-calendar, in-season, long-year}
 use Rattle.roundtrip_laws.proofs.Bytes.{InPoint, PointText, ValueText, Clear, Each, each-append, point-digit, minus-in, alone-text, between-text, after-text, before-text, clear-text, clear-ascii}
@@ -234,10 +235,7 @@ end-written d (of-long-year h k) = refl
 
 value-written : (v : DateValue) → InLevel v → levelValuePanics v ≡ false
 unfolding levelValuePanics
-value-written (At a) w = end-written a w
-value-written (After a) w = end-written a w
-value-written (Before a) w = end-written a w
-value-written (Between a b) w = rw (end-written a (w .0), end-written b (w .1))
+value-written v w = no-end end-written v w
 
 date-written : (d : Date) → InLevel (d .value) → levelPanics d ≡ false
 unfolding levelPanics

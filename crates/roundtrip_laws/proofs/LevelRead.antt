@@ -14,7 +14,6 @@ use Rattle.chunks.specs.Check.{checked}
 use Rattle.chunks.specs.Format.{formatted}
 use Rattle.dates.specs.declared.Datetime.{Datetime}
 use Rattle.dates.specs.declared.DateValue.{DateValue}
-use Rattle.dates.specs.declared.DateValue.the-variants.{At, After, Before, Between}
 use Rattle.dates.specs.declared.Date.{Date}
 use Rattle.dates.specs.Value.{isSeason, hasSeason, anySeason}
 use Rattle.refusals.specs.declared.ReadDate.the-variants.{Accepted, Refused}
@@ -27,6 +26,7 @@ use Rattle.strict.proofs.Runs.{nine-digits}
 use Rattle.strict.proofs.Level.{level-exact, level-refused, strict-level}
 use Rattle.reading_laws.specs.Field.{onClean, leveled, parsedLevelOne, parsedStrict}
 use Rattle.dates.specs.Ends.{EachEnd}
+use Rattle.dates.proofs.Ends.{each-end}
 use Rattle.writer.proofs.Pieces.{first-false, second-false}
 use Rattle.roundtrip_laws.specs.Level.{Given, on-calendar, in-season, long-year, Alone, ShortYear}
 use Rattle.roundtrip_laws.specs.Domain.{AllDated}
@@ -99,10 +99,7 @@ point-given (season {n = n} y f) = in-season (year-in y) (season-there n)
 point-given (long y) = let h = long-in y in long-year (h .0) (h .1)
 
 all-given : (v : DateValue) → AllDated v → EachEnd Given v
-all-given (At a) w = on-calendar w
-all-given (After a) w = on-calendar w
-all-given (Before a) w = on-calendar w
-all-given (Between a b) w = (on-calendar (w .0), on-calendar (w .1))
+all-given v w = each-end (λ a p. on-calendar p) v w
 
 value-given : {s : List ℕ} {v : DateValue} → Value LevelPoint s v → EachEnd Given v
 value-given (alone p) = point-given p
@@ -117,13 +114,6 @@ text-given (text v m) = value-given v
 -- every end of an accepted Date
 pub level-given : (b table : List ℕ) {d : Date} → parsedLevelOne b table ≡ Accepted d → EachEnd Given (d .value)
 level-given b table e = text-given (level-derivation b table e)
-
--- what holds of an end as it is read holds of every end
-pub each-end : {P Q : Datetime → Type 0} → ((a : Datetime) → P a → Q a) → (v : DateValue) → EachEnd P v → EachEnd Q v
-each-end f (At a) w = f a w
-each-end f (After a) w = f a w
-each-end f (Before a) w = f a w
-each-end f (Between a b) w = (f a (w .0), f b (w .1))
 
 given-alone : (a : Datetime) → Given a → Alone a
 given-alone a (on-calendar w) e = absurd (false≢true (sym (ap isSeason (w .unseasoned)) ∙ e))

@@ -13,11 +13,11 @@ use Rattle.dates.specs.declared.OptionDay.{OptionDay}
 use Rattle.dates.specs.declared.OptionDay.the-variants.{NoDay, SomeDay}
 use Rattle.dates.specs.declared.Datetime.{Datetime}
 use Rattle.dates.specs.declared.DateValue.{DateValue}
-use Rattle.dates.specs.declared.DateValue.the-variants.{At, After, Before, Between}
 use Rattle.dates.specs.declared.Date.{Date}
 use Rattle.dates.specs.Domain.{PartsIn}
 use Rattle.dates.specs.Value.{isSeason}
 use Rattle.dates.proofs.Lengths.{length-most}
+use Rattle.dates.proofs.Ends.{each-end}
 use Rattle.points.specs.Accepted.{Dated}
 use Rattle.fields.proofs.Named.{MonthBelow}
 use Rattle.fields.proofs.Ranges.{DayBelow}
@@ -33,7 +33,7 @@ use Rattle.roundtrip_laws.specs.Domain.{ShortMonthRange, days-xx, AllDat
 use Rattle.roundtrip_laws.proofs.Accepted.{accepted-known}
 use Rattle.roundtrip_laws.specs.Level.{Given, on-calendar, in-season, long-year}
 use Rattle.roundtrip_laws.proofs.Strictly.{strict-dated}
-use Rattle.roundtrip_laws.proofs.LevelRead.{level-given, each-end}
+use Rattle.roundtrip_laws.proofs.LevelRead.{level-given}
 
 -- a date of the calendar
 parts-narrow : (y : ℤ) (m : OptionMonth) (d : OptionDay) → PartsIn y m d → MonthUnder 99 m × DayUnder 99 d
@@ -48,10 +48,7 @@ dated-narrow d w =
     record { year-in = w .year-in; month-in = p .0; day-in = p .1 }
 
 all-narrow : (v : DateValue) → AllDated v → NarrowEnds v
-all-narrow (At a) w = dated-narrow a w
-all-narrow (After a) w = dated-narrow a w
-all-narrow (Before a) w = dated-narrow a w
-all-narrow (Between a b) w = (dated-narrow a (w .0), dated-narrow b (w .1))
+all-narrow v w = each-end dated-narrow v w
 
 -- a day-XX range in a month under 31 days
 short-narrow : {v : DateValue} → ShortMonthRange v → NarrowEnds v

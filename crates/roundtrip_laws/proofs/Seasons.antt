@@ -6,9 +6,9 @@ use mathlib.Core.Logic.{⊎-elim}
 use Prim.Native.Nat.{ℕ}
 use Rattle.dates.specs.declared.Datetime.{Datetime}
 use Rattle.dates.specs.declared.DateValue.{DateValue}
-use Rattle.dates.specs.declared.DateValue.the-variants.{At, After, Before, Between}
 use Rattle.dates.specs.declared.Date.{Date}
 use Rattle.dates.specs.Value.{isSeason, hasSeason, anySeason}
+use Rattle.dates.proofs.Ends.{no-end}
 use Rattle.points.specs.Accepted.{Dated}
 use Rattle.refusals.specs.declared.ReadDate.the-variants.{Accepted}
 use Rattle.reading_laws.specs.Field.{parsed, parsedStrict}
@@ -23,10 +23,7 @@ end-none : (d : Datetime) → Dated d → hasSeason d ≡ false
 end-none d w = ap isSeason (w .unseasoned)
 
 dated-none : (v : DateValue) → AllDated v → anySeason v ≡ false
-dated-none (At a) w = end-none a w
-dated-none (After a) w = end-none a w
-dated-none (Before a) w = end-none a w
-dated-none (Between a b) w = rw (end-none a (w .0), end-none b (w .1))
+dated-none v w = no-end end-none v w
 
 short-none : {v : DateValue} → ShortMonthRange v → anySeason v ≡ false
 short-none (days-xx y m h l n) = refl

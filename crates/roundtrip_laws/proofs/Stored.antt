@@ -1,7 +1,7 @@
 -- A Date of the domain is stored by the writer wherever there is room for its text, and what is stored is read back.
 -- Assumes nothing.
 use mathlib.Core.Path.{_≡_, refl, sym, ap, _∙_, subst}
-use mathlib.Core.Bool.{Bool, true, false, _||_}
+use mathlib.Core.Bool.{Bool, true, false}
 use mathlib.Core.List.{List}
 use Prim.Native.Nat.{ℕ, _≤_}
 use native.Mathlib.Omega.{arith}
@@ -21,6 +21,7 @@ use Rattle.dates.specs.declared.Date.{Date}
 use Rattle.dates.specs.Domain.{PartsIn, EndIn}
 use Rattle.dates.specs.Value.{isSeason, hasSeason, anySeason}
 use Rattle.dates.proofs.Lengths.{length-most}
+use Rattle.dates.proofs.Ends.{no-end}
 use Rattle.puts.specs.declared.Measured.the-variants.{Length}
 use Rattle.puts.specs.declared.Written.{Written}
 use Rattle.puts.specs.declared.Written.the-variants.{Done}
@@ -30,7 +31,7 @@ use Rattle.writer.specs.Fields.{endLines, valueLines, fieldsText}
 use Rattle.writer.specs.Answers.{dateMeasured, dateAnswer, dateAfterwards}
 use Rattle.writer.proofs.Levels.{else-as-before}
 use Rattle.roundtrip_laws.specs.Domain.{InDomain}
-use Rattle.roundtrip_laws.specs.Stored.{TextBack, EndBack, FieldsBack, Stored, TextStored, FieldsStored}
+use Rattle.roundtrip_laws.specs.Stored.{TextBack, EndBack, FieldsBack, StoredAs, TextStored, FieldsStored}
 use Rattle.roundtrip_laws.proofs.Theorems.{date-back, strict-back, lines-are, fields-back}
 
 -- a month and a day of the calendar have a text
@@ -48,19 +49,13 @@ end-written d w = calendar-written (d .year) (d .month) (d .day) (w .parts-in)
 
 value-written : (v : DateValue) → InDomain v → valuePanics v ≡ false
 unfolding valuePanics
-value-written (At a) w = end-written a w
-value-written (After a) w = end-written a w
-value-written (Before a) w = end-written a w
-value-written (Between a b) w = rw (end-written a (w .0), end-written b (w .1))
+value-written v w = no-end end-written v w
 
 end-plain : (d : Datetime) → EndIn d → hasSeason d ≡ false
 end-plain d w = ap isSeason (w .unseasoned)
 
 value-plain : (v : DateValue) → InDomain v → anySeason v ≡ false
-value-plain (At a) w = end-plain a w
-value-plain (After a) w = end-plain a w
-value-plain (Before a) w = end-plain a w
-value-plain (Between a b) w = ap (λ (x : Bool). x || hasSeason b) (end-plain a (w .0)) ∙ end-plain b (w .1)
+value-plain v w = no-end end-plain v w
 
 -- no Date of the domain is refused for what it is: none has a season, and none panics
 pub has-text : (d : Date) → InDomain (d .value) → (anySeason (d .value) ≡ false) × (panics d ≡ false)
@@ -81,7 +76,7 @@ module _ (d : Date) (w : InDomain (d .value)) (t out : List ℕ) (h : length t �
   unfolding dateAfterwards left
   front-so = ap (λ (a : Written). take (length t) (left a t out)) answered-so ∙ take-append-seam t (drop (length t) out)
 
-  stored : (Back : List ℕ → Type 0) → Back t → Stored d t out Back
+  stored : (Back : List ℕ → Type 0) → Back t → StoredAs d t out Back
   stored Back b = record { measures = measured-so; answers = answered-so; back = subst Back (sym front-so) b }
 
 -- the text, which both readers read as the Date

@@ -65,7 +65,7 @@ module _ (ys ye ms me ds de : ℕ) where
       let a = year-list y ys ye in
       let n = m .0 + 1 in
       let b = two-list n ms me in
-      rw (year-is y h, value-is n (omega arith), a .0, a .1, year-field y h, b .0, b .1, month-field (m .0) p, no-day _ _)
+      rw (year-is y h, value-is n (omega arith), a .0, a .1, year-field y h, b .0, b .1, month-field (m .0) p, no-day (bytes (two n)))
   parts-back y (SomeMonth m) (SomeDay d) h p =
       let l = length-most (m .0) y in
       let a = year-list y ys ye in

@@ -13,15 +13,15 @@ use Rattle.scanner.specs.Class.{inClass}
 use Rattle.strict.specs.Digits.{digits}
 
 -- characters of a class, one behind the other
-pub data Run (k : Class) : List ℕ → Type 0 where
-  none : Run k []
-  more : (c : ℕ) {t : List ℕ} → inClass k c ≡ true → Run k t → Run k (encode c ++ t)
+pub data ClassRun (k : Class) : List ℕ → Type 0 where
+  none : ClassRun k []
+  more : (c : ℕ) {t : List ℕ} → inClass k c ≡ true → ClassRun k t → ClassRun k (encode c ++ t)
 
 -- one hyphen or more, and white space around them
 pub data Hyphens : List ℕ → Type 0 where
-  hyphens : {u h v : List ℕ} → Run Whitespace u → Run (Is (code "-")) h → 0 < length h → Run Whitespace v → Hyphens (u ++ (h ++ v))
+  hyphens : {u h v : List ℕ} → ClassRun Whitespace u → ClassRun (Is (code "-")) h → 0 < length h → ClassRun Whitespace v → Hyphens (u ++ (h ++ v))
 
 -- such a text, by its year and its month, which is counted from zero
 pub data DaysText : List ℕ → ℕ → ℕ → Type 0 where
-  dddd-mm-XX : {u h g v : List ℕ} {y m : ℕ} → Run Whitespace u → Hyphens h → Hyphens g → Run Whitespace v
+  dddd-mm-XX : {u h g v : List ℕ} {y m : ℕ} → ClassRun Whitespace u → Hyphens h → Hyphens g → ClassRun Whitespace v
       → DaysText (u ++ (digits 4 y ++ (h ++ (digits 2 (m + 1) ++ (g ++ (ascii "XX" ++ v)))))) y m

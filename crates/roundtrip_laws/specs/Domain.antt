@@ -7,12 +7,14 @@ use mathlib.Core.List.{List, _++_}
 use mathlib.Core.Logic.{_⊎_}
 use lib.IntN.{pos}
 use Rattle.dates.specs.declared.OptionTime.the-variants.{NoTime}
+use Rattle.dates.specs.declared.Datetime.{Datetime}
 use Rattle.dates.specs.declared.DateValue.{DateValue}
-use Rattle.dates.specs.declared.DateValue.the-variants.{At, After, Before, Between}
+use Rattle.dates.specs.declared.DateValue.the-variants.{Between}
 use Rattle.chars.specs.Ascii.{ascii}
 use Rattle.dates.specs.declared.Date.{Date}
 use Rattle.dates.specs.Calendar.{monthLength}
 use Rattle.dates.specs.Domain.{EndIn}
+use Rattle.dates.specs.Ends.{EachEnd}
 use Rattle.dates.specs.Value.{datetime, date, month, day}
 use Rattle.points.specs.Accepted.{Dated}
 use Rattle.strict.specs.Digits.{digits}
@@ -20,17 +22,11 @@ use Rattle.strict.specs.Grammar.{Field, Mark}
 
 -- every end of a Date
 abbrev pub InDomain : DateValue → Type 0
-InDomain (At a) = EndIn a
-InDomain (After a) = EndIn a
-InDomain (Before a) = EndIn a
-InDomain (Between a b) = EndIn a × EndIn b
+InDomain v = EachEnd EndIn v
 
 -- no end of a Date has a time
 abbrev pub Untimed : DateValue → Type 0
-Untimed (At a) = a .time ≡ NoTime
-Untimed (After a) = a .time ≡ NoTime
-Untimed (Before a) = a .time ≡ NoTime
-Untimed (Between a b) = (a .time ≡ NoTime) × (b .time ≡ NoTime)
+Untimed v = EachEnd (λ (a : Datetime). a .time ≡ NoTime) v
 
 -- a day-XX range in a month under 31 days, from the first to the 31st: the only Date without a time that is read and not of the domain
 pub data ShortMonthRange : DateValue → Type 0 where
@@ -39,10 +35,7 @@ pub data ShortMonthRange : DateValue → Type 0 where
 
 -- every end is a date of the calendar, with a good time or none
 abbrev pub AllDated : DateValue → Type 0
-AllDated (At a) = Dated a
-AllDated (After a) = Dated a
-AllDated (Before a) = Dated a
-AllDated (Between a b) = Dated a × Dated b
+AllDated v = EachEnd Dated v
 
 -- every Date that the ported reader gives: such a one, or the one exception
 abbrev pub Known : DateValue → Type 0

@@ -9,8 +9,8 @@ use Rattle.dates.specs.declared.OptionTime.the-variants.{NoTime}
 use Rattle.dates.specs.declared.OptionSeason.{OptionSeason}
 use Rattle.dates.specs.declared.Datetime.{Datetime}
 use Rattle.dates.specs.declared.DateValue.{DateValue}
-use Rattle.dates.specs.declared.DateValue.the-variants.{At, After, Before, Between}
 use Rattle.dates.specs.Domain.{EndIn}
+use Rattle.dates.specs.Ends.{EachEnd}
 use Rattle.dates.specs.Value.{datetime, seasonOf, isSeason, hasSeason}
 use Rattle.points.specs.Accepted.{Dated}
 
@@ -22,10 +22,7 @@ pub data LevelIn : Datetime → Type 0 where
 
 -- every end of a Date
 abbrev pub InLevel : DateValue → Type 0
-InLevel (At a) = LevelIn a
-InLevel (After a) = LevelIn a
-InLevel (Before a) = LevelIn a
-InLevel (Between a b) = LevelIn a × LevelIn b
+InLevel v = EachEnd LevelIn v
 
 -- one end as it is read: of the calendar and perhaps with a time, a season of a year, or a long year
 pub data Given : Datetime → Type 0 where

@@ -41,7 +41,7 @@ FieldsBack (Before a) s = EndBack false a s
 FieldsBack (Between a b) s = (t : List ℕ) × (u : List ℕ) × (s ≡ t ++ u) × EndBack false a t × EndBack true b u
 
 -- asked for a text of a Date with a lent buffer, the writer measures it, says how many bytes it stored, and the buffer's front is as is said
-pub record Stored (d : Date) (text out : List ℕ) (Back : List ℕ → Type 0) : Type 0 where
+pub record StoredAs (d : Date) (text out : List ℕ) (Back : List ℕ → Type 0) : Type 0 where
   -- the measure is the text's length
   pub measures : dateMeasured d text ≡ Length (length text)
   -- it is the answer too
@@ -51,8 +51,8 @@ pub record Stored (d : Date) (text out : List ℕ) (Back : List ℕ → Type 0) 
 
 -- the text is stored, and both readers read it as the Date
 abbrev pub TextStored : Date → List ℕ → Type 0
-TextStored d out = Stored d (dateText d) out (TextBack d)
+TextStored d out = StoredAs d (dateText d) out (TextBack d)
 
 -- the fields are stored, and read back
 abbrev pub FieldsStored : Date → List ℕ → Type 0
-FieldsStored d out = Stored d (fieldsText d) out (FieldsBack (d .value))
+FieldsStored d out = StoredAs d (fieldsText d) out (FieldsBack (d .value))

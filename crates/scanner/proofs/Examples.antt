@@ -8,7 +8,7 @@ use Prim.Native.Char.{code}
 use Rattle.chars.specs.Ascii.{ascii}
 use Rattle.chars.specs.Pick.{pick}
 use Rattle.chars.specs.Classes.{within, isWhitespace, isAsciiDigit, isNumeric, isAsciiAlphabetic, isAlphabetic, isAlphanumeric}
-use Rattle.chars.specs.Utf8.{lenOf, isCont, isSurrogate, two, three, four, decode, first, decodeAt}
+use Rattle.chars.specs.Utf8.{lenOf, isCont, isSurrogate, decode2, decode3, decode4, decode, first, decodeAt}
 use Rattle.scanner.specs.declared.Class.{Class}
 use Rattle.scanner.specs.declared.Class.the-variants.{Whitespace, PlainWhitespace, Numeric, AsciiDigit, AsciiAlphabetic, Alphanumeric, Sign, Separator, Is}
 use Rattle.scanner.specs.declared.EatIf.{EatIf}
@@ -100,15 +100,15 @@ eats =
     ∷ []
 
 pub stand-examples : map (λ (e : EatExample). standsAt (e .class) (e .text) (e .at)) eats ≡ map (λ (e : EatExample). e .stands) eats
-unfolding standsAt matchLen lenIn decodeAt first decode lenOf isCont isSurrogate two three inClass within isWhitespace isAsciiDigit isNumeric pick
+unfolding standsAt matchLen lenIn decodeAt first decode lenOf isCont isSurrogate decode2 decode3 inClass within isWhitespace isAsciiDigit isNumeric pick
 stand-examples = refl
 
 pub one-examples : map (λ (e : EatExample). eatIf (e .class) (e .text) (e .at)) eats ≡ map (λ (e : EatExample). e .one) eats
-unfolding eatIf matchLen lenIn decodeAt first decode lenOf isCont isSurrogate two three inClass within isWhitespace isAsciiDigit isNumeric pick
+unfolding eatIf matchLen lenIn decodeAt first decode lenOf isCont isSurrogate decode2 decode3 inClass within isWhitespace isAsciiDigit isNumeric pick
 one-examples = refl
 
 pub all-examples : map (λ (e : EatExample). eatWhile (e .class) (e .text) (e .at)) eats ≡ map (λ (e : EatExample). e .all) eats
-unfolding eatWhile walk matchLen lenIn decodeAt first decode lenOf isCont isSurrogate two three inClass within isWhitespace isAsciiDigit isNumeric pick
+unfolding eatWhile walk matchLen lenIn decodeAt first decode lenOf isCont isSurrogate decode2 decode3 inClass within isWhitespace isAsciiDigit isNumeric pick
 all-examples = refl
 
 -- a text and a place: the character there, and whether the text is over
@@ -129,7 +129,7 @@ nexts =
     ∷ []
 
 pub next-examples : map (λ (e : NextExample). eatAt (e .text) (e .at)) nexts ≡ map (λ (e : NextExample). e .next) nexts
-unfolding eatAt eaten decodeAt first decode lenOf isCont two four pick
+unfolding eatAt eaten decodeAt first decode lenOf isCont decode2 decode4 pick
 next-examples = refl
 
 pub over-examples : map (λ (e : NextExample). doneAt (e .text) (e .at)) nexts ≡ map (λ (e : NextExample). e .over) nexts

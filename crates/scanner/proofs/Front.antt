@@ -4,11 +4,11 @@ use mathlib.Core.Path.{_≡_, refl, sym, ap, _∙_}
 use mathlib.Core.Bool.{true, false}
 use mathlib.Core.List.{List, [], _∷_, _++_}
 use Prim.Native.Nat.{ℕ, _+_, _≤_, _<_}
-use native.Mathlib.Nat.{add-zero, add-sub-cancel-left}
+use native.Mathlib.Nat.{add-sub-cancel-left}
 use native.Mathlib.Omega.{arith}
 use borrow.Author.Tests.{le-leb}
-use lib.ListN.{length, getD, drop, length-drop}
-use lib.Seq.{getD-drop, drop-drop, drop-append-seam, take-append-seam}
+use lib.ListN.{length, drop, length-drop}
+use lib.Seq.{drop-drop, drop-append-seam, take-append-seam}
 use Rattle.chars.specs.Pick.{pick}
 use Rattle.chars.specs.Utf8.{first, decodeAt}
 use Rattle.chars.specs.declared.Decoded.the-variants.{Char}
@@ -38,9 +38,6 @@ module _ {s t : List ℕ} {i c : ℕ} (f : From s i (c ∷ t)) where
   -- a byte stands there
   pub front-inside : i < length s
   front-inside = omega (arith, length-drop i s, ap length (f .is))
-
-  pub front-byte : getD s i 0 ≡ c
-  front-byte = ap (λ (n : ℕ). getD s n 0) (sym (add-zero i)) ∙ sym (getD-drop i s 0 0) ∙ ap (λ (l : List ℕ). getD l 0 0) (f .is)
 
   -- and the rest stands behind it
   pub front-rest : From s (i + 1) t

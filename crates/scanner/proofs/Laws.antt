@@ -7,14 +7,14 @@ use Prim.Native.Nat.{ℕ, _+_, _-_, _≤_, _<_, zero-le}
 use native.Mathlib.Decide.{decLe}
 use native.Mathlib.Nat.{le-refl, lt-irrefl}
 use native.Mathlib.Omega.{arith}
-use lib.ListN.{length, getD, drop}
+use lib.ListN.{length, getD}
 use Rattle.chars.specs.Pick.{pick}
 use Rattle.chars.proofs.Classes.{printing-not-white}
 use Rattle.chars.specs.Utf8.{decodeAt, lenD}
 use Rattle.chars.specs.declared.Decoded.{Decoded}
 use Rattle.chars.specs.declared.Decoded.the-variants.{Char, Bad, End}
 use Rattle.chars.proofs.Cases.{by-test, of-test}
-use Rattle.chars.proofs.Laws.{fits, ascii, past-end, decode-same}
+use Rattle.chars.proofs.Laws.{fits, ascii, past-end}
 use Rattle.scanner.specs.declared.Class.{Class}
 use Rattle.scanner.specs.declared.Class.the-variants.{Whitespace}
 use Rattle.scanner.specs.Class.{inClass}
@@ -102,11 +102,6 @@ module _ (k : Class) (s : List ℕ) where
   -- what was eaten is not eaten again
   pub again : (at : ℕ) → eatWhile k s (eatWhile k s at) ≡ eatWhile k s at
   again at = stop (eatWhile k s at) (stopped at)
-
--- what matches at a place depends on what the text has from there on
-pub match-same : (k : Class) (s t : List ℕ) (i j : ℕ) → drop i s ≡ drop j t → matchLen k s i ≡ matchLen k t j
-unfolding matchLen
-match-same k s t i j e = ap (lenIn k) (decode-same s t i j e)
 
 -- a printing ASCII character is no white space
 pub not-white : (b : ℕ) → 0x20 < b → b < 0x80 → inClass Whitespace b ≡ false

@@ -1,5 +1,6 @@
 pub mod Walk
 pub mod Laws
+pub mod Blanks
 pub mod Prefix
 pub mod Digits
 pub mod Quicks

@@ -1,16 +1,13 @@
 -- Whether a text begins with another, byte by byte.
 -- Assumes nothing.
 use mathlib.Core.Path.{_≡_}
-use mathlib.Core.Bool.{true, false, false≢true}
-use mathlib.Core.List.{List, [], _∷_}
-use Prim.Native.Nat.{ℕ, _+_, _≤_, _<_, zero-le}
+use mathlib.Core.Bool.{true, false}
+use mathlib.Core.List.{List}
+use Prim.Native.Nat.{ℕ, _+_, _≤_, _<_}
 use native.Mathlib.Numerals.{add-one}
-use native.Mathlib.Omega.{arith}
 use borrow.Author.Tests.{eq-eqb, ne-eqb}
-use lib.Dec.{eqb}
 use lib.ListN.{length, getD, drop, drop-of-length-le}
 use lib.Seq.{drop-cons}
-use Rattle.chars.proofs.Cases.{and-true}
 use Rattle.scanner.specs.Scan.{begins}
 
 module _ (t s : List ℕ) (i : ℕ) (h : i < length t) where
@@ -32,10 +29,3 @@ module _ (t s : List ℕ) (i : ℕ) (h : i < length t) where
 pub begins-all : (t s : List ℕ) (i : ℕ) → length t ≤ i → begins (drop i t) (drop i s) ≡ true
 unfolding begins
 begins-all t s i h = rw (drop-of-length-le t h)
-
--- what a text begins with is no longer than it
-pub begins-length : (t s : List ℕ) → begins t s ≡ true → length t ≤ length s
-unfolding begins
-begins-length [] s e = zero-le
-begins-length (x ∷ t) [] e = absurd (false≢true e)
-begins-length (x ∷ t) (y ∷ s) e = let l = begins-length t s (and-true (eqb x y) (begins t s) e .1) in omega arith

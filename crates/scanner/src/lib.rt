@@ -1,6 +1,9 @@
 // The scanner: a cursor by value over a lent text, and what the readers eat at it.
 // The names are those of the scanner that the ported code uses; a text is passed beside its cursor. `Scanner` holds both.
 ghost use mathlib.Core.Path.{_≡_};
+ghost use mathlib.Core.Bool.{true};
+ghost use Prim.Native.Nat.{_+_, _≤_};
+ghost use lib.ListN.{length};
 ghost use Rattle.scanner.specs.Class.{inClass};
 ghost use Rattle.scanner.specs.Scan as spec;
 ghost use Rattle.scanner.specs.Quick.{Quick};
@@ -171,6 +174,54 @@ pub fn eat_while(s: &[u8], c: Cursor, class: Class) -> Cursor
     Cursor(eat_each(s, i, class))
 }
 
+// Whether sixty-four bytes are spaces. None of them decides where the loop goes on: the compiler takes them all at once.
+fn are_spaces(s: &[u8], at: usize) -> bool
+    requires { ⌜ at + 64 ≤ length (now s) ⌝ }
+    ensures { λ r. ⌜ (r ≡ true → spec.eatWhile Whitespace (now (s .entry)) (at + 64) ≡ spec.eatWhile Whitespace (now (s .entry)) at) ⌝ }
+{
+    let mut ok = true;
+    let mut i = 0;
+    while i < 64 {
+        ok = ok & (s[at + i] == b' ');
+        i = i + 1;
+    }
+    ok
+}
+
+// Past spaces, sixty-four at a time.
+fn eat_spaces(s: &[u8], at: usize) -> usize
+    ensures { λ r. ⌜ spec.eatWhile Whitespace (now (s .entry)) r ≡ spec.eatWhile Whitespace (now (s .entry)) at ⌝ }
+{
+    let mut i = at;
+    while i < s.len() {
+        if s.len() - i < 64 {
+            return i;
+        }
+        if are_spaces(s, i) {
+            i = i + 64;
+        } else {
+            return i;
+        }
+    }
+    i
+}
+
+// The place behind white space: there may be many spaces. A character of two bytes from U+00C0 on is none.
+fn eat_blanks(s: &[u8], at: usize) -> usize
+    ensures { λ r. ⌜ r ≡ spec.eatWhile Whitespace (now (s .entry)) at ⌝ }
+{
+    let b = chars::byte_at(s, at);
+    if b == b' ' {
+        return eat_each(s, eat_spaces(s, at), Class::Whitespace);
+    }
+    if 0xC3 <= b {
+        if b < 0xE0 {
+            return at;
+        }
+    }
+    eat_each(s, at, Class::Whitespace)
+}
+
 // Past the white space at the cursor. Mostly there is none: a printing ASCII character is looked at first.
 pub fn eat_whitespace(s: &[u8], c: Cursor) -> Cursor
     ensures { λ r. ⌜ r .0 ≡ spec.eatWhile Whitespace (now (s .entry)) (c .0) ⌝ }
@@ -184,7 +235,7 @@ pub fn eat_whitespace(s: &[u8], c: Cursor) -> Cursor
             }
         }
     }
-    Cursor(eat_each(s, at, Class::Whitespace))
+    Cursor(eat_blanks(s, at))
 }
 
 // Past the character at the cursor, if it is of the class.

@@ -22,7 +22,7 @@ use Rattle.dates.specs.Time.{inRange}
 use Rattle.dates.specs.Clocks.{offsetIn, zoneIn, clockIn, dayBesideMonth, badTime, hasBadTime}
 use Rattle.dates.proofs.Ends.{any-end}
 use Rattle.timed.specs.Answers.{valueBad}
-use Rattle.timed.specs.Faults.{Fault, no-month, no-day, hour-above, minute-above, second-above, offset-hours, offset-minutes, EndFault, FaultIn}
+use Rattle.timed.specs.Faults.{TimeFault, no-month, no-day, hour-above, minute-above, second-above, offset-hours, offset-minutes, EndFault, FaultIn}
 
 -- one false part makes all false
 false-last : (a : Bool) {b : Bool} → b ≡ false → a && b ≡ false
@@ -59,7 +59,7 @@ unfolding clockIn
 not-zone t e = false-last (inRange (t .hour) (t .minute) (t .second)) e
 
 -- a time with a cause is bad
-bad : {mo : OptionMonth} {da : OptionDay} {ti : OptionTime} → Fault mo da ti → badTime (dayBesideMonth mo da) ti ≡ true
+bad : {mo : OptionMonth} {da : OptionDay} {ti : OptionTime} → TimeFault mo da ti → badTime (dayBesideMonth mo da) ti ≡ true
 unfolding badTime dayBesideMonth zoneIn offsetIn
 bad no-month = refl
 bad no-day = refl
@@ -75,17 +75,17 @@ not-not false e = refl
 
 -- and a bad time has one
 module _ {mo : OptionMonth} {da : OptionDay} (t : Time) where
-  zone-cause : (o : OptionOffset) → t .offset ≡ o → zoneIn o ≡ false → Fault mo da (SomeTime t)
+  zone-cause : (o : OptionOffset) → t .offset ≡ o → zoneIn o ≡ false → TimeFault mo da (SomeTime t)
   unfolding zoneIn offsetIn
   zone-cause NoOffset e f = absurd (false≢true (sym f))
   zone-cause (SomeOffset o) e f = go o e f
     where
-      go : (o : TimeOffset) → t .offset ≡ SomeOffset o → offsetIn o ≡ false → Fault mo da (SomeTime t)
+      go : (o : TimeOffset) → t .offset ≡ SomeOffset o → offsetIn o ≡ false → TimeFault mo da (SomeTime t)
       go Utc e f = absurd (false≢true (sym f))
       go (Offset p h m) e f =
           of-test (leb h 23) (λ q. offset-minutes e (leb-false m 59 (rw q at f))) (λ q. offset-hours e (leb-false h 23 q))
 
-  clock-cause : clockIn t ≡ false → Fault mo da (SomeTime t)
+  clock-cause : clockIn t ≡ false → TimeFault mo da (SomeTime t)
   unfolding clockIn inRange
   clock-cause e =
       of-test (leb (t .hour) 23)
@@ -95,7 +95,7 @@ module _ {mo : OptionMonth} {da : OptionDay} (t : Time) where
       (λ q. minute-above (leb-false (t .minute) 59 q)))
       (λ p. hour-above (leb-false (t .hour) 23 p))
 
-cause : (mo : OptionMonth) (da : OptionDay) (ti : OptionTime) → badTime (dayBesideMonth mo da) ti ≡ true → Fault mo da ti
+cause : (mo : OptionMonth) (da : OptionDay) (ti : OptionTime) → badTime (dayBesideMonth mo da) ti ≡ true → TimeFault mo da ti
 unfolding badTime dayBesideMonth
 cause mo da NoTime e = absurd (false≢true e)
 cause NoMonth da (SomeTime t) e = no-month

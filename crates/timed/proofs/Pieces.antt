@@ -1,5 +1,5 @@
 -- How long the texts are, and the pieces that they are put together of. Over plain variables. Assumes nothing.
-use mathlib.Core.Path.{_≡_, refl, sym}
+use mathlib.Core.Path.{_≡_, sym}
 use mathlib.Core.Bool.{Bool}
 use mathlib.Core.List.{_++_}
 use Prim.Native.Nat.{ℕ, _+_, _≤_}
@@ -22,15 +22,6 @@ use Rattle.writer.specs.Texts.{datetimeText, dateText}
 use Rattle.puts.specs.Marks.{markText}
 use Rattle.writer.specs.Texts as untimed
 use Rattle.timed.specs.Texts.{field, sign, offsetText, zoneText, clockText, timeText, endText, valueText, timedText, timesText}
-
--- a character and two digits are three bytes
-pub field-length : (c n : ℕ) → length (field c n) ≡ 3
-unfolding field
-field-length c n = refl
-
-pub offset-length : (p : Bool) (h m : ℕ) → length (offsetText (Offset p h m)) ≡ 6
-unfolding offsetText field
-offset-length p h m = refl
 
 -- a time is nine bytes and its offset
 pub clock-length : (t : Time) → length (clockText t) ≡ 9 + length (zoneText (t .offset))

@@ -8,13 +8,12 @@ use native.Mathlib.Omega.{arith}
 use lib.Dec.{leb}
 use lib.IntN.{ℤ, negsuc}
 use lib.ListN.{length}
-use borrow.Author.Tests.{ne-eqb, le-leb, lt-leb, leb-true, leb-false}
+use borrow.Author.Tests.{le-leb, lt-leb, leb-true, leb-false}
 use Rattle.chars.specs.Pick.{pick}
 use Rattle.chars.proofs.Cases.{of-test}
 use Rattle.refusals.specs.declared.Kind.the-variants.{RustPanics, NoRoom, BadTime, HasSeason}
 use Rattle.refusals.specs.Refusal.{number, refusal, nowhere}
 use Rattle.dates.specs.declared.OptionMonth.{OptionMonth}
-use Rattle.dates.specs.declared.OptionMonth.the-variants.{NoMonth, SomeMonth}
 use Rattle.dates.specs.declared.OptionDay.{OptionDay}
 use Rattle.dates.specs.declared.OptionDay.the-variants.{NoDay, SomeDay}
 use Rattle.dates.specs.declared.TimeOffset.the-variants.{Offset}
@@ -29,11 +28,11 @@ use Rattle.dates.specs.declared.Date.{Date}
 use Rattle.dates.specs.Domain.{PartsIn}
 use Rattle.dates.specs.Time.{time, inRange}
 use Rattle.dates.specs.Value.{month, day, datetime, isSeason, hasSeason, anySeason, date}
-use Rattle.dates.proofs.Lengths.{length-most}
 use Rattle.dates.proofs.Ends.{no-end}
 use Rattle.refusals.specs.declared.ReadDate.the-variants.{Accepted}
 use Rattle.reading_laws.specs.Field.{parsed, parsedStrict}
 use Rattle.roundtrip_laws.specs.Domain.{Untimed}
+use Rattle.roundtrip_laws.proofs.Stored.{calendar-written}
 use Rattle.puts.specs.declared.Measured.{Measured}
 use Rattle.puts.specs.declared.Measured.the-variants.{Length, NoLength}
 use Rattle.puts.specs.declared.Written.{Written}
@@ -51,7 +50,7 @@ use Rattle.timed.specs.Texts.{field, sign, offsetText, zoneText, clockTe
 use Rattle.dates.specs.Clocks.{offsetIn, zoneIn, clockIn, dayBesideMonth, badTime, hasBadTime}
 use Rattle.chunks.specs.Chunks.{oneChunk}
 use Rattle.timed.specs.Answers.{valueBad, plainMeasured, timedMeasured, timedAnswer, timedAfterwards, shown}
-use Rattle.timed.specs.Faults.{Fault, no-month, no-day, hour-above, minute-above, second-above, offset-hours, offset-minutes, EndFault, FaultIn}
+use Rattle.timed.specs.Faults.{TimeFault, no-month, no-day, hour-above, minute-above, second-above, offset-hours, offset-minutes, EndFault, FaultIn}
 use Rattle.timed.specs.Domain.{ZoneIn, ClockIn, TimeIn, TimedIn, InTimed}
 use Rattle.timed.proofs.Pieces.{timed-most}
 use Rattle.timed.proofs.Answered.{seasoned, plain}
@@ -268,17 +267,9 @@ season-measured d = (λ e. season-exactly d 0 .0 (ap (λ (m : Measured). decided
 -- ---- no Date of the domain is refused
 
 -- no end of it panics
-parts-known : (y : ℤ) (m : OptionMonth) (d : OptionDay) → PartsIn y m d → tooLarge (monthParts m d) ≡ false
-unfolding tooLarge monthParts dayParts pick
-parts-known y NoMonth d w = refl
-parts-known y (SomeMonth m) NoDay w = rw (ne-eqb (m .0) 255 (λ (e : m .0 ≡ 255). omega arith))
-parts-known y (SomeMonth m) (SomeDay d) w =
-    let l = length-most (m .0) y in
-    rw (ne-eqb (m .0) 255 (λ (e : m .0 ≡ 255). omega (arith, w .0)), ne-eqb (d .0) 255 (λ (e : d .0 ≡ 255). omega (arith, w .1)))
-
 end-known : (d : Datetime) → TimedIn d → endPanics d ≡ false
 unfolding endPanics partsOf
-end-known d w = parts-known (d .year) (d .month) (d .day) (w .parts-in)
+end-known d w = calendar-written (d .year) (d .month) (d .day) (w .parts-in)
 
 value-known : (v : DateValue) → InTimed v → valuePanics v ≡ false
 unfolding valuePanics
@@ -296,7 +287,7 @@ in-clock : (d : OptionDay) {t : Time} → TimeIn d (SomeTime t) → ClockIn t
 in-clock NoDay w = absurd w
 in-clock (SomeDay d) w = w
 
-parts-sound : (y : ℤ) (m : OptionMonth) (d : OptionDay) {t : OptionTime} → PartsIn y m d → TimeIn d t → Fault m d t → ⊥
+parts-sound : (y : ℤ) (m : OptionMonth) (d : OptionDay) {t : OptionTime} → PartsIn y m d → TimeIn d t → TimeFault m d t → ⊥
 parts-sound y m NoDay w k (no-month) = k
 parts-sound y m (SomeDay d) w k (no-month) = w
 parts-sound y m d w k (no-day) = k

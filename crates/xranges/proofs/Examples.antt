@@ -6,7 +6,7 @@ use Prim.Native.Nat.{ℕ}
 use lib.IntN.{pos}
 use Rattle.chars.specs.Pick.{pick}
 use Rattle.chars.specs.Classes.{within, isWhitespace, isAsciiDigit}
-use Rattle.chars.specs.Utf8.{lenOf, isCont, two, decode, first, decodeAt}
+use Rattle.chars.specs.Utf8.{lenOf, isCont, decode2, decode, first, decodeAt}
 use Rattle.scanner.specs.Class.{inClass}
 use Rattle.scanner.specs.Scan.{lenIn, matchLen, walk, eatWhile, doneAt, part}
 use Rattle.refusals.specs.declared.Kind.the-variants.{MonthOutOfRange, WrongNumberOfDigits, InvalidFormat, RustPanics}
@@ -74,5 +74,5 @@ table =
     ∷ []
 
 pub examples : map (λ (e : Example). rangeDates (e .text)) table ≡ map (λ (e : Example). e .says) table
-unfolding pick within isWhitespace isAsciiDigit lenOf isCont two decode first decodeAt inClass lenIn matchLen walk eatWhile doneAt part digitOf wholeValue digitsFrom parse hyphenRun hyphenFrom getHyphen onHyphen onValue years months days secondRun secondAt behindMonths endOfDays dayRun behindMonth monthRun month monthsRun behindYear yearRun digitRun rangeFrom rangeDates
+unfolding pick within isWhitespace isAsciiDigit lenOf isCont decode2 decode first decodeAt inClass lenIn matchLen walk eatWhile doneAt part digitOf wholeValue digitsFrom parse hyphenRun hyphenFrom getHyphen onHyphen onValue years months days secondRun secondAt behindMonths endOfDays dayRun behindMonth monthRun month monthsRun behindYear yearRun digitRun rangeFrom rangeDates
 examples = refl

@@ -1,12 +1,12 @@
 use Rattle.chars.specs.Pick.{pick}
-use Rattle.chars.specs.Utf8.{four}
+use Rattle.chars.specs.Utf8.{decode4}
 use borrow.Author.Tests.{le-leb, lt-leb}
 use borrow.Author.Needs.{needs}
 use Rattle.chars.proofs.four.Statement.{statement}
 use Rattle.chars.proofs.four.Tie as tie
 
 returns : tie.Need-returns
-unfolding four pick
+unfolding decode4 pick
 returns c =
     let b1 = c .before in
     let b2 = b1 .before in
@@ -22,7 +22,7 @@ returns c =
     simp (← b11 .is-cont .ensures, b10 .if1 .taken, ← b9 .is-cont2 .ensures, b8 .if2 .taken, ← b7 .is-cont3 .ensures, b6 .if3 .taken, ← b5 .head4 .ensures, ← b4 .join .ensures, ← b3 .join2 .ensures, ← b2 .join3 .ensures, le-leb _ _ (b1 .if4 .taken), le-leb _ _ (c .if5 .taken))
 
 returns-2 : tie.Need-returns-2
-unfolding four pick
+unfolding decode4 pick
 returns-2 c =
     let b1 = c .before in
     let b2 = b1 .before in
@@ -38,7 +38,7 @@ returns-2 c =
     simp (← b11 .is-cont .ensures, b10 .if1 .taken, ← b9 .is-cont2 .ensures, b8 .if2 .taken, ← b7 .is-cont3 .ensures, b6 .if3 .taken, ← b5 .head4 .ensures, ← b4 .join .ensures, ← b3 .join2 .ensures, ← b2 .join3 .ensures, le-leb _ _ (b1 .if4 .taken), lt-leb _ _ (c .if5 .left))
 
 returns-3 : tie.Need-returns-3
-unfolding four pick
+unfolding decode4 pick
 returns-3 c =
     let b1 = c .before in
     let b2 = b1 .before in
@@ -53,7 +53,7 @@ returns-3 c =
     simp (← b10 .is-cont .ensures, b9 .if1 .taken, ← b8 .is-cont2 .ensures, b7 .if2 .taken, ← b6 .is-cont3 .ensures, b5 .if3 .taken, ← b4 .head4 .ensures, ← b3 .join .ensures, ← b2 .join2 .ensures, ← b1 .join3 .ensures, lt-leb _ _ (c .if4 .left))
 
 returns-4 : tie.Need-returns-4
-unfolding four pick
+unfolding decode4 pick
 returns-4 c =
     let b1 = c .before in
     let b2 = b1 .before in
@@ -63,7 +63,7 @@ returns-4 c =
     simp (← b5 .is-cont .ensures, b4 .if1 .taken, ← b3 .is-cont2 .ensures, b2 .if2 .taken, ← b1 .is-cont3 .ensures, c .if3 .left)
 
 returns-5 : tie.Need-returns-5
-unfolding four pick
+unfolding decode4 pick
 returns-5 c =
     let b1 = c .before in
     let b2 = b1 .before in
@@ -71,7 +71,7 @@ returns-5 c =
     simp (← b3 .is-cont .ensures, b2 .if1 .taken, ← b1 .is-cont2 .ensures, c .if2 .left)
 
 returns-6 : tie.Need-returns-6
-unfolding four pick
+unfolding decode4 pick
 returns-6 c =
     let b1 = c .before in
     simp (← b1 .is-cont .ensures, c .if1 .left)

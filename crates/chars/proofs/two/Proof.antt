@@ -1,12 +1,12 @@
 use Rattle.chars.specs.Pick.{pick}
-use Rattle.chars.specs.Utf8.{two}
+use Rattle.chars.specs.Utf8.{decode2}
 use borrow.Author.Tests.{le-leb, lt-leb}
 use borrow.Author.Needs.{needs}
 use Rattle.chars.proofs.two.Statement.{statement}
 use Rattle.chars.proofs.two.Tie as tie
 
 returns : tie.Need-returns
-unfolding two pick
+unfolding decode2 pick
 returns c =
     let b1 = c .before in
     let b2 = b1 .before in
@@ -15,7 +15,7 @@ returns c =
     simp (← b4 .is-cont .ensures, b3 .if1 .taken, ← b2 .head2 .ensures, ← b1 .join .ensures, le-leb _ _ (c .if2 .taken))
 
 returns-2 : tie.Need-returns-2
-unfolding two pick
+unfolding decode2 pick
 returns-2 c =
     let b1 = c .before in
     let b2 = b1 .before in
@@ -24,7 +24,7 @@ returns-2 c =
     simp (← b4 .is-cont .ensures, b3 .if1 .taken, ← b2 .head2 .ensures, ← b1 .join .ensures, lt-leb _ _ (c .if2 .left))
 
 returns-3 : tie.Need-returns-3
-unfolding two pick
+unfolding decode2 pick
 returns-3 c =
     let b1 = c .before in
     simp (← b1 .is-cont .ensures, c .if1 .left)

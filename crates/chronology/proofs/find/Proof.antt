@@ -2,14 +2,14 @@ use lib.ListN.{take, drop}
 use native.Mathlib.Omega.{arith}
 use Prim.Native.Nat.{_+_, _-_, _≤_}
 use mathlib.Core.Path.{_≡_, refl, sym, _∙_}
-use Rattle.chronology.specs.Store.{placeOf}
+use Rattle.chronology.specs.Store.{indexOf}
 use Rattle.chronology.proofs.Columns.{found, passed, missing}
 use Rattle.chronology.proofs.find.Statement.{statement}
 use Rattle.chronology.proofs.find.Tie as tie
 
 abbrev Inv-loop : tie.InvT-loop
 Inv-loop ids from count id i₀ i =
-    (from + placeOf id (drop from (take count ids)) ≡ i + placeOf id (drop i (take count ids))) × (i ≤ count)
+    (from + indexOf id (drop from (take count ids)) ≡ i + indexOf id (drop i (take count ids))) × (i ≤ count)
 
 abbrev μ-loop : tie.MeasureT-loop
 μ-loop ids from count id i₀ i = count - i

@@ -1,29 +1,32 @@
-use Rattle.chunks.specs.Plain.{allAscii}
-use Rattle.chunks.proofs.Lengths.{ascii-on, ascii-not, ascii-all}
-use lib.ListN.{length, drop}
-use Prim.Native.Nat.{_-_, _≤_}
 use native.Mathlib.Omega.{arith}
-use mathlib.Core.Path.{sym, _∙_, refl, _≡_}
+use mathlib.Core.Path.{_≡_, refl, sym, ap, _∙_}
+use mathlib.Core.Bool.{Bool, _&&_, and-true, and-assoc}
+use Prim.Native.Nat.{_-_, _≤_}
+use lib.ListN.{length, drop}
+use Rattle.chunks.specs.Plain.{allAscii}
+use Rattle.chunks.proofs.Lengths.{ascii-step, ascii-all}
 use Rattle.chunks.proofs.all_ascii.Statement.{statement}
 use Rattle.chunks.proofs.all_ascii.Tie as tie
 
 abbrev Inv-loop : tie.InvT-loop
-Inv-loop t i₀ i = (allAscii (drop i t) ≡ allAscii t) × (i ≤ length t)
+Inv-loop t ok₀ i₀ ok i = ((ok && allAscii (drop i t)) ≡ allAscii t) × (i ≤ length t)
 
 abbrev μ-loop : tie.MeasureT-loop
-μ-loop t i₀ i = length t - i
-
-loop-holds : tie.Need-loop-holds Inv-loop μ-loop
-loop-holds c = (refl, omega arith)
-
-returns : tie.Need-returns Inv-loop μ-loop
-returns c = sym (ascii-not _ _ (c .before .before .loop-test .taken) (c .if1 .taken)) ∙ c .before .before .before .loop .inv .0
+μ-loop t ok₀ i₀ ok i = length t - i
 
 loop-again : tie.Need-loop-again Inv-loop μ-loop
-loop-again c = (sym (ascii-on _ _ (c .before .before .loop-test .taken) (c .if1 .left)) ∙ c .before .before .before .loop .inv .0, omega arith)
+loop-again c =
+    let t = c .before .before .before .args .t .now in
+    let l = c .before .before .loop in
+    let k = l .ok in
+    (and-assoc k _ _ ∙ ap (λ (r : Bool). k && r) (sym (ascii-step t (l .i) (c .before .loop-test .taken))) ∙ l .inv .0, omega arith)
 
-returns-2 : tie.Need-returns-2 Inv-loop μ-loop
-returns-2 c = sym (ascii-all _ _ (c .loop-test .left)) ∙ c .before .loop .inv .0
+returns : tie.Need-returns Inv-loop μ-loop
+returns c =
+    let t = c .before .before .args .t .now in
+    let l = c .before .loop in
+    let k = l .ok in
+    sym (and-true k) ∙ ap (λ (r : Bool). k && r) (sym (ascii-all t (l .i) (c .loop-test .left))) ∙ l .inv .0
 
 pub all-ascii-spec : {M : Type 1} → statement M
 all-ascii-spec =
@@ -31,10 +34,9 @@ all-ascii-spec =
     (tie.spec
     Inv-loop
     μ-loop
-    loop-holds
+    (λ c. (refl, omega arith))
     (λ c. omega arith)
-    returns
     (λ c. omega arith)
     (λ c. omega arith)
     loop-again
-    returns-2)
+    returns)

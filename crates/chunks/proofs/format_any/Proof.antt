@@ -1,7 +1,7 @@
 use Rattle.chunks.specs.Format.{formatted}
 use Rattle.chunks.specs.Answer.{textOf}
 use Rattle.chunks.specs.Upper.{uppercase}
-use Rattle.chunks.proofs.Answers.{raised-text, plain-as-is, same-long, no-room, clean-fits, faulted, raised, room-is, texted, upper-same}
+use Rattle.chunks.proofs.Answers.{raised-text, plain-as-is, same-long, no-room, clean-fits, clean-faultless, faulted, raised, room-is, texted, upper-same}
 use lib.Seq.{length-take-le, sets}
 use native.Mathlib.Omega.{arith}
 use mathlib.Core.Path.{sym, ap, _∙_, _≡_}
@@ -23,7 +23,8 @@ returns c =
 put-list-requires : tie.Need-put-list-requires
 put-list-requires c κs =
     let a = c .before .before .before .before .before .before .before .before .args in
-    (clean-fits (a .bytes .now) (a .table .now) (sym (c .before .before .before .before .check .ensures) ∙ c .before .before .enum-told .given .1), omega (arith, room-is (a .bytes .now) (a .table .now)))
+    let h = sym (c .before .before .before .before .check .ensures) ∙ c .before .before .enum-told .given .1 in
+    (clean-fits (a .bytes .now) (a .table .now) h, (omega (arith, room-is (a .bytes .now) (a .table .now)), clean-faultless (a .bytes .now) (a .table .now) h))
 
 slice-aggregate-upper-all : tie.Need-slice-aggregate-upper-all
 slice-aggregate-upper-all c =

@@ -4,13 +4,17 @@ use Rattle.chunks.proofs.Tables.{chunks-over, chunks-at}
 use Rattle.chunks.proofs.Fill.{Filling, fill-start, fill-put, fill-end}
 use Rattle.chunks.specs.Format.{chunksOut, chunkOut, formatted}
 use Rattle.chunks.specs.Chunks.{chunksOf}
-use Rattle.chunks.proofs.Turn.{text-length, standing-start, whole, standing-on, sums, out-turn, Standing}
+use Rattle.chunks.proofs.Turn.{text-length, standing-start, whole, standing-on, sums, fault-turn, out-turn, Standing}
+use Rattle.chunks.proofs.Proper.{clean-is, else-clean}
+use Rattle.chunks.specs.declared.Checked.the-variants.{Clean}
+use Rattle.chunks.specs.Characters.{characters}
+use Rattle.chunks.specs.Check.{faultIn, faultOf}
 use mathlib.Core.Bool.{Bool}
 use mathlib.Core.List.{List}
 use lib.ListN.{length, take, drop, getD}
 use Prim.Native.Nat.{_+_, _-_, _*_, _≤_, ℕ}
 use native.Mathlib.Omega.{arith}
-use mathlib.Core.Path.{ap}
+use mathlib.Core.Path.{_≡_, ap, _∙_}
 use Rattle.chunks.proofs.put_list.Statement.{statement}
 use Rattle.chunks.proofs.put_list.Tie as tie
 
@@ -18,6 +22,7 @@ use Rattle.chunks.proofs.put_list.Tie as tie
 record Listed (bytes table buf₀ buf : List ℕ) (at k n : ℕ) (w : Bool) : Type 0 where
   fill : Filling buf₀ 0 (formatted bytes table) buf n (chunksOut w (drop at bytes) (chunksOf (drop k table)))
   stands : Standing bytes table at k
+  clean : faultOf at (drop at bytes) (chunksOf (drop k table)) ≡ Clean
   room : n + (length bytes - at) + 2 * length (chunksOf (drop k table)) ≤ length buf
 
 abbrev Inv-loop : tie.InvT-loop
@@ -47,9 +52,13 @@ module _ (c : tie.In-loop Inv-loop μ-loop) where
   abbrev text : List ℕ
   text = take (at + getD table (k + 1) 0 - at) (drop at bytes)
 
+  -- neither the chunk nor those behind it have a fault
+  faultless : (faultIn at (characters text) ≡ Clean) × (faultOf (at + getD table (k + 1) 0) (drop (at + getD table (k + 1) 0) bytes) (chunksOf (drop (k + 4) table)) ≡ Clean)
+  faultless = else-clean (faultIn at (characters text)) (fault-turn st (c .loop-test .taken) ∙ c .before .loop .inv .clean)
+
 loop-holds : tie.Need-loop-holds Inv-loop μ-loop
 unfolding formatted roomOf
-loop-holds c = record { fill = fill-start _ _ _; stands = standing-start _ _ (c .before .before .before .pre .0); room = omega (arith, c .before .before .before .pre .1) }
+loop-holds c = let q = c .before .before .before .pre in record { fill = fill-start _ _ _; stands = standing-start _ _ (q .0); clean = q .1 .1; room = omega (arith, q .1 .0) }
 
 mul-len : tie.Need-mul-len Inv-loop μ-loop
 mul-len c = let p = c .before in omega (arith, whole (st p) (p .loop-test .taken))
@@ -68,7 +77,7 @@ put-chunk-requires c κs =
     let p = c .before .before .before .before in
     let n = text-length (st p) (p .loop-test .taken) in
     let m = ap length (chunks-at (table p) (k p) (whole (st p) (p .loop-test .taken))) in
-    omega (arith, n, m, sums (st p) (p .loop-test .taken), p .before .loop .inv .room)
+    (omega (arith, n, m, sums (st p) (p .loop-test .taken), p .before .loop .inv .room), clean-is (at p) (text p) (faultless p .0))
 
 add-at : tie.Need-add-at Inv-loop μ-loop
 add-at c = let p = c .before .before .before .before .before .before .before in omega (arith, sums (st p) (p .loop-test .taken))
@@ -89,6 +98,7 @@ loop-again c =
     record {
       fill = rw (e .1) (fill-put (chunkOut w (getD (table p) (k p) 0) (text p)) (rw (out-turn (st p) t w) at (v .fill)) (e .0) (e .2));
       stands = standing-on (st p) t;
+      clean = faultless p .1;
       room =
           omega (
             arith,

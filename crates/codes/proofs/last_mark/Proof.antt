@@ -1,6 +1,5 @@
 use Rattle.datefield.specs.Text.{lastByte, isUncertain, isApproximate}
 use mathlib.Core.Path.{refl}
-use native.Mathlib.Omega.{arith}
 use Rattle.datefield.proofs.Finding.{last-none}
 use borrow.Author.Needs.{needs}
 use Rattle.codes.proofs.last_mark.Statement.{statement}

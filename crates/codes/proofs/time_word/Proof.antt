@@ -1,5 +1,4 @@
 use native.Mathlib.Omega.{arith}
-use mathlib.Core.Path.{refl}
 use borrow.Author.Needs.{needs}
 use Rattle.codes.proofs.time_word.Statement.{statement}
 use Rattle.codes.proofs.time_word.Tie as tie

@@ -1,13 +1,12 @@
-use mathlib.Core.Path.{ap, subst}
-use Rattle.knobstream.specs.Plain.{read}
-use Rattle.knobstream.specs.Layout.{Answered}
+use mathlib.Core.Path.{ap, _∙_}
+use Rattle.knobstream.specs.Layout.{listed}
+use Rattle.knobstream.proofs.Words.{read-answered}
 use borrow.Author.Needs.{needs}
 use Rattle.knobstream.proofs.knobstream_parse_level_one.Statement.{statement}
 use Rattle.knobstream.proofs.knobstream_parse_level_one.Tie as tie
 
 returns : tie.Need-returns
-returns c = subst (Answered _) (ap read (c .before .before .parse-level-one .ensures)) (c .put-read .ensures)
+returns c = let w = c .before .level-words .ensures in read-answered _ (w .1) (c .put .ensures ∙ ap listed (w .0))
 
 pub knobstream-parse-level-one-spec : {M : Type 1} → statement M
-knobstream-parse-level-one-spec =
-    tie.close (tie.spec (λ c κs. search needs) (λ c κs. search needs) returns)
+knobstream-parse-level-one-spec = tie.close (tie.spec (λ c κs. search needs) (λ c κs. search needs) returns)

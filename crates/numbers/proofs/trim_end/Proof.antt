@@ -1,35 +1,28 @@
 use Rattle.numbers.proofs.Trims.{step-fits, trim-go, trim-stop}
-use Rattle.numbers.specs.Trim.{trimEnd, trimFrom, trimEnd}
+use Rattle.numbers.specs.Trim.{trimFrom, trimEnd}
 use lib.ListN.{length}
 use Prim.Native.Nat.{_-_, _≤_, _<_}
 use borrow.Author.Needs.{needs}
 use native.Mathlib.Omega.{arith}
-use mathlib.Core.Path.{sym, _∙_, refl, _≡_}
+use mathlib.Core.Path.{sym, _∙_, _≡_}
 use Rattle.numbers.proofs.trim_end.Statement.{statement}
 use Rattle.numbers.proofs.trim_end.Tie as tie
 
 abbrev Inv-loop : tie.InvT-loop
-Inv-loop s i₀ i = trimFrom s i ≡ trimFrom s 0
+Inv-loop s i₀ i = trimFrom s i ≡ trimEnd s
 
 abbrev μ-loop : tie.MeasureT-loop
 μ-loop s i₀ i = length s - i
 
 -- what a turn knows: the step is not 0, and lies within the text
-fits : (c : tie.Else1 Inv-loop μ-loop) → (0 < c .before .trim-step .result) × (c .before .trim-step .result ≤ length (c .before .before .before .before .args .s .now) - c .before .before .loop .i)
-fits c = omega (arith, step-fits (c .before .before .before .before .args .s .now) (c .before .before .loop .i))
-
-loop-holds : tie.Need-loop-holds Inv-loop μ-loop
-loop-holds c = refl
+fits : (c : tie.Else2 Inv-loop μ-loop) → (0 < c .before .trim-step .result) × (c .before .trim-step .result ≤ length (c .before .before .before .before .before .before .args .s .now) - c .before .before .loop .i)
+fits c = omega (arith, step-fits (c .before .before .before .before .before .before .args .s .now) (c .before .before .loop .i))
 
 returns : tie.Need-returns Inv-loop μ-loop
-unfolding trimEnd
-returns c = sym (trim-stop _ _ (sym (c .before .trim-step .ensures) ∙ c .if1 .taken)) ∙ c .before .before .loop .inv
+returns c = let e = c .before .trim-strides .ensures in sym (trim-stop _ _ (e .1 (c .if1 .taken))) ∙ e .0
 
-add-i : tie.Need-add-i Inv-loop μ-loop
-add-i c = omega (arith, fits c)
-
-loop-less : tie.Need-loop-less Inv-loop μ-loop
-loop-less c = omega (arith, fits c)
+returns-2 : tie.Need-returns-2 Inv-loop μ-loop
+returns-2 c = sym (trim-stop _ _ (sym (c .before .trim-step .ensures) ∙ c .if2 .taken)) ∙ c .before .before .loop .inv
 
 loop-again : tie.Need-loop-again Inv-loop μ-loop
 loop-again c = rw (c .before .trim-step .ensures) (sym (trim-go _ _ (omega (arith, fits c))) ∙ c .before .before .loop .inv)
@@ -37,4 +30,14 @@ loop-again c = rw (c .before .trim-step .ensures) (sym (trim-go _ _ (omega (arit
 pub trim-end-spec : {M : Type 1} → statement M
 trim-end-spec =
     tie.close
-    (tie.spec Inv-loop μ-loop loop-holds (λ c κs. search needs) returns add-i loop-less loop-again)
+    (tie.spec
+    Inv-loop
+    μ-loop
+    (λ c κs. search needs)
+    returns
+    (λ c. c .before .trim-strides .ensures .0)
+    (λ c κs. search needs)
+    returns-2
+    (λ c. omega (arith, fits c))
+    (λ c. omega (arith, fits c))
+    loop-again)

@@ -1,17 +1,23 @@
-use Rattle.reader.specs.Once.{atOncePorted}
+use mathlib.Core.Path.{_≡_, sym, _∙_}
+use Prim.Native.Nat.{_<_}
+use native.Mathlib.Omega.{arith}
+use lib.Dec.{eqb}
+use lib.ListN.{length}
+use borrow.Author.Tests.{eqb-true}
 use Rattle.chars.specs.Pick.{pick}
-use borrow.Author.Tests.{eq-eqb, ne-eqb}
+use Rattle.chars.proofs.Cases.{and-true}
+use Rattle.codes.specs.Lists.{oneNormal, listPorted}
 use borrow.Author.Needs.{needs}
 use Rattle.reader.proofs.at_once_ported.Statement.{statement}
 use Rattle.reader.proofs.at_once_ported.Tie as tie
 
 returns : tie.Need-returns
-unfolding atOncePorted pick
-returns c = simp (← c .before .byte-at .ensures, eq-eqb _ _ (c .if1 .taken))
+unfolding listPorted pick
+returns c = simp (← c .before .before .before .is-one-normal .ensures, c .before .before .if1 .taken) (c .ported-from .ensures)
 
 returns-2 : tie.Need-returns-2
-unfolding atOncePorted pick
-returns-2 c = simp (← c .before .before .byte-at .ensures, ne-eqb _ _ (c .before .if1 .left), ← c .at-once .ensures)
+unfolding listPorted pick
+returns-2 c = simp (← c .before .before .is-one-normal .ensures, c .before .if1 .left) (c .no-words .ensures)
 
 pub at-once-ported-spec : {M : Type 1} → statement M
-at-once-ported-spec = tie.close (tie.spec (λ c κs. search needs) returns (λ c κs. search needs) returns-2)
+at-once-ported-spec = tie.close (tie.spec (λ c κs. search needs) (λ c. search needs) (λ c κs. search needs) returns (λ c κs. search needs) returns-2)

@@ -1,4 +1,4 @@
-use Rattle.reader.specs.Once.{oneNormal}
+use Rattle.codes.specs.Lists.{oneNormal}
 use borrow.Author.Tests.{eq-eqb, ne-eqb}
 use borrow.Author.Needs.{needs}
 use Rattle.reader.proofs.is_one_normal.Statement.{statement}

@@ -1,0 +1,39 @@
+use mathlib.Core.Path.{_≡_, refl, sym, ap, _∙_}
+use mathlib.Core.Option.{none, some}
+use borrow.Author.Tests.{lt-ltb, le-ltb}
+use Rattle.chars.specs.Pick.{pick}
+use Rattle.codes.specs.declared.Words.{Words}
+use Rattle.codes.specs.Words.{wordsOr}
+use Rattle.codes.specs.Points.{onSome}
+use Rattle.codes.specs.Ported.{ported}
+use Rattle.codes.proofs.Laws.{told, untold}
+use Rattle.codes.proofs.Places.{ported-movable}
+use borrow.Author.Needs.{needs}
+use Rattle.reader.proofs.ported_from.Statement.{statement}
+use Rattle.reader.proofs.ported_from.Tie as tie
+
+returns : tie.Need-returns
+unfolding onSome pick
+returns c =
+    let b = c .before in
+    let t = b .before .before .args .bytes .now in
+    let e = b .ported .ensures in
+    let n = untold (ported t) (ap (λ (v : Words). v .last) (sym e) ∙ c .if2 .taken) in
+    simp (lt-ltb _ _ (b .before .if1 .taken), n) (e ∙ ap wordsOr n)
+
+returns-2 : tie.Need-returns-2
+unfolding onSome pick
+returns-2 c =
+    let b = c .before .before in
+    let t = b .before .before .args .bytes .now in
+    let e = b .ported .ensures in
+    let n = told (ported t) (λ z. c .before .if2 .left (ap (λ (v : Words). v .last) e ∙ z)) in
+    simp (lt-ltb _ _ (b .before .if1 .taken), n .1)
+    (c .moved .ensures (n .0) (e ∙ ap wordsOr (n .1)) (ported-movable t (n .1)) (b .before .if1 .taken))
+
+returns-3 : tie.Need-returns-3
+unfolding pick
+returns-3 c = simp (le-ltb _ _ (c .before .if1 .left)) (c .no-words .ensures)
+
+pub ported-from-spec : {M : Type 1} → statement M
+ported-from-spec = tie.close (tie.spec (λ c κs. search needs) returns (λ c κs. search needs) returns-2 (λ c κs. search needs) returns-3)
