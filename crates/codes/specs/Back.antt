@@ -3,7 +3,7 @@ use Prim.Native.Nat.{ℕ, _+_, _-_, _/_, _%_}
 use mathlib.Core.Bool.{Bool, not, _&&_, _||_}
 use mathlib.Core.List.{List, [], _++_}
 use lib.Dec.{eqb, ltb, leb}
-use lib.ListN.{length}
+use lib.ListN.{length, drop}
 use Rattle.chars.specs.Ascii.{ascii}
 use Rattle.chars.specs.Pick.{pick}
 use Rattle.puts.specs.Marks.{markText}
@@ -84,3 +84,7 @@ plainLength a b last = pick (isPlain a b last) (length (wordsText a b last)) 0
 -- whether there is room for the text of plain words
 unfoldable pub hasRoom : ℕ → ℕ → ℕ → ℕ → Bool
 hasRoom a b last room = isPlain a b last && leb (length (wordsText a b last)) room
+
+-- the buffer afterwards: the text at its front and what was behind it, or all as it was
+unfoldable pub wordsPut : ℕ → ℕ → ℕ → List ℕ → List ℕ
+wordsPut a b last out = pick (hasRoom a b last (length out)) (wordsText a b last ++ drop (length (wordsText a b last)) out) out

@@ -21,6 +21,13 @@ ghost use Rattle.fields.specs.Year.{beforeChrist};
 ghost use Rattle.codes.specs.Words.{wordsOf};
 ghost use Rattle.codes.specs.Typed.{Typed};
 ghost use Rattle.codes.specs.Unpacked as unpacked;
+ghost use mathlib.Core.Bool.{true};
+ghost use mathlib.Core.List.{[], _∷_};
+ghost use Rattle.chars.specs.Pick.{pick};
+ghost use Rattle.puts.specs.Answers.{Put};
+ghost use Rattle.puts.specs.Marks.{markText};
+ghost use Rattle.puts.specs.Numbers.{digits};
+ghost use Rattle.codes.specs.Back as back;
 use chars::is_digit;
 use dates::Date;
 use dates::DateValue;
@@ -34,6 +41,7 @@ use dates::OptionSeason;
 use dates::OptionTime;
 use dates::Time;
 use dates::TimeOffset;
+use puts::put_mark;
 use refusals::ReadDate;
 use refusals::Refusal;
 use refusals::kind_of;
@@ -1181,6 +1189,217 @@ pub fn day_part(s: &[u8]) -> u64
         return 281474976710656 + 72057594037927936 * wide_part(n - 1);
     }
     NOTHING
+}
+
+// ---- writing
+
+// Whether a year in two's complement is one from -9999 to 9999.
+fn is_plain_year(n: u64) -> bool
+    requires { ⌜ n < 4294967296 ⌝ }
+    ensures { λ r. ⌜ r ≡ back.isPlainYear n ⌝ }
+{
+    (n + 9999) % 4294967296 < 19999
+}
+
+fn is_plain_word(w: u64) -> bool
+    ensures { λ r. ⌜ r ≡ back.isPlainWord w ⌝ }
+{
+    if is_plain_year(w % 4294967296) {
+        if w / 1099511627776 % 256 < 99 {
+            return w / 72057594037927936 % 256 < 99;
+        }
+    }
+    false
+}
+
+// Whether the text of words is that of their Date, if that has no season.
+pub fn is_plain(first: u64, second: u64, last: u64) -> bool
+    ensures { λ r. ⌜ r ≡ back.isPlain first second last ⌝ }
+{
+    if is_plain_word(first) {
+        if last % 256 < 3 {
+            return true;
+        }
+        return is_plain_word(second);
+    }
+    false
+}
+
+fn year_length(n: u64) -> usize
+    ensures { λ r. ⌜ (r ≡ length (back.yearDigits n)) × (r ≤ 5) ⌝ }
+{
+    if n < 10000 {
+        return 4;
+    }
+    5
+}
+
+fn point_length(w: u64) -> usize
+    ensures { λ r. ⌜ (r ≡ length (back.pointText w)) × (r ≤ 11) ⌝ }
+{
+    let n = year_length(w % 4294967296);
+    if w / 4294967296 % 256 != 0 {
+        if w / 281474976710656 % 256 != 0 {
+            return n + 6;
+        }
+        return n + 3;
+    }
+    n
+}
+
+fn shaped_length(shape: u64, a: u64, b: u64) -> usize
+    ensures { λ r. ⌜ (r ≡ length (back.shapedText shape a b)) × (r ≤ 23) ⌝ }
+{
+    let n = point_length(a);
+    if shape == 0 {
+        return n;
+    }
+    if shape < 3 {
+        return n + 3;
+    }
+    n + 1 + point_length(b)
+}
+
+fn marks_length(uncertain: bool, approximate: bool) -> usize
+    ensures { λ r. ⌜ (r ≡ length (markText uncertain approximate)) × (r ≤ 1) ⌝ }
+{
+    if uncertain {
+        return 1;
+    }
+    if approximate {
+        return 1;
+    }
+    0
+}
+
+fn words_length(first: u64, second: u64, last: u64) -> usize
+    ensures { λ r. ⌜ (r ≡ length (back.wordsText first second last)) × (r ≤ 24) ⌝ }
+{
+    shaped_length(last % 256, first, second)
+        + marks_length(last / 256 % 256 != 0, last / 65536 % 256 != 0)
+}
+
+// How long the text of plain words is: at most 24 bytes; 0 if they are not plain.
+pub fn text_length(first: u64, second: u64, last: u64) -> usize
+    ensures { λ r. ⌜ (r ≡ back.plainLength first second last) × (r ≤ 24) ⌝ }
+{
+    if is_plain(first, second, last) {
+        return words_length(first, second, last);
+    }
+    0
+}
+
+fn put_byte(b: u8, out: &mut [u8], at: usize) -> usize
+    requires { ⌜ at + 1 ≤ length (now out) ⌝ }
+    ensures { λ r. ⌜ Put (b ∷ []) (now (out .entry)) at (now (out .exit)) r ⌝ }
+{
+    out[at] = b;
+    at + 1
+}
+
+fn put_two(n: u8, out: &mut [u8], at: usize) -> usize
+    requires { ⌜ (n < 100) × (at + 2 ≤ length (now out)) ⌝ }
+    ensures { λ r. ⌜ Put (digits 2 n) (now (out .entry)) at (now (out .exit)) r ⌝ }
+{
+    out[at] = 48 + n / 10;
+    out[at + 1] = 48 + n % 10;
+    at + 2
+}
+
+// A stored month or day, behind a hyphen.
+fn put_part(n: u8, out: &mut [u8], at: usize) -> usize
+    requires { ⌜ (n < 99) × (at + 3 ≤ length (now out)) ⌝ }
+    ensures { λ r. ⌜ Put (back.partDigits n) (now (out .entry)) at (now (out .exit)) r ⌝ }
+{
+    let k = put_byte(b'-', out, at);
+    put_two(n + 1, out, k)
+}
+
+fn put_four(n: u16, out: &mut [u8], at: usize) -> usize
+    requires { ⌜ (n < 10000) × (at + 4 ≤ length (now out)) ⌝ }
+    ensures { λ r. ⌜ Put (digits 4 n) (now (out .entry)) at (now (out .exit)) r ⌝ }
+{
+    let k = put_two((n / 100) as u8, out, at);
+    put_two((n % 100) as u8, out, k)
+}
+
+fn put_year(n: u64, out: &mut [u8], at: usize) -> usize
+    requires { ⌜ (n < 4294967296) × (back.isPlainYear n ≡ true) × (at + length (back.yearDigits n) ≤ length (now out)) ⌝ }
+    ensures { λ r. ⌜ Put (back.yearDigits n) (now (out .entry)) at (now (out .exit)) r ⌝ }
+{
+    if n < 10000 {
+        return put_four(n as u16, out, at);
+    }
+    let k = put_byte(b'-', out, at);
+    put_four((4294967296 - n) as u16, out, k)
+}
+
+// The month and the day of a word, behind its year.
+fn put_parts(w: u64, out: &mut [u8], at: usize) -> usize
+    requires { ⌜ (back.isPlainWord w ≡ true) × (at + length (back.monthDigits w) ≤ length (now out)) ⌝ }
+    ensures { λ r. ⌜ Put (back.monthDigits w) (now (out .entry)) at (now (out .exit)) r ⌝ }
+{
+    if w / 4294967296 % 256 == 0 {
+        return at;
+    }
+    let k = put_part((w / 1099511627776 % 256) as u8, out, at);
+    if w / 281474976710656 % 256 == 0 {
+        return k;
+    }
+    put_part((w / 72057594037927936 % 256) as u8, out, k)
+}
+
+fn put_point(w: u64, out: &mut [u8], at: usize) -> usize
+    requires { ⌜ (back.isPlainWord w ≡ true) × (at + length (back.pointText w) ≤ length (now out)) ⌝ }
+    ensures { λ r. ⌜ Put (back.pointText w) (now (out .entry)) at (now (out .exit)) r ⌝ }
+{
+    let k = put_year(w % 4294967296, out, at);
+    put_parts(w, out, k)
+}
+
+fn put_three(a: u8, b: u8, c: u8, out: &mut [u8], at: usize) -> usize
+    requires { ⌜ at + 3 ≤ length (now out) ⌝ }
+    ensures { λ r. ⌜ Put (a ∷ b ∷ c ∷ []) (now (out .entry)) at (now (out .exit)) r ⌝ }
+{
+    out[at] = a;
+    out[at + 1] = b;
+    out[at + 2] = c;
+    at + 3
+}
+
+// The text of words without its mark, at the front of the buffer.
+fn put_shaped(first: u64, second: u64, last: u64, out: &mut [u8]) -> usize
+    requires { ⌜ (back.isPlain first second last ≡ true) × (length (back.shapedText (last % 256) first second) ≤ length (now out)) ⌝ }
+    ensures { λ r. ⌜ Put (back.shapedText (last % 256) first second) (now (out .entry)) 0 (now (out .exit)) r ⌝ }
+{
+    let shape = last % 256;
+    if shape == 2 {
+        let k = put_three(b'.', b'.', b'/', out, 0);
+        return put_point(first, out, k);
+    }
+    let k = put_point(first, out, 0);
+    if shape == 0 {
+        return k;
+    }
+    if shape == 1 {
+        return put_three(b'/', b'.', b'.', out, k);
+    }
+    let j = put_byte(b'/', out, k);
+    put_point(second, out, j)
+}
+
+// The text of plain words, at the front of the lent buffer, and its length. Without room for it, or if they are not plain, nothing is stored: 0.
+pub fn put_text(first: u64, second: u64, last: u64, out: &mut [u8]) -> usize
+    ensures { λ r. ⌜ r ≡ pick (back.hasRoom first second last (length (now (out .entry)))) (length (back.wordsText first second last)) 0 ⌝ }
+    ensures { λ r. ⌜ now (out .exit) ≡ back.wordsPut first second last (now (out .entry)) ⌝ }
+{
+    if is_plain(first, second, last) {
+        if words_length(first, second, last) <= out.len() {
+            let k = put_shaped(first, second, last, out);
+            return put_mark(last / 256 % 256 != 0, last / 65536 % 256 != 0, out, k);
+        }
+    }
+    0
 }
 
 // ---- back
