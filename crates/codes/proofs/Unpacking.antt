@@ -88,11 +88,11 @@ module _ (n : ℕ) (low : 2147483648 ≤ n) (high : n < 4294967296) where
   from-high = (made ∙ sym high-is, subst (λ (z : ℤ). mag z < 2147483648) (sym made) (omega arith))
 
 -- the numbers that are none of a type are small
-month-flag : (m : OptionMonth) → hasMonth m < 2
+pub month-flag : (m : OptionMonth) → hasMonth m < 2
 month-flag NoMonth = omega arith
 month-flag (SomeMonth m) = omega arith
 
-day-flag : (d : OptionDay) → hasDay d < 2
+pub day-flag : (d : OptionDay) → hasDay d < 2
 day-flag NoDay = omega arith
 day-flag (SomeDay d) = omega arith
 
@@ -113,17 +113,17 @@ season-in Summer = omega arith
 season-in Autumn = omega arith
 season-in Winter = omega arith
 
-flag-in : (b : Bool) → flag b < 2
+pub flag-in : (b : Bool) → flag b < 2
 flag-in true = omega arith
 flag-in false = omega arith
 
 -- each part by its numbers
-month-back : (m : OptionMonth) → monthOf (hasMonth m) (monthNumber m) ≡ m
+pub month-back : (m : OptionMonth) → monthOf (hasMonth m) (monthNumber m) ≡ m
 unfolding monthOf pick
 month-back NoMonth = refl
 month-back (SomeMonth m) = refl
 
-day-back : (d : OptionDay) → dayOf (hasDay d) (dayNumber d) ≡ d
+pub day-back : (d : OptionDay) → dayOf (hasDay d) (dayNumber d) ≡ d
 unfolding dayOf pick
 day-back NoDay = refl
 day-back (SomeDay d) = refl
@@ -143,7 +143,7 @@ season-back Summer = refl
 season-back Autumn = refl
 season-back Winter = refl
 
-flag-back : (b : Bool) → isSet (flag b) ≡ b
+pub flag-back : (b : Bool) → isSet (flag b) ≡ b
 flag-back true = refl
 flag-back false = refl
 

@@ -186,7 +186,7 @@ two-digits n h = let e : n / 10 % 10 ≡ n / 10 = omega arith in rw e
 
 -- ---- the whole text
 
-three-up : (s : ℕ) → (s ≡ 2 → ⊥) → (s ≡ 0 → ⊥) → (s ≡ 1 → ⊥) → 3 ≤ s
+pub three-up : (s : ℕ) → (s ≡ 2 → ⊥) → (s ≡ 0 → ⊥) → (s ≡ 1 → ⊥) → 3 ≤ s
 three-up s f g h = omega arith
 
 module _ (a b last : ℕ) where
