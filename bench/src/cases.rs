@@ -1,6 +1,7 @@
 //! What is measured.
 
 use crate::ffi::{self, List};
+use crate::rounds::{times, Run};
 use knobstream as ours;
 use oracle::published as theirs;
 use std::fmt::Write;
@@ -11,7 +12,6 @@ use theirs::Type;
 /// By whom a case is answered: by a C call, by the crate over it, by the Rust.
 pub const SIDES: [&str; 3] = ["c", "crate", "rust"];
 
-type Run = Option<Box<dyn Fn(u64)>>;
 type Say = Option<Box<dyn Fn() -> String>>;
 
 pub struct Case {
@@ -29,11 +29,11 @@ pub struct Case {
 type Piece = (u8, String, usize);
 
 /// A chunk list, in the form that each side takes.
-struct Input {
+pub struct Input {
     pieces: Vec<Piece>,
     bytes: Vec<u8>,
     table: Vec<u64>,
-    chunks: Vec<theirs::Spanned<theirs::Chunk>>,
+    pub chunks: Vec<theirs::Spanned<theirs::Chunk>>,
 }
 
 impl Input {
@@ -56,12 +56,12 @@ impl Input {
         Self { pieces, bytes, table, chunks }
     }
 
-    fn text(text: &str) -> Self {
+    pub fn text(text: &str) -> Self {
         Self::new(vec![(0, text.to_string(), 100)])
     }
 
     /// For the C calls.
-    fn list(&self) -> List<'_> {
+    pub fn list(&self) -> List<'_> {
         List { bytes: &self.bytes, table: &self.table }
     }
 
@@ -84,13 +84,6 @@ impl Input {
 /// What a case keeps for as long as the program runs.
 fn keep<T>(x: T) -> &'static T {
     Box::leak(Box::new(x))
-}
-
-fn times<R>(n: u64, call: impl Fn() -> R) {
-    for _ in 0..n {
-        let r = call();
-        black_box(&r);
-    }
 }
 
 /// What was read, in words that both crates have: theirs knows no season.
@@ -535,19 +528,15 @@ pub fn all() -> Vec<Case> {
         all.push(reading("refused", name, Input::text(t)));
     }
     let two = vec![(0, "20".into(), 100), (1, "00".into(), 103)];
-    all.push(reading("long or odd", "2000 in two chunks", Input::new(two)));
+    all.push(reading("chunks", "2000 in two chunks", Input::new(two)));
     let many = |k: u8| {
         let piece = |i| if i == 0 { format!("{:64}", "2000") } else { " ".repeat(64) };
         (0..64).map(|i| (k, piece(i), i * 66)).collect::<Vec<Piece>>()
     };
-    all.push(reading(
-        "long or odd",
-        "2000 and 4,092 spaces in 64 Normal chunks",
-        Input::new(many(0)),
-    ));
-    all.push(reading("long or odd", "the same in 64 Verbatim chunks", Input::new(many(1))));
+    all.push(reading("long", "2000 and 4,092 spaces in 64 Normal chunks", Input::new(many(0))));
+    all.push(reading("long", "the same in 64 Verbatim chunks", Input::new(many(1))));
     let latin = vec![(0, "é".repeat(2048), 0)];
-    all.push(reading("long or odd", "2,048 times é, refused", Input::new(latin)));
+    all.push(reading("long", "2,048 times é, refused", Input::new(latin)));
     for n in LENGTHS {
         all.push(reading("length", &format!("{n} bytes of words, refused"), words(n)));
     }

@@ -6,14 +6,8 @@
 //!     bench times               a line each: group, name, ns an input by C, by the crate, by the Rust
 //!     bench count CASE SIDE N   N calls of a side (c, crate, rust), to be counted by callgrind
 
-mod cases;
-/// The C calls, as the crate declares them; what is not measured is not used.
-#[allow(dead_code)]
-#[path = "../../rust/src/ffi.rs"]
-mod ffi;
-
-use cases::{Case, SIDES};
-use std::time::{Duration, Instant};
+use bench::cases::{self, Case, SIDES};
+use bench::rounds::{self, Run};
 
 fn main() {
     let args: Vec<String> = std::env::args().skip(1).collect();
@@ -61,48 +55,14 @@ fn check(cases: &[Case]) {
     }
 }
 
-/// Rounds of a case in a pass over all cases, each of about this time.
-const ROUND: Duration = Duration::from_micros(100);
-const ROUNDS: usize = 100;
-const PASSES: usize = 8;
-
-/// The least time of a call, over many short rounds in which the sides take turns. What disturbs the
-/// machine for a while falls on a pass, and not on all rounds of a case.
 fn times(cases: &[Case]) {
-    let mut least = vec![[f64::INFINITY; 3]; cases.len()];
-    for _ in 0..PASSES {
-        for (c, least) in cases.iter().zip(&mut least) {
-            pass(c, least);
-        }
-    }
-    for (c, least) in cases.iter().zip(&least) {
-        let cells = least.map(|ns| if ns.is_finite() { format!("{ns:.1}") } else { "-".into() });
+    let sides: Vec<&[Run]> = cases.iter().map(|c| &c.sides[..]).collect();
+    for (c, least) in cases.iter().zip(rounds::least(&sides)) {
+        let cell = |ns: f64| match ns.is_finite() {
+            true => format!("{:.1}", ns / c.inputs as f64),
+            false => "-".into(),
+        };
+        let cells: Vec<String> = least.into_iter().map(cell).collect();
         println!("{}\t{}\t{}", c.group, c.name, cells.join("\t"));
-    }
-}
-
-fn pass(c: &Case, least: &mut [f64; 3]) {
-    let calls = c.sides.each_ref().map(|s| s.as_ref().map_or(0, |run| calls_a_round(run)));
-    for _ in 0..ROUNDS {
-        for (side, run) in c.sides.iter().enumerate() {
-            if let Some(run) = run {
-                let start = Instant::now();
-                run(calls[side]);
-                let ns = start.elapsed().as_nanos() as f64 / calls[side] as f64;
-                least[side] = least[side].min(ns / c.inputs as f64);
-            }
-        }
-    }
-}
-
-fn calls_a_round(run: &dyn Fn(u64)) -> u64 {
-    let mut calls = 1;
-    loop {
-        let start = Instant::now();
-        run(calls);
-        if start.elapsed() >= ROUND {
-            return calls;
-        }
-        calls *= 2;
     }
 }

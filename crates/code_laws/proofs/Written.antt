@@ -2,18 +2,20 @@
 -- Date.
 -- Assumes nothing.
 use mathlib.Core.Path.{_≡_, refl, sym, _∙_}
-use mathlib.Core.Bool.{true, false}
+use mathlib.Core.Bool.{Bool, true, false, _||_}
 use mathlib.Core.List.{List}
 use mathlib.Core.Option.{Option, some}
 use Prim.Native.Nat.{ℕ, _≤_}
 use native.Mathlib.Omega.{arith}
 use lib.ListN.{length, length-append}
-use Rattle.chars.proofs.Cases.{by-test}
+use Rattle.chars.proofs.Cases.{by-test, of-test}
 use Rattle.refusals.specs.declared.FileSpan.{FileSpan}
 use Rattle.refusals.specs.declared.ReadDate.{ReadDate}
 use Rattle.refusals.specs.declared.ReadDate.the-variants.{Accepted}
 use Rattle.chunks.specs.Chunks.{chunksOf, spanOf}
-use Rattle.chunks.proofs.Plains.{Plainly}
+use Rattle.chunks.specs.declared.Checked.the-variants.{Clean}
+use Rattle.chunks.specs.Check.{checked}
+use Rattle.chunks.specs.Answer.{textOf}
 use Rattle.dates.specs.declared.OptionTime.{OptionTime}
 use Rattle.dates.specs.declared.OptionTime.the-variants.{NoTime, SomeTime}
 use Rattle.dates.specs.declared.Datetime.{Datetime}
@@ -28,14 +30,15 @@ use Rattle.strict.proofs.Exact.{exact}
 use Rattle.reading_laws.specs.Field.{parsed, strictly, parsedStrict}
 use Rattle.reading_laws.proofs.Entries.{parsed-clean, strict-clean}
 use Rattle.codes.specs.Texts.{written}
-use Rattle.codes.specs.Lists.{oneNormal, listWritten}
+use Rattle.codes.specs.Lists.{oneNormal, isJoined, listWritten}
 use Rattle.codes.specs.Typed.{Typed}
 use Rattle.codes.specs.Words.{flag, timeWord, valueWords, wordsOf}
 use Rattle.roundtrip_laws.specs.Domain.{InDomain, Untimed}
 use Rattle.roundtrip_laws.proofs.Agrees.{value-text}
 use Rattle.roundtrip_laws.proofs.Bytes.{Clear, clear-text, clear-ascii}
 use Rattle.roundtrip_laws.proofs.Trims.{text-clear, mark-short}
-use Rattle.code_laws.proofs.Lists
+use Rattle.code_laws.proofs.Lists.{plain-list}
+use Rattle.code_laws.proofs.Joined.{joined-clean, joined-text}
 use Rattle.code_laws.proofs.Texts.{Ranged, TextSaid, Answer, answer, said}
 
 -- ---- the text
@@ -111,30 +114,44 @@ answer-usual (answer t) = usual (t .by-grammar)
 pub written-short : (s : List ℕ) {r : ReadDate} → written s ≡ some r → length s ≤ 54
 written-short s e = answer-usual (said e) .short
 
-plain-list : (b table : List ℕ) → oneNormal b table ≡ true → Usual b → Plainly b table
-plain-list b table o u = Lists.plain-list b table o (omega (arith, u .short)) (clear-ascii (u .clear))
+-- a list has no fault, and its text is its bytes, in upper case and as it is
+record AsBytes (b table : List ℕ) : Type 0 where
+  clean : checked b table ≡ Clean
+  same : (u : Bool) → textOf u b table ≡ b
+
+-- so it is with one Normal chunk, and with several without Math
+normal-bytes : (b table : List ℕ) → oneNormal b table ≡ true → Usual b → AsBytes b table
+normal-bytes b table o u =
+    let p = plain-list b table o (omega (arith, u .short)) (clear-ascii (u .clear)) in
+    record { clean = p .clean; same = λ w. p .text w ∙ clear-text w false (u .clear) }
+
+joined-bytes : (b table : List ℕ) → isJoined b table ≡ true → Usual b → AsBytes b table
+joined-bytes b table j u = record { clean = joined-clean b table j (u .clear); same = joined-text b table j (u .clear) }
+
+as-bytes : (b table : List ℕ) → oneNormal b table || isJoined b table ≡ true → Usual b → AsBytes b table
+as-bytes b table e u =
+    of-test (oneNormal b table) (λ o. normal-bytes b table o u) (λ n. joined-bytes b table (rw n at e) u)
 
 module _ (b table : List ℕ) {r : ReadDate} where
-  -- what is said of a list is said of the text of one Normal chunk
-  of-list : {A : Type 0} → (oneNormal b table ≡ true → written b ≡ some r → A) → listWritten b table ≡ some r → A
+  -- what is said of a list is said of its bytes
+  of-list : {A : Type 0} → (oneNormal b table || isJoined b table ≡ true → written b ≡ some r → A) → listWritten b table ≡ some r → A
   unfolding listWritten
-  of-list {A} f = by-test (λ (a : Option ReadDate). a ≡ some r → A) (oneNormal b table) f (λ _ e. let z : _≡_ {A = ℕ} 0 1 = cc in absurd (omega arith))
+  of-list {A} f =
+      by-test (λ (a : Option ReadDate). a ≡ some r → A) (oneNormal b table || isJoined b table) f (λ _ e. let z : _≡_ {A = ℕ} 0 1 = cc in absurd (omega arith))
 
   -- what is said at once of a list is what the ported reader says,
   pub written-parsed : listWritten b table ≡ some r → parsed b table ≡ r
   written-parsed =
       of-list λ o e.
-      let u = answer-usual (said e) in
-      let p = plain-list b table o u in
-      sym (parsed-clean b table (p .clean) (sym (p .text true ∙ clear-text true false (u .clear)))) ∙ text-parsed b e (spanOf (chunksOf table))
+      let p = as-bytes b table o (answer-usual (said e)) in
+      sym (parsed-clean b table (p .clean) (sym (p .same true))) ∙ text-parsed b e (spanOf (chunksOf table))
 
   -- and what the strict one says
   pub written-strict : listWritten b table ≡ some r → parsedStrict b table ≡ r
   written-strict =
       of-list λ o e.
-      let u = answer-usual (said e) in
-      let p = plain-list b table o u in
-      sym (strict-clean b table (p .clean) (sym (p .text false ∙ clear-text false false (u .clear)))) ∙ text-strict b e
+      let p = as-bytes b table o (answer-usual (said e)) in
+      sym (strict-clean b table (p .clean) (sym (p .same false))) ∙ text-strict b e
 
   -- its numbers are of their types
   pub list-typed : listWritten b table ≡ some r → Typed r

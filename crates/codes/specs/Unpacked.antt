@@ -1,4 +1,4 @@
--- What words say, read back part by part. No public contract rests on it: that of `unpack` says that it is the way back from `wordsOf`.
+-- What words say, read back part by part. No public contract rests on it. That of `unpack` says that it is the way back from `wordsOf`.
 use Prim.Native.Nat.{ℕ, _-_, _/_, _%_}
 use lib.Dec.{eqb, ltb}
 use lib.IntN.{ℤ, pos, negsuc}

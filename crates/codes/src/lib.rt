@@ -212,7 +212,7 @@ fn point(s: &[u8]) -> u64
 }
 
 // Four bytes as a number: the first is the lowest.
-fn four_bytes(a: u8, b: u8, c: u8, d: u8) -> u64
+pub fn four_bytes(a: u8, b: u8, c: u8, d: u8) -> u64
     ensures { λ r. ⌜ (r ≡ words.fourBytes a b c d) × (r < 4294967296) ⌝ }
 {
     a as u64 + 256 * (b as u64) + 65536 * (c as u64) + 16777216 * (d as u64)

@@ -1,4 +1,5 @@
 pub mod Made
 pub mod Laws
+pub mod Direct
 pub mod Words
 pub mod Examples

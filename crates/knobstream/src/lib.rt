@@ -2,7 +2,7 @@
 // empty slice with a null pointer too.
 ghost use mathlib.Core.Path.{_≡_};
 ghost use mathlib.Core.Bool.{false};
-ghost use Prim.Native.Nat.{_<_};
+ghost use Prim.Native.Nat.{_≤_, _<_};
 ghost use lib.ListN.{length};
 ghost use Rattle.reading_laws.specs.Field.{parsed, parsedStrict, parsedLevelOne};
 ghost use Rattle.chunks.specs.Lent.{lent, optional, three};
@@ -313,6 +313,72 @@ fn date_of(p: PlainDate) -> Date
     }
 }
 
+// ---- texts
+
+// The year, the month and the day as a word.
+fn day_word(p: PlainDatetime) -> u64
+    ensures { λ r. ⌜ r ≡ plain.dayWord p ⌝ }
+    ensures { λ _. ⌜ layout.DatetimeFits p ⌝ }
+{
+    codes::twos(p.year) as u64
+        + 4294967296 * codes::four_bytes(p.has_month, p.month, p.has_day, p.day)
+}
+
+// Whether an end may have a season: the second is there only in a range with both.
+fn seasoned(shape: u8, first: u8, second: u8) -> bool
+    ensures { λ r. ⌜ (r ≡ false → (first ≡ 0) × (3 ≤ shape → second ≡ 0)) ⌝ }
+{
+    if first != 0 {
+        return true;
+    }
+    if shape < 3 {
+        return false;
+    }
+    second != 0
+}
+
+// How long the text of any Date is.
+fn measure_far(
+    first: PlainDatetime,
+    second: PlainDatetime,
+    shape: u8,
+    uncertain: u8,
+    approximate: u8,
+) -> PlainWritten
+    ensures { λ r. ⌜ r ≡ plain.measure (dateMeasured (back.dateOf (plain.parts shape uncertain approximate first second)) (dateText (back.dateOf (plain.parts shape uncertain approximate first second)))) ⌝ }
+{
+    let d = date_of(PlainDate {
+        shape,
+        uncertain,
+        approximate,
+        first,
+        second,
+    });
+    plain_measured(writer::date_length(d))
+}
+
+// The text of any Date.
+fn write_far(
+    first: PlainDatetime,
+    second: PlainDatetime,
+    out: &mut [u8],
+    shape: u8,
+    uncertain: u8,
+    approximate: u8,
+) -> PlainWritten
+    ensures { λ r. ⌜ r ≡ plain.written (dateAnswer (back.dateOf (plain.parts shape uncertain approximate first second)) (dateText (back.dateOf (plain.parts shape uncertain approximate first second))) (length (now (out .entry)))) ⌝ }
+    ensures { λ r. ⌜ now (out .exit) ≡ dateAfterwards (back.dateOf (plain.parts shape uncertain approximate first second)) (dateText (back.dateOf (plain.parts shape uncertain approximate first second))) (now (out .entry)) ⌝ }
+{
+    let d = date_of(PlainDate {
+        shape,
+        uncertain,
+        approximate,
+        first,
+        second,
+    });
+    plain_written(writer::write_date(d, out))
+}
+
 // ---- the calls
 
 const VERSION: u32 = 5;
@@ -389,17 +455,22 @@ pub extern "C" fn knobstream_measure_date(
 ) -> PlainWritten
     ensures { λ r. ⌜ r ≡ plain.measure (dateMeasured (back.dateOf (plain.parts shape uncertain approximate first second)) (dateText (back.dateOf (plain.parts shape uncertain approximate first second)))) ⌝ }
 {
-    let d = date_of(PlainDate {
-        shape,
-        uncertain,
-        approximate,
-        first,
-        second,
-    });
-    plain_measured(writer::date_length(d))
+    if seasoned(shape, first.season, second.season) {
+        return measure_far(first, second, shape, uncertain, approximate);
+    }
+    let a = day_word(first);
+    let b = day_word(second);
+    let n = codes::text_length(a, b, codes::four_bytes(shape, uncertain, approximate, 0));
+    if n == 0 {
+        return measure_far(first, second, shape, uncertain, approximate);
+    }
+    PlainWritten {
+        length: n,
+        refusal: 0,
+    }
 }
 
-// The text of a Date, at the front of the lent buffer; a refusal stores nothing.
+// The text of a Date, at the front of the lent buffer; a refusal stores nothing. Usual numbers are put at once.
 #[no_mangle]
 pub extern "C" fn knobstream_write_date(
     first: PlainDatetime,
@@ -412,14 +483,24 @@ pub extern "C" fn knobstream_write_date(
     ensures { λ r. ⌜ r ≡ plain.written (dateAnswer (back.dateOf (plain.parts shape uncertain approximate first second)) (dateText (back.dateOf (plain.parts shape uncertain approximate first second))) (length (now (out .entry)))) ⌝ }
     ensures { λ r. ⌜ now (out .exit) ≡ dateAfterwards (back.dateOf (plain.parts shape uncertain approximate first second)) (dateText (back.dateOf (plain.parts shape uncertain approximate first second))) (now (out .entry)) ⌝ }
 {
-    let d = date_of(PlainDate {
-        shape,
-        uncertain,
-        approximate,
-        first,
-        second,
-    });
-    plain_written(writer::write_date(d, out))
+    if seasoned(shape, first.season, second.season) {
+        return write_far(first, second, out, shape, uncertain, approximate);
+    }
+    let a = day_word(first);
+    let b = day_word(second);
+    let n = codes::put_text(
+        a,
+        b,
+        codes::four_bytes(shape, uncertain, approximate, 0),
+        out,
+    );
+    if n == 0 {
+        return write_far(first, second, out, shape, uncertain, approximate);
+    }
+    PlainWritten {
+        length: n,
+        refusal: 0,
+    }
 }
 
 // The fields of a Date as lines, likewise.

@@ -46,7 +46,7 @@ day-flag (SomeDay d) = omega arith
 together : Option ℤ → Option OptionMonth → Option OptionDay → Option ReadDate
 together x a b = onSome x λ y. onSome a λ m. onSome b λ d. some (Accepted (fromDatetime (datetime y m d NoTime)))
 
-joined-by : (x : Option ℤ) (a : Option OptionMonth) (b : Option OptionDay) → ({r : ReadDate} → together x a b ≡ some r → Typed r)
+joined-by : (x : Option ℤ) (a : Option OptionMonth) (b : Option OptionDay) → ((r : ReadDate) → together x a b ≡ some r → Typed r)
     → Joined (yearWord x) (monthWord a) (dayPartWord b) (wordsOr (together x a b))
 unfolding together onSome
 joined-by none a b typed =
@@ -56,7 +56,7 @@ joined-by (some y) none b typed =
 joined-by (some y) (some m) none typed =
     record { no-year = λ e. refl; no-month = λ e. refl; no-day = λ e. refl; said = λ f g h. absurd (h refl); room = λ f g h. absurd (h refl) }
 joined-by (some y) (some m) (some d) typed =
-    let h : DatetimeTyped (datetime y m d NoTime) = typed refl in
+    let h : DatetimeTyped (datetime y m d NoTime) = typed _ refl in
     let t = twos-most y (h .year-typed) in
     let (i, (j, _)) = h .bytes-typed in
     let k = month-flag m in
@@ -72,4 +72,4 @@ joined-by (some y) (some m) (some d) typed =
 pub joined : (t : Three) {y m d : ℕ} → y ≡ yearWord (onNormal (t .year) yearPart) → m ≡ monthWord (monthOr (t .month)) → d ≡ dayPartWord (dayOr (t .month) (t .day))
     → Joined y m d (wordsOr (listThree t))
 unfolding listThree together
-joined t e f g = rw (e, f, g) (joined-by (onNormal (t .year) yearPart) (monthOr (t .month)) (dayOr (t .month) (t .day)) (three-typed t))
+joined t e f g = rw (e, f, g) (joined-by (onNormal (t .year) yearPart) (monthOr (t .month)) (dayOr (t .month) (t .day)) (λ r e. three-typed t e))

@@ -1,3 +1,4 @@
 pub mod Lists
+pub mod Joins
 pub mod Said
 pub mod Fields

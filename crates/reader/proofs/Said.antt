@@ -12,16 +12,12 @@ abbrev pub Answers : Words → ReadDate → Type 0
 Answers w y = (w ≡ wordsOf y) × Typed y
 
 -- of the same answer
-pub carried : {w : Words} {x y : ReadDate} → x ≡ y → Answers w x → Answers w y
-carried {w} e h = subst (Answers w) e h
-
--- words that were made of an answer
-pub made : {v w : Words} {x : ReadDate} → v ≡ w → Answers w x → Answers v x
-made e h = (e ∙ h .0, h .1)
+pub carried : {w : Words} (x y : ReadDate) → x ≡ y → Answers w x → Answers w y
+carried {w} x y e h = subst (Answers w) e h
 
 -- what is said at once, if anything is
-pub at-once : {x : Option ReadDate} {w : Words} {y : ReadDate} → w ≡ wordsOr x → (w .last ≡ nothing → ⊥) → ({r : ReadDate} → x ≡ some r → y ≡ r) → ({r : ReadDate} → x ≡ some r → Typed r)
+pub at-once : (x : Option ReadDate) {w : Words} (y : ReadDate) → w ≡ wordsOr x → (w .last ≡ nothing → ⊥) → ((r : ReadDate) → x ≡ some r → y ≡ r) → ((r : ReadDate) → x ≡ some r → Typed r)
     → Answers w y
-at-once {x} {w} e h same typed =
+at-once x {w} y e h same typed =
     let t = told x (λ z. h (ap (λ (v : Words). v .last) e ∙ z)) in
-    carried (sym (same (t .1))) (e ∙ ap wordsOr (t .1), typed (t .1))
+    carried (t .0) y (sym (same (t .0) (t .1))) (e ∙ ap wordsOr (t .1), typed (t .0) (t .1))

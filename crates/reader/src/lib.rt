@@ -3,13 +3,13 @@
 // all. The same answers as a Date are for who wants one.
 // No call keeps anything, and no refusal changes a lent byte: the lists are lent for reading only.
 ghost use mathlib.Core.Path.{_≡_};
-ghost use mathlib.Core.Bool.{true, false};
+ghost use mathlib.Core.Bool.{true, false, _&&_};
 ghost use mathlib.Core.List.{[]};
 ghost use mathlib.Core.Option.{none, some};
-ghost use lib.Dec.{ltb};
-ghost use Prim.Native.Nat.{_≤_};
+ghost use lib.Dec.{eqb, ltb};
+ghost use Prim.Native.Nat.{_%_, _≤_};
 ghost use lib.ListN.{length, take};
-ghost use Rattle.chunks.specs.Chunks.{isShort, chunksOf, spanOf};
+ghost use Rattle.chunks.specs.Chunks.{isShort, chunksOf, kindsKnown, lengths, spanOf};
 ghost use Rattle.chunks.specs.Answer.{roomOf};
 ghost use Rattle.chunks.specs.declared.Checked.the-variants.{Clean};
 ghost use Rattle.chunks.specs.Check.{checked};
@@ -158,11 +158,50 @@ fn is_one_normal(bytes: &[u8], table: &[u64]) -> bool
     false
 }
 
-// What is said at once of the text of such a list.
+// Whether no kind of a table is Math and its lengths sum to a number of bytes. What is left of the bytes is counted down, so that no sum can wrap.
+fn lengths_join(table: &[u64], bytes: usize) -> bool
+    requires { ⌜ length (now table) % 4 ≡ 0 ⌝ }
+    ensures { λ r. ⌜ r ≡ (lists.noMath (chunksOf (now (table .entry))) && (kindsKnown (chunksOf (now (table .entry))) && eqb (lengths (chunksOf (now (table .entry)))) bytes)) ⌝ }
+{
+    let mut left = bytes as u64;
+    let mut k = 0;
+    while k < table.len() {
+        let kind = table[k];
+        if 1 < kind {
+            return false;
+        }
+        let len = table[k + 1];
+        if left < len {
+            return false;
+        }
+        left = left - len;
+        k = k + 4;
+    }
+    left == 0
+}
+
+// Whether a list is short and of chunks whose texts, one behind the other, are the bytes.
+fn is_joined(bytes: &[u8], table: &[u64]) -> bool
+    ensures { λ r. ⌜ r ≡ lists.isJoined (now (bytes .entry)) (now (table .entry)) ⌝ }
+{
+    if bytes.len() <= 54 {
+        if table.len() % 4 == 0 {
+            if table.len() <= 256 {
+                return lengths_join(table, bytes.len());
+            }
+        }
+    }
+    false
+}
+
+// What is said at once of the text of such a list, or of one Normal chunk.
 fn at_once(bytes: &[u8], table: &[u64]) -> Words
     ensures { λ r. ⌜ r ≡ wordsOr (lists.listWritten (now (bytes .entry)) (now (table .entry))) ⌝ }
 {
     if is_one_normal(bytes, table) {
+        return codes::text(bytes);
+    }
+    if is_joined(bytes, table) {
         return codes::text(bytes);
     }
     codes::no_words()

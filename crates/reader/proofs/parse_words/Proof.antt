@@ -1,3 +1,5 @@
+use Rattle.reading_laws.specs.Field.{parsed}
+use Rattle.codes.specs.Lists.{listWritten, listPorted}
 use Rattle.code_laws.proofs.Written.{written-parsed, list-typed}
 use Rattle.code_laws.proofs.Ported.{ported-parsed, ported-typed}
 use Rattle.reader.proofs.Said.{at-once}
@@ -7,15 +9,19 @@ use Rattle.reader.proofs.parse_words.Tie as tie
 
 returns : tie.Need-returns
 returns c =
-    let b = c .before in
-    let a = b .before .args in
-    at-once (b .at-once .ensures) (c .if1 .taken) (written-parsed (a .bytes .now) (a .table .now)) (list-typed (a .bytes .now) (a .table .now))
+    let b = c .before .before in
+    let a = b .before .before .before .args in
+    let l = a .bytes .now in
+    let t = a .table .now in
+    at-once (listWritten l t) (parsed l t) (b .at-once .ensures) (c .if1 .taken) (λ r e. written-parsed l t e) (λ r e. list-typed l t e)
 
 returns-2 : tie.Need-returns-2
 returns-2 c =
-    let b = c .before in
-    let a = b .before .before .before .args in
-    at-once (b .at-once-ported .ensures) (c .if2 .taken) (ported-parsed (a .bytes .now) (a .table .now)) (ported-typed (a .bytes .now) (a .table .now))
+    let b = c .before .before in
+    let a = b .before .before .before .before .before .before .args in
+    let l = a .bytes .now in
+    let t = a .table .now in
+    at-once (listPorted l t) (parsed l t) (b .at-once-ported .ensures) (c .if2 .taken) (λ r e. ported-parsed l t e) (λ r e. ported-typed l t e)
 
 returns-3 : tie.Need-returns-3
 returns-3 c = c .any-words .ensures

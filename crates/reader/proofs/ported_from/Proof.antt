@@ -15,25 +15,25 @@ use Rattle.reader.proofs.ported_from.Tie as tie
 returns : tie.Need-returns
 unfolding onSome pick
 returns c =
-    let b = c .before in
-    let t = b .before .before .args .bytes .now in
+    let b = c .before .before in
+    let t = b .before .before .before .args .bytes .now in
     let e = b .ported .ensures in
     let n = untold (ported t) (ap (λ (v : Words). v .last) (sym e) ∙ c .if2 .taken) in
-    simp (lt-ltb _ _ (b .before .if1 .taken), n) (e ∙ ap wordsOr n)
+    rw (lt-ltb _ _ (b .before .if1 .taken), n) (e ∙ ap wordsOr n)
 
 returns-2 : tie.Need-returns-2
 unfolding onSome pick
 returns-2 c =
-    let b = c .before .before in
-    let t = b .before .before .args .bytes .now in
+    let b = c .before .before .before in
+    let t = b .before .before .before .args .bytes .now in
     let e = b .ported .ensures in
     let n = told (ported t) (λ z. c .before .if2 .left (ap (λ (v : Words). v .last) e ∙ z)) in
-    simp (lt-ltb _ _ (b .before .if1 .taken), n .1)
+    rw (lt-ltb _ _ (b .before .if1 .taken), n .1)
     (c .moved .ensures (n .0) (e ∙ ap wordsOr (n .1)) (ported-movable t (n .1)) (b .before .if1 .taken))
 
 returns-3 : tie.Need-returns-3
 unfolding pick
-returns-3 c = simp (le-ltb _ _ (c .before .if1 .left)) (c .no-words .ensures)
+returns-3 c = rw (le-ltb _ _ (c .before .if1 .left)) (c .no-words .ensures)
 
 pub ported-from-spec : {M : Type 1} → statement M
 ported-from-spec = tie.close (tie.spec (λ c κs. search needs) returns (λ c κs. search needs) returns-2 (λ c κs. search needs) returns-3)

@@ -5,8 +5,12 @@ use mathlib.Core.Bool.{true}
 use mathlib.Core.List.{List}
 use Prim.Native.Nat.{ℕ}
 use native.Mathlib.Omega.{arith}
+use lib.ListN.{take}
 use lib.Seq.{length-take-le}
-use mathlib.Core.Path.{sym, _∙_}
+use mathlib.Core.Path.{sym, ap, _∙_}
+use Rattle.refusals.specs.declared.FileSpan.{FileSpan}
+use Rattle.datefield.specs.Value.{parseText}
+use Rattle.reading_laws.specs.Field.{parsed}
 use Rattle.reader.proofs.Said.{carried}
 use borrow.Author.Needs.{needs}
 use Rattle.reader.proofs.words_in.Statement.{statement}
@@ -46,14 +50,15 @@ enum-known-e c = c .match .keys2
 returns : tie.Need-returns
 returns c =
     let p = c .before .before .before in
-    carried (rw (c .before .span .ensures) (parsed-clean (list p) (numbers p) (told p .clean) (told p .front))) (c .text-words .ensures)
+    let t = take (p .before .n .given .0 .0) (filled p) in
+    carried (parseText (c .before .span .result) t) (parsed (list p) (numbers p)) (ap (λ (z : FileSpan). parseText z t) (c .before .span .ensures) ∙ parsed-clean (list p) (numbers p) (told p .clean) (told p .front)) (c .text-words .ensures)
 
 returns-2 : tie.Need-returns-2
 returns-2 c =
-    let s = c .before .before .before .before .before .before .before .before .before .before in
+    let s = c .before .before .before .before .before .before .before .before .before .before .before in
     let a = s .args in
-    let e = c .before .before .before .before .before .format-uppercase .ensures in
-    carried
+    let e = c .before .before .before .before .before .before .format-uppercase .ensures in
+    carried _ (parsed (a .bytes .now) (a .table .now))
     (parsed-faulty (a .bytes .now) (a .table .now) (is-fault true (a .bytes .now) (a .table .now) (a .buf .now) (e .0) (e .1) (c .before .before .e .given .1) (s .pre)))
     (c .pack .ensures)
 
@@ -68,6 +73,7 @@ words-in-spec =
     (λ c κs. search needs)
     (λ c κs. search needs)
     enum-known-e
+    (λ c κs. search needs)
     (λ c. search needs)
     returns
     (λ c. search needs)

@@ -1,2 +1,0 @@
-pub mod Quick
-pub mod Said
