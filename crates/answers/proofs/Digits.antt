@@ -26,7 +26,8 @@ use Rattle.refusals.specs.Refusal.{number}
 use Rattle.codes.specs.Words.{twos}
 use Rattle.puts.specs.Answers.{Put}
 use Rattle.puts.proofs.Puts.{as-text, both, kept}
-use Rattle.answers.specs.Answer.{glyph, hexText, wordBytes, monthByte, dayByte, bit, marks, shiftBytes, offsetBytes, timeBytes, datetimeBytes, endBytes, endLength, shape, endsBytes, longBytes, bytesWith, acceptedBytes, refusedBytes, lineOf, oneLine, twoLine, acceptedLine}
+use Rattle.answers.specs.Answer.{glyph, hexText, wordBytes, monthByte, dayByte, bit, marks, shiftBytes, offsetBytes, timeBytes, datetimeBytes, endBytes, endLength, shape, endsBytes, longBytes, bytesWith, acceptedBytes, refusedBytes, lineOf, acceptedLine}
+use Rattle.answers.specs.Shapes.{oneLine, twoLine}
 
 -- two digits a byte
 pub length-hex : (t : List ℕ) → length (hexText t) ≡ 2 * length t

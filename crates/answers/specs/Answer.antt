@@ -132,14 +132,6 @@ refusedBytes e = refusalBytes (number (e .kind)) (e .place .0) (e .place .1)
 abbrev pub lineOf : List ℕ → List ℕ
 lineOf bytes = hexText bytes ++ (0x0A ∷ [])
 
--- the line of a shape and marks by their numbers, with one Datetime
-abbrev pub oneLine : Bool → ℕ → ℕ → Datetime → List ℕ → List ℕ
-oneLine level n m d text = lineOf (bytesWith n m (endBytes level d) text)
-
--- the same with both ends of a range
-abbrev pub twoLine : Bool → ℕ → Datetime → Datetime → List ℕ → List ℕ
-twoLine level m a b text = lineOf (bytesWith 3 m (endBytes level a ++ endBytes level b) text)
-
 -- the line of a Date, whose written text is given: a Date that cannot be written has none
 abbrev pub acceptedLine : Bool → Date → List ℕ → List ℕ
 acceptedLine level d text = lineOf (acceptedBytes level d text)

@@ -11,6 +11,7 @@ ghost use Rattle.puts.specs.Answers.{Put};
 ghost use Rattle.refusals.specs.declared.ReadDate.the-variants.{Accepted};
 ghost use Rattle.puts.specs.declared.Measured.the-variants.{Length};
 ghost use Rattle.answers.specs.Answer as spec;
+ghost use Rattle.answers.specs.Shapes as shapes;
 ghost use Rattle.answers.specs.Coded as coded;
 use codes::Words;
 use dates::Date;
@@ -213,8 +214,8 @@ fn put_end(level: bool, d: Datetime, out: &mut [u8], at: usize) -> usize
 
 // The line of a Date with one Datetime, whose written text is given.
 fn put_one(level: bool, shape: u8, marks: u8, d: Datetime, text: &[u8], out: &mut [u8]) -> usize
-    requires { ⌜ length (spec.oneLine level shape marks d (now text)) ≤ length (now out) ⌝ }
-    ensures { λ r. ⌜ Put (spec.oneLine level shape marks d (now (text .entry))) (now (out .entry)) 0 (now (out .exit)) r ⌝ }
+    requires { ⌜ length (shapes.oneLine level shape marks d (now text)) ≤ length (now out) ⌝ }
+    ensures { λ r. ⌜ Put (shapes.oneLine level shape marks d (now (text .entry))) (now (out .entry)) 0 (now (out .exit)) r ⌝ }
 {
     let i = put_hex(&[0, shape, marks], out, 0);
     let j = put_end(level, d, out, i);
@@ -224,8 +225,8 @@ fn put_one(level: bool, shape: u8, marks: u8, d: Datetime, text: &[u8], out: &mu
 
 // The same with two.
 fn put_two(level: bool, marks: u8, a: Datetime, b: Datetime, text: &[u8], out: &mut [u8]) -> usize
-    requires { ⌜ length (spec.twoLine level marks a b (now text)) ≤ length (now out) ⌝ }
-    ensures { λ r. ⌜ Put (spec.twoLine level marks a b (now (text .entry))) (now (out .entry)) 0 (now (out .exit)) r ⌝ }
+    requires { ⌜ length (shapes.twoLine level marks a b (now text)) ≤ length (now out) ⌝ }
+    ensures { λ r. ⌜ Put (shapes.twoLine level marks a b (now (text .entry))) (now (out .entry)) 0 (now (out .exit)) r ⌝ }
 {
     let h = put_hex(&[0, 3, marks], out, 0);
     let i = put_end(level, a, out, h);
@@ -447,7 +448,7 @@ fn end_length(level: bool) -> usize
 }
 
 // The line of a Date with one Datetime, by the numbers of its shape and its marks, whose written text is given, if there is room for it.
-pub fn write_one(
+fn write_one(
     level: bool,
     shape: u8,
     marks: u8,
@@ -455,8 +456,8 @@ pub fn write_one(
     text: &[u8],
     out: &mut [u8],
 ) -> Written
-    ensures { λ r. ⌜ r ≡ writing.answer false (spec.oneLine level shape marks d (now (text .entry))) (length (now (out .entry))) ⌝ }
-    ensures { λ r. ⌜ now (out .exit) ≡ writing.afterwards false (spec.oneLine level shape marks d (now (text .entry))) (now (out .entry)) ⌝ }
+    ensures { λ r. ⌜ r ≡ writing.answer false (shapes.oneLine level shape marks d (now (text .entry))) (length (now (out .entry))) ⌝ }
+    ensures { λ r. ⌜ now (out .exit) ≡ writing.afterwards false (shapes.oneLine level shape marks d (now (text .entry))) (now (out .entry)) ⌝ }
 {
     if is_short(out.len(), 3 + end_length(level), text.len()) {
         return no_room();
@@ -465,7 +466,7 @@ pub fn write_one(
 }
 
 // The same of a range with two.
-pub fn write_two(
+fn write_two(
     level: bool,
     marks: u8,
     a: Datetime,
@@ -473,8 +474,8 @@ pub fn write_two(
     text: &[u8],
     out: &mut [u8],
 ) -> Written
-    ensures { λ r. ⌜ r ≡ writing.answer false (spec.twoLine level marks a b (now (text .entry))) (length (now (out .entry))) ⌝ }
-    ensures { λ r. ⌜ now (out .exit) ≡ writing.afterwards false (spec.twoLine level marks a b (now (text .entry))) (now (out .entry)) ⌝ }
+    ensures { λ r. ⌜ r ≡ writing.answer false (shapes.twoLine level marks a b (now (text .entry))) (length (now (out .entry))) ⌝ }
+    ensures { λ r. ⌜ now (out .exit) ≡ writing.afterwards false (shapes.twoLine level marks a b (now (text .entry))) (now (out .entry)) ⌝ }
 {
     if is_short(out.len(), 3 + 2 * end_length(level), text.len()) {
         return no_room();
