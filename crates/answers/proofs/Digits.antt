@@ -3,6 +3,7 @@ use mathlib.Core.Path.{_≡_, refl, sym, ap, _∙_}
 use mathlib.Core.Bool.{Bool, true, false}
 use mathlib.Core.List.{List, [], _∷_, _++_}
 use Prim.Native.Nat.{ℕ, suc, _+_, _-_, _*_, _/_, _%_, _≤_, _<_}
+use native.Mathlib.Numerals.{add-one}
 use native.Mathlib.Omega.{arith}
 use lib.ListN.{length, getD, drop, set, length-append, drop-of-length-le}
 use lib.Seq.{sets, drop-cons}
@@ -25,7 +26,8 @@ use Rattle.refusals.specs.Refusal.{number}
 use Rattle.codes.specs.Words.{twos}
 use Rattle.puts.specs.Answers.{Put}
 use Rattle.puts.proofs.Puts.{as-text, both, kept}
-use Rattle.answers.specs.Answer.{glyph, hexText, wordBytes, monthByte, dayByte, bit, marks, shiftBytes, offsetBytes, timeBytes, datetimeBytes, endBytes, endLength, shape, endsBytes, longBytes, bytesWith, acceptedBytes, refusedBytes, lineOf, oneLine, twoLine, acceptedLine}
+use Rattle.answers.specs.Answer.{glyph, hexText, wordBytes, monthByte, dayByte, bit, marks, shiftBytes, offsetBytes, timeBytes, datetimeBytes, endBytes, endLength, shape, endsBytes, longBytes, bytesWith, acceptedBytes, refusedBytes, lineOf, acceptedLine}
+use Rattle.answers.specs.Shapes.{oneLine, twoLine}
 
 -- two digits a byte
 pub length-hex : (t : List ℕ) → length (hexText t) ≡ 2 * length t
@@ -68,6 +70,11 @@ hex-both a b p q = as-text (hex-append a b) (both p q)
 -- the room behind them
 pub hex-room : (a : List ℕ) {l m : List ℕ} {i j : ℕ} → Put (hexText a) l i m j → (j ≡ i + 2 * length a) × (length m ≡ length l)
 hex-room a p = (let e = length-hex a in omega (arith, p .behind), kept p)
+
+-- a byte, digit by digit
+pub byte-put : (out : List ℕ) (at b : ℕ) {h l : ℕ} → h ≡ glyph (b / 16) → l ≡ glyph (b % 16) → Put (hexText (b ∷ [])) out at (set (set out at h) (at + 1) l) (at + 2)
+unfolding hexText
+byte-put out at b e f = record { behind = refl; bytes = rw (e, f, add-one at) refl }
 
 -- bytes by another name
 pub hex-as : {a b l m : List ℕ} {i j : ℕ} → a ≡ b → Put (hexText b) l i m j → Put (hexText a) l i m j

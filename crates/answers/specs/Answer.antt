@@ -120,21 +120,17 @@ bytesWith n m ends text = (0 ∷ n ∷ m ∷ []) ++ (ends ++ text)
 unfoldable pub acceptedBytes : Bool → Date → List ℕ → List ℕ
 acceptedBytes level d text = bytesWith (shape (d .value)) (marks (d .uncertain) (d .approximate)) (endsBytes level (d .value)) text
 
--- a refusal: its number, and its place from start to end
+-- a refusal by its number, with its place from start to end
+abbrev pub refusalBytes : ℕ → ℕ → ℕ → List ℕ
+refusalBytes n start end = (n ∷ []) ++ (longBytes start ++ longBytes end)
+
+-- a refusal
 unfoldable pub refusedBytes : Refusal → List ℕ
-refusedBytes e = (number (e .kind) ∷ []) ++ (longBytes (e .place .0) ++ longBytes (e .place .1))
+refusedBytes e = refusalBytes (number (e .kind)) (e .place .0) (e .place .1)
 
 -- a line: the digits of bytes and a line feed
 abbrev pub lineOf : List ℕ → List ℕ
 lineOf bytes = hexText bytes ++ (0x0A ∷ [])
-
--- the line of a shape and marks by their numbers, with one Datetime
-abbrev pub oneLine : Bool → ℕ → ℕ → Datetime → List ℕ → List ℕ
-oneLine level n m d text = lineOf (bytesWith n m (endBytes level d) text)
-
--- the same with both ends of a range
-abbrev pub twoLine : Bool → ℕ → Datetime → Datetime → List ℕ → List ℕ
-twoLine level m a b text = lineOf (bytesWith 3 m (endBytes level a ++ endBytes level b) text)
 
 -- the line of a Date, whose written text is given: a Date that cannot be written has none
 abbrev pub acceptedLine : Bool → Date → List ℕ → List ℕ

@@ -11,6 +11,9 @@ ghost use Rattle.puts.specs.Answers.{Put};
 ghost use Rattle.refusals.specs.declared.ReadDate.the-variants.{Accepted};
 ghost use Rattle.puts.specs.declared.Measured.the-variants.{Length};
 ghost use Rattle.answers.specs.Answer as spec;
+ghost use Rattle.answers.specs.Shapes as shapes;
+ghost use Rattle.answers.specs.Coded as coded;
+use codes::Words;
 use dates::Date;
 use dates::DateValue;
 use dates::Datetime;
@@ -211,8 +214,8 @@ fn put_end(level: bool, d: Datetime, out: &mut [u8], at: usize) -> usize
 
 // The line of a Date with one Datetime, whose written text is given.
 fn put_one(level: bool, shape: u8, marks: u8, d: Datetime, text: &[u8], out: &mut [u8]) -> usize
-    requires { ⌜ length (spec.oneLine level shape marks d (now text)) ≤ length (now out) ⌝ }
-    ensures { λ r. ⌜ Put (spec.oneLine level shape marks d (now (text .entry))) (now (out .entry)) 0 (now (out .exit)) r ⌝ }
+    requires { ⌜ length (shapes.oneLine level shape marks d (now text)) ≤ length (now out) ⌝ }
+    ensures { λ r. ⌜ Put (shapes.oneLine level shape marks d (now (text .entry))) (now (out .entry)) 0 (now (out .exit)) r ⌝ }
 {
     let i = put_hex(&[0, shape, marks], out, 0);
     let j = put_end(level, d, out, i);
@@ -222,8 +225,8 @@ fn put_one(level: bool, shape: u8, marks: u8, d: Datetime, text: &[u8], out: &mu
 
 // The same with two.
 fn put_two(level: bool, marks: u8, a: Datetime, b: Datetime, text: &[u8], out: &mut [u8]) -> usize
-    requires { ⌜ length (spec.twoLine level marks a b (now text)) ≤ length (now out) ⌝ }
-    ensures { λ r. ⌜ Put (spec.twoLine level marks a b (now (text .entry))) (now (out .entry)) 0 (now (out .exit)) r ⌝ }
+    requires { ⌜ length (shapes.twoLine level marks a b (now text)) ≤ length (now out) ⌝ }
+    ensures { λ r. ⌜ Put (shapes.twoLine level marks a b (now (text .entry))) (now (out .entry)) 0 (now (out .exit)) r ⌝ }
 {
     let h = put_hex(&[0, 3, marks], out, 0);
     let i = put_end(level, a, out, h);
@@ -232,25 +235,166 @@ fn put_two(level: bool, marks: u8, a: Datetime, b: Datetime, text: &[u8], out: &
     end_line(out, k)
 }
 
+// A byte.
+fn put_byte(b: u8, out: &mut [u8], at: usize) -> usize
+    requires { ⌜ at + 2 ≤ length (now out) ⌝ }
+    ensures { λ r. ⌜ Put (spec.hexText (b ∷ [])) (now (out .entry)) at (now (out .exit)) r ⌝ }
+{
+    out[at] = high(b);
+    out[at + 1] = low(b);
+    at + 2
+}
+
+// Three bytes.
+fn put_three(a: u8, b: u8, c: u8, out: &mut [u8], at: usize) -> usize
+    requires { ⌜ at + 6 ≤ length (now out) ⌝ }
+    ensures { λ r. ⌜ Put (spec.hexText (a ∷ b ∷ c ∷ [])) (now (out .entry)) at (now (out .exit)) r ⌝ }
+{
+    let i = put_byte(a, out, at);
+    let j = put_byte(b, out, i);
+    put_byte(c, out, j)
+}
+
+// Four.
+fn put_four(a: u8, b: u8, c: u8, d: u8, out: &mut [u8], at: usize) -> usize
+    requires { ⌜ at + 8 ≤ length (now out) ⌝ }
+    ensures { λ r. ⌜ Put (spec.hexText (a ∷ b ∷ c ∷ d ∷ [])) (now (out .entry)) at (now (out .exit)) r ⌝ }
+{
+    let i = put_byte(a, out, at);
+    put_three(b, c, d, out, i)
+}
+
+// A number in four bytes; what does not fit them is left out.
+fn put_quad(n: u64, out: &mut [u8], at: usize) -> usize
+    requires { ⌜ at + 8 ≤ length (now out) ⌝ }
+    ensures { λ r. ⌜ Put (spec.hexText (spec.wordBytes n)) (now (out .entry)) at (now (out .exit)) r ⌝ }
+{
+    put_four(
+        (n / 16777216 % 256) as u8,
+        (n / 65536 % 256) as u8,
+        (n / 256 % 256) as u8,
+        (n % 256) as u8,
+        out,
+        at,
+    )
+}
+
 // A number in eight bytes.
 fn put_long(n: u64, out: &mut [u8], at: usize) -> usize
     requires { ⌜ at + 16 ≤ length (now out) ⌝ }
     ensures { λ r. ⌜ Put (spec.hexText (spec.longBytes n)) (now (out .entry)) at (now (out .exit)) r ⌝ }
 {
-    let k = put_hex(&word((n / 4294967296) as u32), out, at);
-    put_hex(&word((n % 4294967296) as u32), out, k)
+    let k = put_quad(n / 4294967296, out, at);
+    put_quad(n % 4294967296, out, k)
 }
 
 // The line of a refusal, which is always as long.
-fn put_refused(e: Refusal, out: &mut [u8]) -> usize
+fn put_refused(number: u8, start: u64, end: u64, out: &mut [u8]) -> usize
     requires { ⌜ 35 ≤ length (now out) ⌝ }
-    ensures { λ r. ⌜ Put (spec.refusedLine e) (now (out .entry)) 0 (now (out .exit)) r ⌝ }
+    ensures { λ r. ⌜ Put (spec.lineOf (spec.refusalBytes number start end)) (now (out .entry)) 0 (now (out .exit)) r ⌝ }
 {
-    let kind = e.kind;
-    let place = e.place;
-    let i = put_hex(&[refusals::number(kind)], out, 0);
-    let j = put_long(place.0, out, i);
-    let k = put_long(place.1, out, j);
+    let i = put_byte(number, out, 0);
+    let j = put_long(start, out, i);
+    let k = put_long(end, out, j);
+    end_line(out, k)
+}
+
+// ---- by words
+
+// A month or a day, by the number that says whether it is there; ff if it is not.
+fn part_byte(has: u64, n: u8) -> u8
+    ensures { λ r. ⌜ r ≡ coded.partByte has n ⌝ }
+{
+    if has == 0 {
+        return 255;
+    }
+    n
+}
+
+// The month and the day of a Datetime's first word.
+fn put_parts(w: u64, out: &mut [u8], at: usize) -> usize
+    requires { ⌜ at + 4 ≤ length (now out) ⌝ }
+    ensures { λ r. ⌜ Put (spec.hexText (coded.partBytes w)) (now (out .entry)) at (now (out .exit)) r ⌝ }
+{
+    let month = part_byte(w / 4294967296 % 256, (w / 1099511627776 % 256) as u8);
+    let day = part_byte(
+        w / 281474976710656 % 256,
+        (w / 72057594037927936 % 256) as u8,
+    );
+    let k = put_byte(month, out, at);
+    put_byte(day, out, k)
+}
+
+// The time of the second; most Datetimes have none.
+fn put_clock(t: u64, out: &mut [u8], at: usize) -> usize
+    requires { ⌜ at + 14 ≤ length (now out) ⌝ }
+    ensures { λ r. ⌜ Put (spec.hexText (coded.clockBytes t)) (now (out .entry)) at (now (out .exit)) r ⌝ }
+{
+    if t == 0 {
+        let k = put_four(0, 0, 0, 0, out, at);
+        return put_three(0, 0, 0, out, k);
+    }
+    let k = put_four(
+        (t % 256) as u8,
+        (t / 256 % 256) as u8,
+        (t / 65536 % 256) as u8,
+        (t / 16777216 % 256) as u8,
+        out,
+        at,
+    );
+    put_three(
+        (t / 4294967296 % 256) as u8,
+        (t / 1099511627776 % 256) as u8,
+        (t / 281474976710656 % 256) as u8,
+        out,
+        k,
+    )
+}
+
+// A Datetime.
+fn put_coded(w: u64, t: u64, out: &mut [u8], at: usize) -> usize
+    requires { ⌜ at + 26 ≤ length (now out) ⌝ }
+    ensures { λ r. ⌜ Put (spec.hexText (coded.codedEnd w t)) (now (out .entry)) at (now (out .exit)) r ⌝ }
+{
+    let i = put_quad(w, out, at);
+    let k = put_parts(w, out, i);
+    put_clock(t, out, k)
+}
+
+// What comes before them: 00, the shape and the marks.
+fn put_head(last: u64, out: &mut [u8]) -> usize
+    requires { ⌜ 6 ≤ length (now out) ⌝ }
+    ensures { λ r. ⌜ Put (spec.hexText (0 ∷ coded.codedShape last ∷ coded.codedMarks last ∷ [])) (now (out .entry)) 0 (now (out .exit)) r ⌝ }
+{
+    put_three(
+        0,
+        (last % 4) as u8,
+        (last / 256 % 2 + 2 * (last / 65536 % 2)) as u8,
+        out,
+        0,
+    )
+}
+
+// The line of a Date with one Datetime, whose written text is given.
+fn put_one_coded(w: Words, text: &[u8], out: &mut [u8]) -> usize
+    requires { ⌜ 2 * (16 + length (now text)) + 1 ≤ length (now out) ⌝ }
+    ensures { λ r. ⌜ Put (coded.oneCoded w (now (text .entry))) (now (out .entry)) 0 (now (out .exit)) r ⌝ }
+{
+    let i = put_head(w.last, out);
+    let j = put_coded(w.first, w.first_time, out, i);
+    let k = put_hex(text, out, j);
+    end_line(out, k)
+}
+
+// The same with two.
+fn put_two_coded(w: Words, text: &[u8], out: &mut [u8]) -> usize
+    requires { ⌜ 2 * (29 + length (now text)) + 1 ≤ length (now out) ⌝ }
+    ensures { λ r. ⌜ Put (coded.twoCoded w (now (text .entry))) (now (out .entry)) 0 (now (out .exit)) r ⌝ }
+{
+    let h = put_head(w.last, out);
+    let i = put_coded(w.first, w.first_time, out, h);
+    let j = put_coded(w.second, w.second_time, out, i);
+    let k = put_hex(text, out, j);
     end_line(out, k)
 }
 
@@ -263,15 +407,25 @@ fn no_room() -> Written
     Written::Refused(refusals::nowhere(Kind::NoRoom))
 }
 
-// The line of a refusal, if there is room for it.
-fn write_refused(e: Refusal, out: &mut [u8]) -> Written
-    ensures { λ r. ⌜ r ≡ writing.answer false (spec.refusedLine e) (length (now (out .entry))) ⌝ }
-    ensures { λ r. ⌜ now (out .exit) ≡ writing.afterwards false (spec.refusedLine e) (now (out .entry)) ⌝ }
+// The line of a refusal by its number, with its place, if there is room for it.
+fn write_number(number: u8, start: u64, end: u64, out: &mut [u8]) -> Written
+    ensures { λ r. ⌜ r ≡ writing.answer false (spec.lineOf (spec.refusalBytes number start end)) (length (now (out .entry))) ⌝ }
+    ensures { λ r. ⌜ now (out .exit) ≡ writing.afterwards false (spec.lineOf (spec.refusalBytes number start end)) (now (out .entry)) ⌝ }
 {
     if out.len() < 35 {
         return no_room();
     }
-    Written::Done(put_refused(e, out))
+    Written::Done(put_refused(number, start, end, out))
+}
+
+// The line of a refusal.
+fn write_refused(e: Refusal, out: &mut [u8]) -> Written
+    ensures { λ r. ⌜ r ≡ writing.answer false (spec.refusedLine e) (length (now (out .entry))) ⌝ }
+    ensures { λ r. ⌜ now (out .exit) ≡ writing.afterwards false (spec.refusedLine e) (now (out .entry)) ⌝ }
+{
+    let kind = e.kind;
+    let place = e.place;
+    write_number(refusals::number(kind), place.0, place.1, out)
 }
 
 // Whether a buffer is shorter than the line of so many bytes and a text.
@@ -294,16 +448,9 @@ fn end_length(level: bool) -> usize
 }
 
 // The line of a Date with one Datetime, by the numbers of its shape and its marks, whose written text is given, if there is room for it.
-pub fn write_one(
-    level: bool,
-    shape: u8,
-    marks: u8,
-    d: Datetime,
-    text: &[u8],
-    out: &mut [u8],
-) -> Written
-    ensures { λ r. ⌜ r ≡ writing.answer false (spec.oneLine level shape marks d (now (text .entry))) (length (now (out .entry))) ⌝ }
-    ensures { λ r. ⌜ now (out .exit) ≡ writing.afterwards false (spec.oneLine level shape marks d (now (text .entry))) (now (out .entry)) ⌝ }
+fn write_one(level: bool, shape: u8, marks: u8, d: Datetime, text: &[u8], out: &mut [u8]) -> Written
+    ensures { λ r. ⌜ r ≡ writing.answer false (shapes.oneLine level shape marks d (now (text .entry))) (length (now (out .entry))) ⌝ }
+    ensures { λ r. ⌜ now (out .exit) ≡ writing.afterwards false (shapes.oneLine level shape marks d (now (text .entry))) (now (out .entry)) ⌝ }
 {
     if is_short(out.len(), 3 + end_length(level), text.len()) {
         return no_room();
@@ -312,7 +459,7 @@ pub fn write_one(
 }
 
 // The same of a range with two.
-pub fn write_two(
+fn write_two(
     level: bool,
     marks: u8,
     a: Datetime,
@@ -320,8 +467,8 @@ pub fn write_two(
     text: &[u8],
     out: &mut [u8],
 ) -> Written
-    ensures { λ r. ⌜ r ≡ writing.answer false (spec.twoLine level marks a b (now (text .entry))) (length (now (out .entry))) ⌝ }
-    ensures { λ r. ⌜ now (out .exit) ≡ writing.afterwards false (spec.twoLine level marks a b (now (text .entry))) (now (out .entry)) ⌝ }
+    ensures { λ r. ⌜ r ≡ writing.answer false (shapes.twoLine level marks a b (now (text .entry))) (length (now (out .entry))) ⌝ }
+    ensures { λ r. ⌜ now (out .exit) ≡ writing.afterwards false (shapes.twoLine level marks a b (now (text .entry))) (now (out .entry)) ⌝ }
 {
     if is_short(out.len(), 3 + 2 * end_length(level), text.len()) {
         return no_room();
@@ -399,4 +546,29 @@ pub fn write_level_answer(r: ReadDate, out: &mut [u8]) -> Written
         ReadDate::Accepted(d) => write_level_date(d, out),
         ReadDate::Refused(e) => write_refused(e, out),
     }
+}
+
+// The line of a Date, by its words, whose written text is given, if there is room for it.
+pub fn write_words(w: Words, text: &[u8], out: &mut [u8]) -> Written
+    ensures { λ r. ⌜ r ≡ writing.answer false (coded.wordsLine w (now (text .entry))) (length (now (out .entry))) ⌝ }
+    ensures { λ r. ⌜ now (out .exit) ≡ writing.afterwards false (coded.wordsLine w (now (text .entry))) (now (out .entry)) ⌝ }
+{
+    if w.last % 4 == 3 {
+        if is_short(out.len(), 29, text.len()) {
+            return no_room();
+        }
+        return Written::Done(put_two_coded(w, text, out));
+    }
+    if is_short(out.len(), 16, text.len()) {
+        return no_room();
+    }
+    Written::Done(put_one_coded(w, text, out))
+}
+
+// The line of a refusal, by its words, if there is room for it.
+pub fn write_refused_words(w: Words, out: &mut [u8]) -> Written
+    ensures { λ r. ⌜ r ≡ writing.answer false (coded.refusedWords w) (length (now (out .entry))) ⌝ }
+    ensures { λ r. ⌜ now (out .exit) ≡ writing.afterwards false (coded.refusedWords w) (now (out .entry)) ⌝ }
+{
+    write_number((w.last / 4294967296 % 256) as u8, w.start, w.end, out)
 }

@@ -276,6 +276,10 @@ pub answer-is : (f : List ℕ) {n : ℕ} {op : Operation} {r : ReadDate} → n �
 unfolding frameAnswer
 answer-is f en eo er = rw (eo, en, er) refl
 
+-- a list by other names
+pub same-list : (op : Operation) {b c s t : List ℕ} → b ≡ c → s ≡ t → readBy op b s ≡ readBy op c t
+same-list op e f = rw (e, f)
+
 -- so many numbers of a row
 pub row-short : (has : Bool) {n : ℕ} → n ≡ rowLength has → n ≤ 4
 unfolding rowLength pick

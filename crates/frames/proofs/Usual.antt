@@ -1,7 +1,8 @@
 -- A frame with one Normal chunk whose text is a usual one: what is read of it, and so its answer. Assumes nothing.
-use mathlib.Core.Path.{_≡_, refl, sym, _∙_}
+use mathlib.Core.Path.{_≡_, refl, sym, ap, _∙_}
 use mathlib.Core.Bool.{true, false, false≢true}
 use mathlib.Core.List.{List}
+use mathlib.Core.Option.{some}
 use Prim.Native.Nat.{ℕ, _-_, _≤_}
 use native.Mathlib.Omega.{arith}
 use lib.Dec.{eqb, leb}
@@ -10,18 +11,21 @@ use lib.Seq.{length-take-le}
 use borrow.Author.Tests.{leb-true, eqb-true, eq-eqb}
 use Rattle.chars.specs.Pick.{pick}
 use Rattle.chars.proofs.Cases.{and-true}
-use Rattle.dates.specs.declared.Datetime.{Datetime}
 use Rattle.dates.specs.declared.Date.{Date}
 use Rattle.refusals.specs.declared.ReadDate.the-variants.{Accepted}
 use Rattle.reading_laws.specs.Field.{parsed, parsedStrict}
-use Rattle.quick.specs.declared.UsualText.the-variants.{One, Two}
-use Rattle.quick.specs.Quick.{usualText}
+use Rattle.codes.specs.declared.Words.{Words}
+use Rattle.codes.specs.Words.{nothing, wordsOf, wordsOr}
+use Rattle.codes.specs.Texts.{written}
+use Rattle.codes.specs.Lists.{oneNormal, listWritten}
+use Rattle.codes.proofs.Laws.{told}
+use Rattle.code_laws.proofs.Written.{written-accepted, written-typed, written-parsed, written-strict, written-untimed, written-calm, written-back}
+use Rattle.roundtrip_laws.specs.Domain.{Untimed}
 use Rattle.roundtrip_laws.proofs.Seasons.{ported-none}
-use Rattle.reader.specs.Once.{oneNormal}
-use Rattle.reader.specs.Usual.{Usually}
-use Rattle.reader.proofs.Quick.{one-usual, two-usual, both-ported, both-strict, calm}
-use Rattle.answers.specs.Answer.{marks, bit, shape, endsBytes, acceptedBytes, acceptedLine, oneLine, twoLine, answerLine}
+use Rattle.answers.specs.Answer.{acceptedLine, answerLine}
+use Rattle.answers.specs.Coded.{wordsLine}
 use Rattle.answers.proofs.Lines.{former-line}
+use Rattle.answers.proofs.Coded.{accepted-coded}
 use Rattle.frames.specs.declared.Operation.{Operation}
 use Rattle.frames.specs.declared.Operation.the-variants.{Ported, Strict, LevelOne, ThreeFields, Unknown}
 use Rattle.frames.specs.Lists.{byteAt, endOf, rowAt, listEnd, listText, listTable}
@@ -74,12 +78,16 @@ module _ (f : List ℕ) (u : isUsual f ≡ true) where
       let n : length (onlyText f) ≡ length f - 12 = length-take-le (length f - 12) (drop 12 f) (omega arith) in
       rw (eq-eqb (byteAt f 2) 0 (w .normal)) (eq-eqb (byteAt f 3) (length (onlyText f)) (w .whole ∙ sym n))
 
-  module _ {d : Date} (y : Usually (onlyText f) d) where
+  module _ {d : Date} (e : written (onlyText f) ≡ some (Accepted d)) where
+    at-once : listWritten (onlyText f) (rowAt f 2) ≡ some (Accepted d)
+    unfolding listWritten pick
+    at-once = rw one-normal e
+
     by-ported : parsed (listText f 1) (listTable f 1) ≡ Accepted d
-    by-ported = rw (← there .text-there, ← there .row-there) (both-ported (onlyText f) (rowAt f 2) one-normal y)
+    by-ported = rw (← there .text-there, ← there .row-there) (written-parsed (onlyText f) (rowAt f 2) at-once)
 
     by-strict : parsedStrict (listText f 1) (listTable f 1) ≡ Accepted d
-    by-strict = rw (← there .text-there, ← there .row-there) (both-strict (onlyText f) (rowAt f 2) one-normal y)
+    by-strict = rw (← there .text-there, ← there .row-there) (written-strict (onlyText f) (rowAt f 2) at-once)
 
     by-operation : (op : Operation) → operationOf f ≡ op → readsUsual op ≡ true → frameAnswer f ≡ answerLine (Accepted d)
     unfolding frameAnswer lineBy frameRead formed readOf readsUsual pick
@@ -89,16 +97,21 @@ module _ (f : List ℕ) (u : isUsual f ≡ true) where
     by-operation ThreeFields e r = absurd (false≢true r)
     by-operation Unknown e r = absurd (false≢true r)
 
-    usual-line : acceptedLine false d (onlyText f) ≡ frameAnswer f
+    usual-line : Untimed (d .value) → acceptedLine false d (onlyText f) ≡ frameAnswer f
     unfolding pick
-    usual-line =
-        sym (by-operation (operationOf f) refl (form f u .reads) ∙ former-line d (ported-none _ _ by-ported) ∙ rw (calm d (y .in-domain), y .text-is))
+    usual-line n =
+        sym
+        (by-operation (operationOf f) refl (form f u .reads)
+        ∙ former-line d (ported-none _ _ by-ported)
+        ∙ rw (written-calm (onlyText f) e, written-back (onlyText f) e n))
 
-  -- the line of one point, and of two
-  pub one-line : {d : Datetime} → usualText (onlyText f) ≡ One d → oneLine false 0 0 d (onlyText f) ≡ frameAnswer f
-  unfolding acceptedBytes shape marks bit endsBytes
-  one-line e = usual-line (one-usual (onlyText f) e)
-
-  pub two-line : {a b : Datetime} → usualText (onlyText f) ≡ Two a b → twoLine false 0 a b (onlyText f) ≡ frameAnswer f
-  unfolding acceptedBytes shape marks bit endsBytes
-  two-line e = usual-line (two-usual (onlyText f) e)
+  -- the line of what is said at once, if it has no time
+  pub said-line : {w : Words} → w ≡ wordsOr (written (onlyText f)) → (w .last ≡ nothing → ⊥) → w .«first_time» ≡ 0 → wordsLine w (onlyText f) ≡ frameAnswer f
+  said-line {w} e h z =
+      let t = told (written (onlyText f)) (λ q. h (ap (λ (v : Words). v .last) e ∙ q)) in
+      let a = written-accepted (onlyText f) (t .1) in
+      let d = a .0 in
+      let g : written (onlyText f) ≡ some (Accepted d) = t .1 ∙ ap some (a .1) in
+      let k : w ≡ wordsOf (Accepted d) = e ∙ ap wordsOr g in
+      accepted-coded d (onlyText f) k (written-typed (onlyText f) g)
+      ∙ usual-line g (written-untimed (onlyText f) g (sym (ap (λ (v : Words). v .«first_time») k) ∙ z))

@@ -3,10 +3,12 @@ use Prim.Native.Nat.{ℕ, _+_, _*_, _-_, _≤_}
 use mathlib.Core.Path.{_≡_}
 use mathlib.Core.Bool.{Bool, true, false, _&&_}
 use mathlib.Core.List.{List}
-use lib.Dec.{eqb, leb}
+use lib.Dec.{eqb, ltb, leb}
 use lib.ListN.{length, take, drop}
 use Rattle.chars.specs.Pick.{pick}
 use Rattle.refusals.specs.declared.ReadDate.{ReadDate}
+use Rattle.codes.specs.declared.Words.{Words}
+use Rattle.codes.specs.Back.{isPlain}
 use Rattle.reading_laws.specs.Field.{parsed, parsedStrict, parsedLevelOne}
 use Rattle.chunks.specs.Lent.{lent, optional, three}
 use Rattle.reading_laws.specs.Fields.{threeFields}
@@ -100,3 +102,17 @@ unfoldable pub isUsual : List ℕ → Bool
 isUsual f =
     leb 12 (length f)
     && (eqb (byteAt f 1) 1 && (eqb (byteAt f 2) 0 && (eqb (byteAt f 3) (length f - 12) && readsUsual (operationOf f))))
+
+-- whether an operation answers by level one: with the seasons, and its own writer's text
+unfoldable pub byLevel : Operation → Bool
+byLevel Ported = false
+byLevel Strict = false
+byLevel LevelOne = true
+byLevel ThreeFields = false
+byLevel Unknown = false
+
+-- whether words are answered with the text that is put from them: they are plain, and say no season
+unfoldable pub saysPlain : Words → Bool
+saysPlain w =
+    ltb (w .«first_time») 72057594037927936
+    && (ltb (w .«second_time») 72057594037927936 && isPlain (w .first) (w .second) (w .last))

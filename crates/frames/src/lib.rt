@@ -6,14 +6,20 @@ ghost use lib.ListN.{length};
 ghost use Rattle.hexes.specs.Hex.{isHex};
 ghost use Rattle.puts.specs.Answers as writing;
 ghost use Rattle.puts.specs.Answers.{Put};
+ghost use Rattle.refusals.specs.declared.ReadDate.{ReadDate};
+ghost use Rattle.codes.specs.Words.{wordsOf};
+ghost use Rattle.codes.specs.Typed.{Typed};
+ghost use Rattle.codes.specs.Back.{isPlain, wordsText};
 ghost use Rattle.answers.specs.Answer.{answerLine};
+ghost use Rattle.answers.specs.Coded.{wordsLine};
 ghost use Rattle.frames.specs.Lists as list;
-ghost use Rattle.frames.specs.Room.{Room, operationOf, readsList, readBy, listBy, readLists, isSingle, textStart, rowLength, Threefold, readsUsual, isUsual};
+ghost use Rattle.frames.specs.Room.{Room, operationOf, readsList, readBy, listBy, readLists, isSingle, textStart, rowLength, Threefold, readsUsual, isUsual, byLevel, saysPlain};
 ghost use Rattle.frames.specs.declared.Operation.the-variants.{ThreeFields};
 ghost use Rattle.frames.specs.Frame as spec;
+use codes::NOTHING;
+use codes::Words;
 use hexes::Hex;
 use puts::Written;
-use quick::UsualText;
 use refusals::Kind;
 use refusals::ReadDate;
 
@@ -261,29 +267,32 @@ fn unpack_optional(
 // ---- what is read of a frame
 
 // No frame.
-fn bad_frame() -> ReadDate
-    ensures { λ r. ⌜ r ≡ spec.badFrame ⌝ }
+fn bad_frame() -> Words
+    ensures { λ r. ⌜ r ≡ wordsOf spec.badFrame ⌝ }
+    ensures { λ _. ⌜ Typed spec.badFrame ⌝ }
 {
-    ReadDate::Refused(refusals::nowhere(Kind::BadFrame))
+    codes::pack(ReadDate::Refused(refusals::nowhere(Kind::BadFrame)))
 }
 
-// A list, by the reader that an operation asks for. A frame of one usual text is answered before it comes here.
-fn read_by(op: Operation, bytes: &[u8], table: &[u64]) -> ReadDate
-    ensures { λ r. ⌜ r ≡ readBy op (now (bytes .entry)) (now (table .entry)) ⌝ }
+// A list, by the reader that an operation asks for.
+fn read_by(op: Operation, bytes: &[u8], table: &[u64]) -> Words
+    ensures { λ r. ⌜ r ≡ wordsOf (readBy op (now (bytes .entry)) (now (table .entry))) ⌝ }
+    ensures { λ _. ⌜ Typed (readBy op (now (bytes .entry)) (now (table .entry))) ⌝ }
 {
     match op {
-        Operation::Ported => reader::parse_unusual(bytes, table),
-        Operation::Strict => reader::parse_strict_unusual(bytes, table),
-        Operation::LevelOne => reader::parse_level_one(bytes, table),
+        Operation::Ported => reader::parse_words(bytes, table),
+        Operation::Strict => reader::parse_strict_words(bytes, table),
+        Operation::LevelOne => reader::level_words(bytes, table),
         Operation::ThreeFields => bad_frame(),
         Operation::Unknown => bad_frame(),
     }
 }
 
 // One list, copied into buffers.
-fn list_in(op: Operation, f: &[u8], text: &mut [u8], table: &mut [u64]) -> ReadDate
+fn list_in(op: Operation, f: &[u8], text: &mut [u8], table: &mut [u64]) -> Words
     requires { ⌜ Room (now f) (now text) (now table) × (spec.oneFills (now f) ≡ true) ⌝ }
-    ensures { λ r. ⌜ r ≡ listBy op (now (f .entry)) ⌝ }
+    ensures { λ r. ⌜ r ≡ wordsOf (listBy op (now (f .entry))) ⌝ }
+    ensures { λ _. ⌜ Typed (listBy op (now (f .entry))) ⌝ }
 {
     let u = unpack_list(f, 1, text, 0, table, 0);
     read_by(op, &text[..u.text], &table[..u.table])
@@ -298,10 +307,11 @@ fn read_lists(
     y: Unpacked,
     m: Unpacked,
     d: Unpacked,
-) -> ReadDate
+) -> Words
     requires { ⌜ (y .text ≤ m .text) × (m .text ≤ d .text) × (d .text ≤ length (now text)) ⌝ }
     requires { ⌜ (y .table ≤ m .table) × (m .table ≤ d .table) × (d .table ≤ length (now table)) ⌝ }
-    ensures { λ r. ⌜ r ≡ readLists (now (text .entry)) (now (table .entry)) «has_month» «has_day» y m d ⌝ }
+    ensures { λ r. ⌜ r ≡ wordsOf (readLists (now (text .entry)) (now (table .entry)) «has_month» «has_day» y m d) ⌝ }
+    ensures { λ _. ⌜ Typed (readLists (now (text .entry)) (now (table .entry)) «has_month» «has_day» y m d) ⌝ }
 {
     let a = y.text;
     let b = m.text;
@@ -309,7 +319,7 @@ fn read_lists(
     let i = y.table;
     let j = m.table;
     let k = d.table;
-    reader::parse_three_fields(
+    reader::three_words(
         &text[..a],
         &table[..i],
         has_month,
@@ -322,9 +332,10 @@ fn read_lists(
 }
 
 // Three fields, copied into buffers.
-fn three_in(f: &[u8], text: &mut [u8], table: &mut [u64]) -> ReadDate
+fn three_in(f: &[u8], text: &mut [u8], table: &mut [u64]) -> Words
     requires { ⌜ Room (now f) (now text) (now table) × (spec.threeFill (now f) ≡ true) ⌝ }
-    ensures { λ r. ⌜ r ≡ spec.readOf ThreeFields (now (f .entry)) ⌝ }
+    ensures { λ r. ⌜ r ≡ wordsOf (spec.readOf ThreeFields (now (f .entry))) ⌝ }
+    ensures { λ _. ⌜ Typed (spec.readOf ThreeFields (now (f .entry))) ⌝ }
 {
     let month_at = list_end(f, 1);
     let day_at = optional_end(f, month_at);
@@ -338,9 +349,10 @@ fn three_in(f: &[u8], text: &mut [u8], table: &mut [u64]) -> ReadDate
 
 // A frame of any size. The large arrays stand in a function with several callers, which is not compiled into them: so no short frame pays
 // for their room on the stack. It looks at the operation itself, for with a given one it would be short enough to be.
-fn read_large(f: &[u8]) -> ReadDate
+fn read_large(f: &[u8]) -> Words
     requires { ⌜ (length (now f) ≤ 8192) × (spec.formed (operationOf (now f)) (now f) ≡ true) ⌝ }
-    ensures { λ r. ⌜ r ≡ spec.readOf (operationOf (now (f .entry))) (now (f .entry)) ⌝ }
+    ensures { λ r. ⌜ r ≡ wordsOf (spec.readOf (operationOf (now (f .entry))) (now (f .entry))) ⌝ }
+    ensures { λ _. ⌜ Typed (spec.readOf (operationOf (now (f .entry))) (now (f .entry))) ⌝ }
 {
     let op = asked(byte_at(f, 0));
     let mut text = [0u8; 8192];
@@ -356,9 +368,10 @@ fn read_large(f: &[u8]) -> ReadDate
 
 // One list that fills a frame. A single chunk is read where it stands; the chunks of any other are put together first, those of a short frame
 // in small arrays, which cost less to clear.
-fn read_list(op: Operation, f: &[u8]) -> ReadDate
+fn read_list(op: Operation, f: &[u8]) -> Words
     requires { ⌜ (length (now f) ≤ 8192) × (spec.oneFills (now f) ≡ true) × (readsList op ≡ true) × (operationOf (now f) ≡ op) ⌝ }
-    ensures { λ r. ⌜ r ≡ listBy op (now (f .entry)) ⌝ }
+    ensures { λ r. ⌜ r ≡ wordsOf (listBy op (now (f .entry))) ⌝ }
+    ensures { λ _. ⌜ Typed (listBy op (now (f .entry))) ⌝ }
 {
     if byte_at(f, 1) == 1 {
         let row = row_at(f, 2);
@@ -405,9 +418,10 @@ fn row_length(has: bool) -> usize
 }
 
 // Three fields of one chunk each, read where they stand.
-fn three_there(f: &[u8], month_at: usize, day_at: usize) -> ReadDate
+fn three_there(f: &[u8], month_at: usize, day_at: usize) -> Words
     requires { ⌜ Threefold (now f) «month_at» «day_at» ⌝ }
-    ensures { λ r. ⌜ r ≡ spec.readOf ThreeFields (now (f .entry)) ⌝ }
+    ensures { λ r. ⌜ r ≡ wordsOf (spec.readOf ThreeFields (now (f .entry))) ⌝ }
+    ensures { λ _. ⌜ Typed (spec.readOf ThreeFields (now (f .entry))) ⌝ }
 {
     let has_month = has_list(f, month_at);
     let has_day = has_list(f, day_at);
@@ -418,7 +432,7 @@ fn three_there(f: &[u8], month_at: usize, day_at: usize) -> ReadDate
     let d = text_start(has_day, day_at);
     let i = row_length(has_month);
     let j = row_length(has_day);
-    reader::parse_three_fields(
+    reader::three_words(
         &f[12..month_at],
         &year,
         has_month,
@@ -431,9 +445,10 @@ fn three_there(f: &[u8], month_at: usize, day_at: usize) -> ReadDate
 }
 
 // Three fields.
-fn read_three(f: &[u8]) -> ReadDate
+fn read_three(f: &[u8]) -> Words
     requires { ⌜ (length (now f) ≤ 8192) × (spec.threeFill (now f) ≡ true) × (operationOf (now f) ≡ ThreeFields) ⌝ }
-    ensures { λ r. ⌜ r ≡ spec.readOf ThreeFields (now (f .entry)) ⌝ }
+    ensures { λ r. ⌜ r ≡ wordsOf (spec.readOf ThreeFields (now (f .entry))) ⌝ }
+    ensures { λ _. ⌜ Typed (spec.readOf ThreeFields (now (f .entry))) ⌝ }
 {
     let month_at = list_end(f, 1);
     let day_at = optional_end(f, month_at);
@@ -453,9 +468,10 @@ fn read_three(f: &[u8]) -> ReadDate
 }
 
 // What is read of a frame; what is none is refused before anything is read.
-fn read_frame(f: &[u8]) -> ReadDate
+fn read_frame(f: &[u8]) -> Words
     requires { ⌜ length (now f) ≤ 8192 ⌝ }
-    ensures { λ r. ⌜ r ≡ spec.frameRead (now (f .entry)) ⌝ }
+    ensures { λ r. ⌜ r ≡ wordsOf (spec.frameRead (now (f .entry))) ⌝ }
+    ensures { λ _. ⌜ Typed (spec.frameRead (now (f .entry))) ⌝ }
 {
     let op = asked(byte_at(f, 0));
     if is_formed(op, f) {
@@ -504,18 +520,57 @@ fn is_usual(f: &[u8]) -> bool
     reads_usual(asked(f[0]))
 }
 
-// The line of what was read, by the operation.
-fn write_read(op: Operation, r: ReadDate, out: &mut [u8]) -> Written
-    ensures { λ w. ⌜ w ≡ writing.answer false (spec.lineBy op r) (length (now (out .entry))) ⌝ }
-    ensures { λ w. ⌜ now (out .exit) ≡ writing.afterwards false (spec.lineBy op r) (now (out .entry)) ⌝ }
+// Whether an operation answers by level one.
+fn by_level(op: Operation) -> bool
+    ensures { λ r. ⌜ r ≡ byLevel op ⌝ }
 {
     match op {
-        Operation::Ported => answers::write_answer(r, out),
-        Operation::Strict => answers::write_answer(r, out),
-        Operation::LevelOne => answers::write_level_answer(r, out),
-        Operation::ThreeFields => answers::write_answer(r, out),
-        Operation::Unknown => answers::write_answer(r, out),
+        Operation::Ported => false,
+        Operation::Strict => false,
+        Operation::LevelOne => true,
+        Operation::ThreeFields => false,
+        Operation::Unknown => false,
     }
+}
+
+// Whether words are answered with the text that is put from them: they are plain, and say no season.
+fn says_plain(w: Words) -> bool
+    ensures { λ r. ⌜ r ≡ saysPlain w ⌝ }
+{
+    if w.first_time < 72057594037927936 {
+        if w.second_time < 72057594037927936 {
+            return codes::is_plain(w.first, w.second, w.last);
+        }
+    }
+    false
+}
+
+// The line of plain words, with the text that is put from them.
+fn write_plain(w: Words, out: &mut [u8]) -> Written
+    requires { ⌜ isPlain (w .first) (w .second) (w .last) ≡ true ⌝ }
+    ensures { λ r. ⌜ r ≡ writing.answer false (wordsLine w (wordsText (w .first) (w .second) (w .last))) (length (now (out .entry))) ⌝ }
+    ensures { λ _. ⌜ now (out .exit) ≡ writing.afterwards false (wordsLine w (wordsText (w .first) (w .second) (w .last))) (now (out .entry)) ⌝ }
+{
+    let mut text = [0u8; 24];
+    let n = codes::put_text(w.first, w.second, w.last, &mut text);
+    answers::write_words(w, &text[..n], out)
+}
+
+// The line of words, by the operation; a refusal has the same by each.
+fn write_said(op: Operation, w: Words, out: &mut [u8]) -> Written
+    ensures { λ r. ⌜ ((x : ReadDate) → w ≡ wordsOf x → Typed x → r ≡ writing.answer false (spec.lineBy op x) (length (now (out .entry)))) ⌝ }
+    ensures { λ _. ⌜ ((x : ReadDate) → w ≡ wordsOf x → Typed x → now (out .exit) ≡ writing.afterwards false (spec.lineBy op x) (now (out .entry))) ⌝ }
+{
+    if 4294967296 <= w.last {
+        return answers::write_refused_words(w, out);
+    }
+    if by_level(op) {
+        return answers::write_level_answer(codes::unpack(w), out);
+    }
+    if says_plain(w) {
+        return write_plain(w, out);
+    }
+    answers::write_answer(codes::unpack(w), out)
 }
 
 // The answer to any frame.
@@ -525,10 +580,10 @@ fn answer_any(f: &[u8], out: &mut [u8]) -> Written
     ensures { λ r. ⌜ now (out .exit) ≡ writing.afterwards false (spec.frameAnswer (now (f .entry))) (now (out .entry)) ⌝ }
 {
     let op = asked(byte_at(f, 0));
-    write_read(op, read_frame(f), out)
+    write_said(op, read_frame(f), out)
 }
 
-// The answer to a frame. A usual text is that of its Date, so that its line can be written at once.
+// The answer to a frame. A usual text without a time is that of its Date, so that its line can be written at once.
 fn answer_frame(f: &[u8], out: &mut [u8]) -> Written
     requires { ⌜ length (now f) ≤ 8192 ⌝ }
     ensures { λ r. ⌜ r ≡ writing.answer false (spec.frameAnswer (now (f .entry))) (length (now (out .entry))) ⌝ }
@@ -536,11 +591,12 @@ fn answer_frame(f: &[u8], out: &mut [u8]) -> Written
 {
     if is_usual(f) {
         let text = &f[12..];
-        return match quick::text(text) {
-            UsualText::One(d) => answers::write_one(false, 0, 0, d, text, out),
-            UsualText::Two(a, b) => answers::write_two(false, 0, a, b, text, out),
-            UsualText::Other => answer_any(f, out),
-        };
+        let w = codes::text(text);
+        if w.last != NOTHING {
+            if w.first_time == 0 {
+                return answers::write_words(w, text, out);
+            }
+        }
     }
     answer_any(f, out)
 }
@@ -575,5 +631,5 @@ pub fn answer_long(out: &mut [u8]) -> Written
     ensures { λ r. ⌜ r ≡ writing.answer false (answerLine spec.badFrame) (length (now (out .entry))) ⌝ }
     ensures { λ r. ⌜ now (out .exit) ≡ writing.afterwards false (answerLine spec.badFrame) (now (out .entry)) ⌝ }
 {
-    answers::write_answer(bad_frame(), out)
+    answers::write_refused_words(bad_frame(), out)
 }

@@ -1,3 +1,10 @@
+use mathlib.Core.Path.{refl, ap, _∙_}
+use mathlib.Core.Bool.{false}
+use mathlib.Core.List.{List}
+use Prim.Native.Nat.{ℕ}
+use lib.ListN.{length}
+use Rattle.puts.specs.Answers.{answer, afterwards}
+use Rattle.frames.specs.Frame.{frameRead}
 use Rattle.frames.proofs.Parts.{answer-is}
 use borrow.Author.Needs.{needs}
 use Rattle.frames.proofs.answer_any.Statement.{statement}
@@ -10,8 +17,12 @@ returns c =
     let o = f .before in
     let b = o .before in
     let s = b .before .before .before in
-    let e = answer-is (s .args .f .now) (b .byte-at .ensures) (o .asked .ensures) (f .read-frame .ensures) in
-    rw e at (w .write-read .ensures)
+    let a = s .args in
+    let x = frameRead (a .f .now) in
+    let r = f .read-frame .ensures in
+    let e = answer-is (a .f .now) {r = x} (b .byte-at .ensures) (o .asked .ensures) refl in
+    let q = w .write-said .ensures in
+    (q .0 x (r .0) (r .1) ∙ ap (λ (l : List ℕ). answer false l (length (a .out .now))) e, q .1 x (r .0) (r .1) ∙ ap (λ (l : List ℕ). afterwards false l (a .out .now)) e)
 
 pub answer-any-spec : {M : Type 1} → statement M
 answer-any-spec =

@@ -1,9 +1,10 @@
 use mathlib.Core.Path.{ap, _∙_}
 use mathlib.Core.Bool.{false}
+use mathlib.Core.List.{List}
+use Prim.Native.Nat.{ℕ}
 use lib.ListN.{length}
-use Rattle.refusals.specs.declared.ReadDate.{ReadDate}
 use Rattle.puts.specs.Answers.{answer, afterwards}
-use Rattle.answers.specs.Answer.{answerLine}
+use Rattle.frames.proofs.Said.{bad-line}
 use borrow.Author.Needs.{needs}
 use Rattle.frames.proofs.answer_long.Statement.{statement}
 use Rattle.frames.proofs.answer_long.Tie as tie
@@ -13,9 +14,9 @@ returns c =
     let b2 = c .before .before in
     let b4 = b2 .before .before in
     let s = b4 .before .before in
-    let e = b4 .bad-frame .ensures in
-    let q = b2 .write-answer .ensures in
-    (q .0 ∙ ap (λ (x : ReadDate). answer false (answerLine x) (length (s .args .out .now))) e, q .1 ∙ ap (λ (x : ReadDate). afterwards false (answerLine x) (s .args .out .now)) e)
+    let e = bad-line (b4 .bad-frame .ensures .0) in
+    let q = b2 .write-refused-words .ensures in
+    (q .0 ∙ ap (λ (l : List ℕ). answer false l (length (s .args .out .now))) e, q .1 ∙ ap (λ (l : List ℕ). afterwards false l (s .args .out .now)) e)
 
 pub answer-long-spec : {M : Type 1} → statement M
 answer-long-spec =

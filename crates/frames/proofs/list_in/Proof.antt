@@ -1,6 +1,7 @@
 use mathlib.Core.Path.{sym, _∙_}
 use lib.Seq.{length-take-le}
-use Rattle.frames.proofs.Parts.{asks, text-in, table-in, text-is, table-is}
+use Rattle.frames.proofs.Parts.{same-list, asks, text-in, table-in, text-is, table-is}
+use Rattle.frames.proofs.Said.{carried}
 use borrow.Author.Needs.{needs}
 use Rattle.frames.proofs.list_in.Statement.{statement}
 use Rattle.frames.proofs.list_in.Tie as tie
@@ -40,7 +41,7 @@ returns c =
     let s = b7 .before .before .before .before .before .before in
     let t = text-is (s .pre .0) (s .pre .1) (b7 .unpack-list .ensures .0) in
     let u = table-is (s .pre .0) (s .pre .1) (b7 .unpack-list .ensures .1 .0) in
-    c .read-by .ensures ∙ rw (t, u)
+    carried (same-list (s .args .op) t u) (c .read-by .ensures)
 
 pub list-in-spec : {M : Type 1} → statement M
 list-in-spec =

@@ -5,15 +5,15 @@ use Rattle.frames.proofs.read_by.Tie as tie
 
 returns : tie.Need-returns
 unfolding readBy
-returns c = rw (c .before .enum-told .given .1) (c .parse-unusual .ensures)
+returns c = rw (c .before .enum-told .given .1) (c .parse-words .ensures)
 
 returns-2 : tie.Need-returns-2
 unfolding readBy
-returns-2 c = rw (c .before .enum-told2 .given .1) (c .parse-strict-unusual .ensures)
+returns-2 c = rw (c .before .enum-told2 .given .1) (c .parse-strict-words .ensures)
 
 returns-3 : tie.Need-returns-3
 unfolding readBy
-returns-3 c = rw (c .before .enum-told3 .given .1) (c .parse-level-one .ensures)
+returns-3 c = rw (c .before .enum-told3 .given .1) (c .level-words .ensures)
 
 returns-4 : tie.Need-returns-4
 unfolding readBy

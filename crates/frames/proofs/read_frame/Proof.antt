@@ -1,6 +1,7 @@
 use mathlib.Core.Path.{refl, sym, ap, _∙_}
 use Rattle.frames.specs.Room.{readsList}
 use Rattle.frames.proofs.Parts.{is-formed, formed-read, unformed-read, list-formed, list-by, three-of, nothing-read, op-is}
+use Rattle.frames.proofs.Said.{carried}
 use borrow.Author.Needs.{needs}
 use Rattle.frames.proofs.read_frame.Statement.{statement}
 use Rattle.frames.proofs.read_frame.Tie as tie
@@ -61,7 +62,7 @@ returns c =
     let b = o .before in
     let s = b .before .before in
     let f = s .args .f .now in
-    c .read-list .ensures ∙ list-by f (o .asked .result) (ap readsList (t .enum-told .given .1)) ∙ formed-read f (b .byte-at .ensures) (o .asked .ensures) (m .is-formed .ensures) (g .if1 .taken) refl
+    carried (list-by f (o .asked .result) (ap readsList (t .enum-told .given .1)) ∙ formed-read f (b .byte-at .ensures) (o .asked .ensures) (m .is-formed .ensures) (g .if1 .taken) refl) (c .read-list .ensures)
 
 returns-2 : tie.Need-returns-2
 unfolding readsList
@@ -73,7 +74,7 @@ returns-2 c =
     let b = o .before in
     let s = b .before .before in
     let f = s .args .f .now in
-    c .read-list2 .ensures ∙ list-by f (o .asked .result) (ap readsList (t .enum-told2 .given .1)) ∙ formed-read f (b .byte-at .ensures) (o .asked .ensures) (m .is-formed .ensures) (g .if1 .taken) refl
+    carried (list-by f (o .asked .result) (ap readsList (t .enum-told2 .given .1)) ∙ formed-read f (b .byte-at .ensures) (o .asked .ensures) (m .is-formed .ensures) (g .if1 .taken) refl) (c .read-list2 .ensures)
 
 returns-3 : tie.Need-returns-3
 unfolding readsList
@@ -85,7 +86,7 @@ returns-3 c =
     let b = o .before in
     let s = b .before .before in
     let f = s .args .f .now in
-    c .read-list3 .ensures ∙ list-by f (o .asked .result) (ap readsList (t .enum-told3 .given .1)) ∙ formed-read f (b .byte-at .ensures) (o .asked .ensures) (m .is-formed .ensures) (g .if1 .taken) refl
+    carried (list-by f (o .asked .result) (ap readsList (t .enum-told3 .given .1)) ∙ formed-read f (b .byte-at .ensures) (o .asked .ensures) (m .is-formed .ensures) (g .if1 .taken) refl) (c .read-list3 .ensures)
 
 returns-4 : tie.Need-returns-4
 returns-4 c =
@@ -96,7 +97,7 @@ returns-4 c =
     let b = o .before in
     let s = b .before .before in
     let f = s .args .f .now in
-    c .read-three .ensures ∙ formed-read f (b .byte-at .ensures) (o .asked .ensures) (m .is-formed .ensures) (g .if1 .taken) (t .enum-told4 .given .1)
+    carried (formed-read f (b .byte-at .ensures) (o .asked .ensures) (m .is-formed .ensures) (g .if1 .taken) (t .enum-told4 .given .1)) (c .read-three .ensures)
 
 returns-5 : tie.Need-returns-5
 returns-5 c =
@@ -107,7 +108,7 @@ returns-5 c =
     let b = o .before in
     let s = b .before .before in
     let f = s .args .f .now in
-    c .bad-frame .ensures ∙ nothing-read f ∙ formed-read f (b .byte-at .ensures) (o .asked .ensures) (m .is-formed .ensures) (g .if1 .taken) (t .enum-told5 .given .1)
+    carried (nothing-read f ∙ formed-read f (b .byte-at .ensures) (o .asked .ensures) (m .is-formed .ensures) (g .if1 .taken) (t .enum-told5 .given .1)) (c .bad-frame .ensures)
 
 returns-6 : tie.Need-returns-6
 returns-6 c =
@@ -116,7 +117,7 @@ returns-6 c =
     let o = m .before in
     let b = o .before in
     let s = b .before .before in
-    c .bad-frame2 .ensures ∙ unformed-read (s .args .f .now) (b .byte-at .ensures) (o .asked .ensures) (m .is-formed .ensures) (g .if1 .left)
+    carried (unformed-read (s .args .f .now) (b .byte-at .ensures) (o .asked .ensures) (m .is-formed .ensures) (g .if1 .left)) (c .bad-frame2 .ensures)
 
 pub read-frame-spec : {M : Type 1} → statement M
 read-frame-spec =

@@ -4,6 +4,7 @@ use Rattle.frames.specs.declared.Operation.{Operation}
 use Rattle.frames.specs.Frame.{formed, readOf}
 use Rattle.frames.specs.Room.{readsList}
 use Rattle.frames.proofs.Parts.{op-is, list-formed, list-by, three-of, nothing-read}
+use Rattle.frames.proofs.Said.{carried}
 use borrow.Author.Needs.{needs}
 use Rattle.frames.proofs.read_large.Statement.{statement}
 use Rattle.frames.proofs.read_large.Tie as tie
@@ -61,7 +62,7 @@ returns c =
     let s = b .before .before in
     let f = s .args .f .now in
     let e = op-is f (b .byte-at .ensures) (o .asked .ensures) refl in
-    l .list-in .ensures ∙ list-by f (o .asked .result) (ap readsList (t .enum-told .given .1)) ∙ ap (λ (x : Operation). readOf x f) (sym e)
+    carried (list-by f (o .asked .result) (ap readsList (t .enum-told .given .1)) ∙ ap (λ (x : Operation). readOf x f) (sym e)) (l .list-in .ensures)
 
 returns-2 : tie.Need-returns-2
 unfolding readsList
@@ -73,7 +74,7 @@ returns-2 c =
     let s = b .before .before in
     let f = s .args .f .now in
     let e = op-is f (b .byte-at .ensures) (o .asked .ensures) refl in
-    l .list-in2 .ensures ∙ list-by f (o .asked .result) (ap readsList (t .enum-told2 .given .1)) ∙ ap (λ (x : Operation). readOf x f) (sym e)
+    carried (list-by f (o .asked .result) (ap readsList (t .enum-told2 .given .1)) ∙ ap (λ (x : Operation). readOf x f) (sym e)) (l .list-in2 .ensures)
 
 returns-3 : tie.Need-returns-3
 unfolding readsList
@@ -85,7 +86,7 @@ returns-3 c =
     let s = b .before .before in
     let f = s .args .f .now in
     let e = op-is f (b .byte-at .ensures) (o .asked .ensures) refl in
-    l .list-in3 .ensures ∙ list-by f (o .asked .result) (ap readsList (t .enum-told3 .given .1)) ∙ ap (λ (x : Operation). readOf x f) (sym e)
+    carried (list-by f (o .asked .result) (ap readsList (t .enum-told3 .given .1)) ∙ ap (λ (x : Operation). readOf x f) (sym e)) (l .list-in3 .ensures)
 
 returns-4 : tie.Need-returns-4
 returns-4 c =
@@ -96,7 +97,7 @@ returns-4 c =
     let s = b .before .before in
     let f = s .args .f .now in
     let e = op-is f (b .byte-at .ensures) (o .asked .ensures) (t .enum-told4 .given .1) in
-    l .three-in .ensures ∙ ap (λ (x : Operation). readOf x f) (sym e)
+    carried (ap (λ (x : Operation). readOf x f) (sym e)) (l .three-in .ensures)
 
 returns-5 : tie.Need-returns-5
 returns-5 c =
@@ -106,7 +107,7 @@ returns-5 c =
     let s = b .before .before in
     let f = s .args .f .now in
     let e = op-is f (b .byte-at .ensures) (o .asked .ensures) (t .enum-told5 .given .1) in
-    c .bad-frame .ensures ∙ nothing-read f ∙ ap (λ (x : Operation). readOf x f) (sym e)
+    carried (nothing-read f ∙ ap (λ (x : Operation). readOf x f) (sym e)) (c .bad-frame .ensures)
 
 pub read-large-spec : {M : Type 1} → statement M
 read-large-spec =

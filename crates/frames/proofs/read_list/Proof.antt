@@ -2,7 +2,8 @@ use mathlib.Core.Path.{sym, ap, _∙_}
 use native.Mathlib.Omega.{arith}
 use Rattle.frames.specs.declared.Operation.{Operation}
 use Rattle.frames.specs.Frame.{formed, readOf}
-use Rattle.frames.proofs.Parts.{single, list-formed, list-by}
+use Rattle.frames.proofs.Parts.{same-list, single, list-formed, list-by}
+use Rattle.frames.proofs.Said.{carried}
 use borrow.Author.Needs.{needs}
 use Rattle.frames.proofs.read_list.Statement.{statement}
 use Rattle.frames.proofs.read_list.Tie as tie
@@ -27,7 +28,7 @@ returns c =
     let b5 = b3 .before .before in
     let s = b5 .before .before in
     let o = single (s .args .f .now) (s .pre .1) (b5 .byte-at .ensures) (b3 .before .if1 .taken) in
-    c .read-by .ensures ∙ rw (b3 .row-at .ensures, o .text-there, o .row-there)
+    carried (same-list (s .args .op) (o .text-there) (b3 .row-at .ensures ∙ o .row-there)) (c .read-by .ensures)
 
 list-in-requires : tie.Need-list-in-requires
 list-in-requires c κs =
@@ -44,7 +45,7 @@ returns-3 : tie.Need-returns-3
 returns-3 c =
     let s = c .before .before .before .before .before in
     let f = s .args .f .now in
-    c .read-large .ensures ∙ ap (λ (x : Operation). readOf x f) (s .pre .3) ∙ sym (list-by f (s .args .op) (s .pre .2))
+    carried (ap (λ (x : Operation). readOf x f) (s .pre .3) ∙ sym (list-by f (s .args .op) (s .pre .2))) (c .read-large .ensures)
 
 pub read-list-spec : {M : Type 1} → statement M
 read-list-spec =

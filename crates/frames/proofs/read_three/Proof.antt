@@ -3,6 +3,7 @@ use native.Mathlib.Omega.{arith}
 use Rattle.frames.specs.declared.Operation.{Operation}
 use Rattle.frames.specs.Frame.{readOf}
 use Rattle.frames.proofs.Parts.{three-formed}
+use Rattle.frames.proofs.Said.{carried}
 use borrow.Author.Needs.{needs}
 use Rattle.frames.proofs.read_three.Statement.{statement}
 use Rattle.frames.proofs.read_three.Tie as tie
@@ -38,7 +39,7 @@ read-large-requires c κs =
 returns-3 : tie.Need-returns-3
 returns-3 c =
     let s = c .before .before .before .before .before .before .before in
-    c .read-large .ensures ∙ ap (λ (o : Operation). readOf o (s .args .f .now)) (s .pre .2)
+    carried (ap (λ (o : Operation). readOf o (s .args .f .now)) (s .pre .2)) (c .read-large .ensures)
 
 pub read-three-spec : {M : Type 1} → statement M
 read-three-spec =

@@ -1,6 +1,8 @@
 use mathlib.Core.Path.{_∙_}
 use native.Mathlib.Omega.{arith}
+use Rattle.puts.proofs.Puts.{kept}
 use Rattle.frames.proofs.Parts.{year-asks, month-asks, day-asks, lists-ask, lists-are}
+use Rattle.frames.proofs.Said.{carried}
 use borrow.Author.Needs.{needs}
 use Rattle.frames.proofs.three_in.Statement.{statement}
 use Rattle.frames.proofs.three_in.Tie as tie
@@ -50,6 +52,12 @@ read-lists-requires c κs =
     let o = b25 .optional-end .ensures .0 in
     lists-ask (s .pre .0) (s .pre .1) l o (y .0) (y .1 .0) (omega (arith, l, y .1 .1 .0)) (omega (arith, l, y .1 .1 .1)) (m .0) (m .1 .0) (omega (arith, o, m .1 .1 .0)) (omega (arith, o, m .1 .1 .1)) (d .0) (d .1 .0) (d .1 .1 .0) (d .1 .1 .1)
 
+same-length : tie.Need-same-length
+same-length c = kept (c .before .before .before .before .before .before .before .unpack-optional2 .ensures .0) ∙ kept (c .before .before .before .before .before .before .before .before .before .before .before .before .before .before .unpack-optional .ensures .0) ∙ kept (c .before .before .before .before .before .before .before .before .before .before .before .before .before .before .before .before .before .before .before .before .before .unpack-list .ensures .0)
+
+same-length-2 : tie.Need-same-length-2
+same-length-2 c = kept (c .before .before .before .before .before .before .before .unpack-optional2 .ensures .1 .0) ∙ kept (c .before .before .before .before .before .before .before .before .before .before .before .before .before .before .unpack-optional .ensures .1 .0) ∙ kept (c .before .before .before .before .before .before .before .before .before .before .before .before .before .before .before .before .before .before .before .before .before .unpack-list .ensures .1 .0)
+
 returns : tie.Need-returns
 returns c =
     let b7 = c .before .before .before .before .before .before .before in
@@ -65,7 +73,7 @@ returns c =
     let d = b7 .unpack-optional2 .ensures in
     let l = b27 .list-end .ensures .0 in
     let o = b26 .optional-end .ensures .0 in
-    c .read-lists .ensures ∙ lists-are (s .pre .0) (s .pre .1) l o (y .0) (y .1 .0) (omega (arith, l, y .1 .1 .0)) (omega (arith, l, y .1 .1 .1)) (m .0) (m .1 .0) (omega (arith, o, m .1 .1 .0)) (omega (arith, o, m .1 .1 .1)) (d .0) (d .1 .0) (d .1 .1 .0) (d .1 .1 .1) (b25 .has-list .ensures) (b24 .has-list2 .ensures)
+    carried (lists-are (s .pre .0) (s .pre .1) l o (y .0) (y .1 .0) (omega (arith, l, y .1 .1 .0)) (omega (arith, l, y .1 .1 .1)) (m .0) (m .1 .0) (omega (arith, o, m .1 .1 .0)) (omega (arith, o, m .1 .1 .1)) (d .0) (d .1 .0) (d .1 .1 .0) (d .1 .1 .1) (b25 .has-list .ensures) (b24 .has-list2 .ensures)) (c .read-lists .ensures)
 
 pub three-in-spec : {M : Type 1} → statement M
 three-in-spec =
@@ -79,6 +87,6 @@ three-in-spec =
     unpack-optional-requires
     unpack-optional-requires-2
     read-lists-requires
-    (λ c. search needs)
-    (λ c. search needs)
+    same-length
+    same-length-2
     returns)

@@ -3,6 +3,7 @@ use mathlib.Core.Path.{sym, _∙_}
 use native.Mathlib.Omega.{arith}
 use lib.Seq.{length-take-le}
 use Rattle.frames.proofs.Parts.{are-there, month-starts, day-starts, row-taken, there-read}
+use Rattle.frames.proofs.Said.{carried}
 use borrow.Author.Needs.{needs}
 use Rattle.frames.proofs.three_there.Statement.{statement}
 use Rattle.frames.proofs.three_there.Tie as tie
@@ -43,38 +44,38 @@ text-start-requires-2 c κs =
     let t = are-there (s .pre) in
     omega (arith, s .pre .small, t .year-chunk .long, t .month-before, t .day-before)
 
-sub-parse-three-fields : tie.Need-sub-parse-three-fields
-sub-parse-three-fields c =
+sub-three-words : tie.Need-sub-three-words
+sub-three-words c =
     let s = c .before .before .before .before .before .before .before .before .before .before in
     let t = are-there (s .pre) in
     omega (arith, s .pre .small, t .year-chunk .long, t .month-before, t .day-before)
 
-part-parse-three-fields-start : tie.Need-part-parse-three-fields-start
-part-parse-three-fields-start c =
+part-three-words-start : tie.Need-part-three-words-start
+part-three-words-start c =
     let s = c .before .before .before .before .before .before .before .before .before .before in
     let t = are-there (s .pre) in
     omega (arith, s .pre .small, t .year-chunk .long, t .month-before, t .day-before)
 
-part-parse-three-fields-end : tie.Need-part-parse-three-fields-end
-part-parse-three-fields-end c =
+part-three-words-end : tie.Need-part-three-words-end
+part-three-words-end c =
     let s = c .before .before .before .before .before .before .before .before .before .before in
     let t = are-there (s .pre) in
     omega (arith, s .pre .small, t .year-chunk .long, t .month-before, t .day-before)
 
-sub-parse-three-fields-2 : tie.Need-sub-parse-three-fields-2
-sub-parse-three-fields-2 c =
+sub-three-words-2 : tie.Need-sub-three-words-2
+sub-three-words-2 c =
     let s = c .before .before .before .before .before .before .before .before .before .before .before .before in
     let t = are-there (s .pre) in
     omega (arith, s .pre .small, t .year-chunk .long, t .month-before, t .day-before, month-starts (s .pre) (c .before .before .before .before .before .before .before .before .before .before .has-list .ensures) (c .before .before .before .before .before .text-start .ensures))
 
-part-parse-three-fields-start-2 : tie.Need-part-parse-three-fields-start-2
-part-parse-three-fields-start-2 c =
+part-three-words-start-2 : tie.Need-part-three-words-start-2
+part-three-words-start-2 c =
     let s = c .before .before .before .before .before .before .before .before .before .before .before .before in
     let t = are-there (s .pre) in
     omega (arith, s .pre .small, t .year-chunk .long, t .month-before, t .day-before, month-starts (s .pre) (c .before .before .before .before .before .before .before .before .before .before .has-list .ensures) (c .before .before .before .before .before .text-start .ensures))
 
-part-parse-three-fields-end-2 : tie.Need-part-parse-three-fields-end-2
-part-parse-three-fields-end-2 c =
+part-three-words-end-2 : tie.Need-part-three-words-end-2
+part-three-words-end-2 c =
     let s = c .before .before .before .before .before .before .before .before .before .before .before .before in
     let t = are-there (s .pre) in
     omega (arith, s .pre .small, t .year-chunk .long, t .month-before, t .day-before, month-starts (s .pre) (c .before .before .before .before .before .before .before .before .before .before .has-list .ensures) (c .before .before .before .before .before .text-start .ensures))
@@ -82,23 +83,23 @@ part-parse-three-fields-end-2 c =
 array-share-prefix-month : tie.Need-array-share-prefix-month
 array-share-prefix-month c = row-taken (c .before .before .before .before .before .before .before .before .before .before .before .before .before .args .f .now) (c .before .before .before .before .before .before .before .before .before .before .before .before .before .args .month-at + 2) (c .before .before .before .before .before .before .before .before .before .before .before .has-list .result) (c .before .before .before .before .row-length .ensures) (c .before .before .before .before .before .before .before .before .row-at2 .ensures)
 
-slice-aggregate-parse-three-fields-2 : tie.Need-slice-aggregate-parse-three-fields-2
-slice-aggregate-parse-three-fields-2 c = sym (length-take-le _ _ (row-taken (c .before .before .before .before .before .before .before .before .before .before .before .before .before .before .args .f .now) (c .before .before .before .before .before .before .before .before .before .before .before .before .before .before .args .month-at + 2) (c .before .before .before .before .before .before .before .before .before .before .before .before .has-list .result) (c .before .before .before .before .before .row-length .ensures) (c .before .before .before .before .before .before .before .before .before .row-at2 .ensures)))
+slice-aggregate-three-words-2 : tie.Need-slice-aggregate-three-words-2
+slice-aggregate-three-words-2 c = sym (length-take-le _ _ (row-taken (c .before .before .before .before .before .before .before .before .before .before .before .before .before .before .args .f .now) (c .before .before .before .before .before .before .before .before .before .before .before .before .before .before .args .month-at + 2) (c .before .before .before .before .before .before .before .before .before .before .before .before .has-list .result) (c .before .before .before .before .before .row-length .ensures) (c .before .before .before .before .before .before .before .before .before .row-at2 .ensures)))
 
-sub-parse-three-fields-3 : tie.Need-sub-parse-three-fields-3
-sub-parse-three-fields-3 c =
+sub-three-words-3 : tie.Need-sub-three-words-3
+sub-three-words-3 c =
     let s = c .before .before .before .before .before .before .before .before .before .before .before .before .before .before in
     let t = are-there (s .pre) in
     omega (arith, s .pre .small, t .year-chunk .long, t .month-before, t .day-before, day-starts (s .pre) (c .before .before .before .before .before .before .before .before .before .before .before .has-list2 .ensures) (c .before .before .before .before .before .before .text-start2 .ensures))
 
-part-parse-three-fields-start-3 : tie.Need-part-parse-three-fields-start-3
-part-parse-three-fields-start-3 c =
+part-three-words-start-3 : tie.Need-part-three-words-start-3
+part-three-words-start-3 c =
     let s = c .before .before .before .before .before .before .before .before .before .before .before .before .before .before in
     let t = are-there (s .pre) in
     omega (arith, s .pre .small, t .year-chunk .long, t .month-before, t .day-before, day-starts (s .pre) (c .before .before .before .before .before .before .before .before .before .before .before .has-list2 .ensures) (c .before .before .before .before .before .before .text-start2 .ensures))
 
-part-parse-three-fields-end-3 : tie.Need-part-parse-three-fields-end-3
-part-parse-three-fields-end-3 c =
+part-three-words-end-3 : tie.Need-part-three-words-end-3
+part-three-words-end-3 c =
     let s = c .before .before .before .before .before .before .before .before .before .before .before .before .before .before in
     let t = are-there (s .pre) in
     omega (arith, s .pre .small, t .year-chunk .long, t .month-before, t .day-before, day-starts (s .pre) (c .before .before .before .before .before .before .before .before .before .before .before .has-list2 .ensures) (c .before .before .before .before .before .before .text-start2 .ensures))
@@ -106,13 +107,13 @@ part-parse-three-fields-end-3 c =
 array-share-prefix-day : tie.Need-array-share-prefix-day
 array-share-prefix-day c = row-taken (c .before .before .before .before .before .before .before .before .before .before .before .before .before .before .before .args .f .now) (c .before .before .before .before .before .before .before .before .before .before .before .before .before .before .before .args .day-at + 2) (c .before .before .before .before .before .before .before .before .before .before .before .before .has-list2 .result) (c .before .before .before .before .before .row-length2 .ensures) (c .before .before .before .before .before .before .before .before .before .row-at3 .ensures)
 
-slice-aggregate-parse-three-fields-3 : tie.Need-slice-aggregate-parse-three-fields-3
-slice-aggregate-parse-three-fields-3 c = sym (length-take-le _ _ (row-taken (c .before .before .before .before .before .before .before .before .before .before .before .before .before .before .before .before .args .f .now) (c .before .before .before .before .before .before .before .before .before .before .before .before .before .before .before .before .args .day-at + 2) (c .before .before .before .before .before .before .before .before .before .before .before .before .before .has-list2 .result) (c .before .before .before .before .before .before .row-length2 .ensures) (c .before .before .before .before .before .before .before .before .before .before .row-at3 .ensures)))
+slice-aggregate-three-words-3 : tie.Need-slice-aggregate-three-words-3
+slice-aggregate-three-words-3 c = sym (length-take-le _ _ (row-taken (c .before .before .before .before .before .before .before .before .before .before .before .before .before .before .before .before .args .f .now) (c .before .before .before .before .before .before .before .before .before .before .before .before .before .before .before .before .args .day-at + 2) (c .before .before .before .before .before .before .before .before .before .before .before .before .before .has-list2 .result) (c .before .before .before .before .before .before .row-length2 .ensures) (c .before .before .before .before .before .before .before .before .before .before .row-at3 .ensures)))
 
 returns : tie.Need-returns
 returns c =
     let s = c .before .before .before .before .before .before .before .before .before .before .before .before .before .before .before .before .before in
-    c .parse-three-fields .ensures ∙ there-read (s .pre) (c .before .before .before .before .before .before .before .before .before .before .before .before .before .before .before .has-list .ensures) (c .before .before .before .before .before .before .before .before .before .before .before .before .before .before .has-list2 .ensures) (c .before .before .before .before .before .before .before .before .before .before .text-start .ensures) (c .before .before .before .before .before .before .before .before .before .text-start2 .ensures) (c .before .before .before .before .before .before .before .before .row-length .ensures) (c .before .before .before .before .before .before .before .row-length2 .ensures) (c .before .before .before .before .before .before .before .before .before .before .before .before .before .row-at .ensures) (c .before .before .before .before .before .before .before .before .before .before .before .before .row-at2 .ensures) (c .before .before .before .before .before .before .before .before .before .before .before .row-at3 .ensures)
+    carried (there-read (s .pre) (c .before .before .before .before .before .before .before .before .before .before .before .before .before .before .before .has-list .ensures) (c .before .before .before .before .before .before .before .before .before .before .before .before .before .before .has-list2 .ensures) (c .before .before .before .before .before .before .before .before .before .before .text-start .ensures) (c .before .before .before .before .before .before .before .before .before .text-start2 .ensures) (c .before .before .before .before .before .before .before .before .row-length .ensures) (c .before .before .before .before .before .before .before .row-length2 .ensures) (c .before .before .before .before .before .before .before .before .before .before .before .before .before .row-at .ensures) (c .before .before .before .before .before .before .before .before .before .before .before .before .row-at2 .ensures) (c .before .before .before .before .before .before .before .before .before .before .before .row-at3 .ensures)) (c .three-words .ensures)
 
 pub three-there-spec : {M : Type 1} → statement M
 three-there-spec =
@@ -129,19 +130,19 @@ three-there-spec =
     text-start-requires-2
     (λ c κs. search needs)
     (λ c κs. search needs)
-    sub-parse-three-fields
-    part-parse-three-fields-start
-    part-parse-three-fields-end
+    sub-three-words
+    part-three-words-start
+    part-three-words-end
     (λ c. search needs)
-    sub-parse-three-fields-2
-    part-parse-three-fields-start-2
-    part-parse-three-fields-end-2
+    sub-three-words-2
+    part-three-words-start-2
+    part-three-words-end-2
     array-share-prefix-month
-    slice-aggregate-parse-three-fields-2
-    sub-parse-three-fields-3
-    part-parse-three-fields-start-3
-    part-parse-three-fields-end-3
+    slice-aggregate-three-words-2
+    sub-three-words-3
+    part-three-words-start-3
+    part-three-words-end-3
     array-share-prefix-day
-    slice-aggregate-parse-three-fields-3
+    slice-aggregate-three-words-3
     (λ c κs. search needs)
     returns)
