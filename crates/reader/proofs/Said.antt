@@ -1,6 +1,17 @@
 -- What is said at once is what a reader answers, in words. Assumes nothing.
-use mathlib.Core.Path.{_≡_, sym, ap, subst, _∙_}
-use mathlib.Core.Option.{Option, some}
+use mathlib.Core.Path.{_≡_, refl, sym, ap, subst, _∙_}
+use mathlib.Core.Bool.{true, _&&_, _||_}
+use mathlib.Core.List.{List}
+use Prim.Native.Nat.{ℕ}
+use lib.Dec.{ltb}
+use lib.ListN.{getD}
+use Rattle.chars.specs.Pick.{pick}
+use Rattle.chars.proofs.Cases.{of-test}
+use Rattle.codes.specs.Points.{onSome}
+use Rattle.codes.specs.Texts.{written}
+use Rattle.codes.specs.Ported.{ported, movedBy}
+use Rattle.codes.specs.Lists.{oneNormal, isJoined, listWritten, listPorted}
+use mathlib.Core.Option.{Option, none, some}
 use Rattle.refusals.specs.declared.ReadDate.{ReadDate}
 use Rattle.codes.specs.declared.Words.{Words}
 use Rattle.codes.specs.Words.{nothing, wordsOr, wordsOf}
@@ -21,3 +32,17 @@ pub at-once : (x : Option ReadDate) {w : Words} (y : ReadDate) → w ≡ wordsOr
 at-once x {w} y e h same typed =
     let t = told x (λ z. h (ap (λ (v : Words). v .last) e ∙ z)) in
     carried (t .0) y (sym (same (t .0) (t .1))) (e ∙ ap wordsOr (t .1), typed (t .0) (t .1))
+
+-- of which lists something is said at once
+module _ (b table : List ℕ) where
+  pub normal-written : oneNormal b table ≡ true → written b ≡ listWritten b table
+  unfolding listWritten pick
+  normal-written e = rw e
+
+  pub joined-written : isJoined b table ≡ true → written b ≡ listWritten b table
+  unfolding listWritten pick
+  joined-written e = of-test (oneNormal b table) (λ x. rw x) (λ x. rw (x, e))
+
+  pub normal-ported : oneNormal b table ≡ true → pick (ltb (getD table 2 0) 0x8000000000000000) (onSome (ported b) λ r. some (movedBy (getD table 2 0) r)) none ≡ listPorted b table
+  unfolding listPorted pick
+  normal-ported e = rw e

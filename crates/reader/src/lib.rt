@@ -221,14 +221,51 @@ fn ported_from(bytes: &[u8], start: u64) -> Words
     codes::no_words()
 }
 
-// The same of a list that is one Normal chunk.
-fn at_once_ported(bytes: &[u8], table: &[u64]) -> Words
-    ensures { λ r. ⌜ r ≡ wordsOr (lists.listPorted (now (bytes .entry)) (now (table .entry))) ⌝ }
+// The same words, one by one: so those of a call that stores them are loaded as they were stored.
+fn again(w: Words) -> Words
+    ensures { λ r. ⌜ r ≡ w ⌝ }
 {
-    if is_one_normal(bytes, table) {
-        return ported_from(bytes, table[2]);
+    Words {
+        start: w.start,
+        end: w.end,
+        first: w.first,
+        first_time: w.first_time,
+        second: w.second,
+        second_time: w.second_time,
+        last: w.last,
     }
-    codes::no_words()
+}
+
+// A date field that is one Normal chunk.
+fn normal_words(bytes: &[u8], table: &[u64]) -> Words
+    requires { ⌜ lists.oneNormal (now bytes) (now table) ≡ true ⌝ }
+    ensures { λ r. ⌜ r ≡ wordsOf (field.parsed (now (bytes .entry)) (now (table .entry))) ⌝ }
+    ensures { λ r. ⌜ Typed (field.parsed (now (bytes .entry)) (now (table .entry))) ⌝ }
+{
+    let w = codes::text(bytes);
+    if w.last != NOTHING {
+        return again(w);
+    }
+    let p = ported_from(bytes, table[2]);
+    if p.last != NOTHING {
+        return again(p);
+    }
+    any_words(bytes, table)
+}
+
+// Any other. The text of several chunks may be usual where it stands, too.
+fn joined_words(bytes: &[u8], table: &[u64]) -> Words
+    ensures { λ r. ⌜ r ≡ wordsOf (field.parsed (now (bytes .entry)) (now (table .entry))) ⌝ }
+    ensures { λ r. ⌜ Typed (field.parsed (now (bytes .entry)) (now (table .entry))) ⌝ }
+{
+    if is_joined(bytes, table) {
+        let w = codes::text(bytes);
+        if w.last != NOTHING {
+            return again(w);
+        }
+        return any_words(bytes, table);
+    }
+    any_words(bytes, table)
 }
 
 // ---- the calls for a date field
@@ -238,15 +275,10 @@ pub fn parse_words(bytes: &[u8], table: &[u64]) -> Words
     ensures { λ r. ⌜ r ≡ wordsOf (field.parsed (now (bytes .entry)) (now (table .entry))) ⌝ }
     ensures { λ r. ⌜ Typed (field.parsed (now (bytes .entry)) (now (table .entry))) ⌝ }
 {
-    let w = at_once(bytes, table);
-    if w.last != NOTHING {
-        return w;
+    if is_one_normal(bytes, table) {
+        return normal_words(bytes, table);
     }
-    let p = at_once_ported(bytes, table);
-    if p.last != NOTHING {
-        return p;
-    }
-    any_words(bytes, table)
+    joined_words(bytes, table)
 }
 
 // A date field by the strict grammar alone: neither trimmed nor in upper case.

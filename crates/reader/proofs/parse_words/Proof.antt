@@ -1,30 +1,16 @@
-use Rattle.reading_laws.specs.Field.{parsed}
-use Rattle.codes.specs.Lists.{listWritten, listPorted}
-use Rattle.code_laws.proofs.Written.{written-parsed, list-typed}
-use Rattle.code_laws.proofs.Ported.{ported-parsed, ported-typed}
-use Rattle.reader.proofs.Said.{at-once}
+use mathlib.Core.Path.{sym, _∙_}
 use borrow.Author.Needs.{needs}
 use Rattle.reader.proofs.parse_words.Statement.{statement}
 use Rattle.reader.proofs.parse_words.Tie as tie
 
+normal-words-requires : tie.Need-normal-words-requires
+normal-words-requires c κs = sym (c .before .is-one-normal .ensures) ∙ c .if1 .taken
+
 returns : tie.Need-returns
-returns c =
-    let b = c .before .before in
-    let a = b .before .before .before .args in
-    let l = a .bytes .now in
-    let t = a .table .now in
-    at-once (listWritten l t) (parsed l t) (b .at-once .ensures) (c .if1 .taken) (λ r e. written-parsed l t e) (λ r e. list-typed l t e)
+returns c = c .normal-words .ensures
 
 returns-2 : tie.Need-returns-2
-returns-2 c =
-    let b = c .before .before in
-    let a = b .before .before .before .before .before .before .args in
-    let l = a .bytes .now in
-    let t = a .table .now in
-    at-once (listPorted l t) (parsed l t) (b .at-once-ported .ensures) (c .if2 .taken) (λ r e. ported-parsed l t e) (λ r e. ported-typed l t e)
-
-returns-3 : tie.Need-returns-3
-returns-3 c = c .any-words .ensures
+returns-2 c = c .joined-words .ensures
 
 pub parse-words-spec : {M : Type 1} → statement M
-parse-words-spec = tie.close (tie.spec (λ c κs. search needs) returns (λ c κs. search needs) returns-2 (λ c κs. search needs) returns-3)
+parse-words-spec = tie.close (tie.spec (λ c κs. search needs) normal-words-requires returns (λ c κs. search needs) returns-2)
