@@ -1,4 +1,4 @@
--- Usual fields: a year of one to four digits, with BC behind it or nothing; a month of one or two digits, or its name; a day of one or two digits.
+-- Usual fields: a year of one to four digits, or of two to four with BC behind it; a month of one or two digits, or its name; a day of one or two digits.
 use Prim.Native.Char.{code}
 use Prim.Native.Nat.{ℕ, suc, _+_, _-_, _*_}
 use mathlib.Core.Bool.{Bool, true, false, _&&_, _||_}
