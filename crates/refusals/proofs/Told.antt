@@ -1,22 +1,16 @@
 -- A refusal is told by its number.
 -- Assumes nothing.
-use mathlib.Core.Path.{_≡_, refl, sym, ap, _∙_}
-use mathlib.Core.List.{List, [], _∷_}
+use mathlib.Core.Path.{_≡_, refl, sym}
 use Prim.Native.Nat.{ℕ, zero, suc, _≤_, _<_}
 use native.Mathlib.Omega.{arith}
-use lib.ListN.{getD, List·getD-eq-default}
+use lib.ListN.{List·getD-eq-default}
 use Rattle.refusals.specs.declared.Kind.{Kind}
 use Rattle.refusals.specs.declared.Kind.the-variants.{UndefinedRange, DayOutOfRange, MonthOutOfRange, InvalidNumber, MissingNumber, WrongNumberOfDigits, InvalidFormat, YearZeroCE, RustPanics, BadUtf8, UnsupportedChar, NotStrict, NoRoom, BadFrame, BadChunks, TooLong, NotACalendarDate, BadPeriod, DuplicateEntry, ChronologyFull, UnknownEntry, BadTime, NotLevelOne, HasSeason, NoInstant, BadChronology}
-use Rattle.refusals.specs.Refusal.{number}
+use Rattle.refusals.specs.Refusal.{number, kinds, kindOf}
 
--- the kinds by their numbers: the last stands for every number that is not in the list
-abbrev kinds : List Kind
-kinds = BadChronology ∷ UndefinedRange ∷ DayOutOfRange ∷ MonthOutOfRange ∷ InvalidNumber ∷ MissingNumber ∷ WrongNumberOfDigits ∷ InvalidFormat ∷ YearZeroCE ∷ RustPanics ∷ BadUtf8 ∷ UnsupportedChar ∷ NotStrict ∷ NoRoom ∷ BadFrame ∷ BadChunks ∷ TooLong ∷ NotACalendarDate ∷ BadPeriod ∷ DuplicateEntry ∷ ChronologyFull ∷ UnknownEntry ∷ BadTime ∷ NotLevelOne ∷ HasSeason ∷ NoInstant ∷ []
-
-abbrev pub kindAt : ℕ → Kind
-kindAt n = getD kinds n BadChronology
-
-named : (k : Kind) → kindAt (number k) ≡ k
+-- each kind by its number
+pub named : (k : Kind) → kindOf (number k) ≡ k
+unfolding kindOf
 named UndefinedRange = refl
 named DayOutOfRange = refl
 named MonthOutOfRange = refl
@@ -44,10 +38,6 @@ named HasSeason = refl
 named NoInstant = refl
 named BadChronology = refl
 
--- what stands at a number that equals it
-pub kind-is : (n m : ℕ) (k : Kind) → n ≡ m → n ≡ number k → kindAt m ≡ k
-kind-is n m k e f = ap kindAt (sym e ∙ f) ∙ named k
-
 -- a number that is none of 1 to m
 abbrev pub NoneTo : ℕ → ℕ → Type 0
 NoneTo n zero = Unit {0}
@@ -57,11 +47,11 @@ above : (n m : ℕ) → NoneTo n m → 0 < n → m < n
 above n zero r h = h
 above n (suc m) (r, q) h = let p = above n m r h in omega arith
 
--- before the first and behind the list
-pub last-is : (n : ℕ) (k : Kind) → NoneTo n 25 → n ≡ number k → BadChronology ≡ k
-last-is zero k r f = kind-is 0 0 k refl f
-last-is (suc n) k r f =
-    sym (List·getD-eq-default kinds BadChronology (above (suc n) 25 r (omega arith))) ∙ kind-is (suc n) (suc n) k refl f
+-- before the first and behind the list stands the last
+pub last-is : (n : ℕ) → NoneTo n 25 → BadChronology ≡ kindOf n
+unfolding kindOf
+last-is zero r = refl
+last-is (suc n) r = sym (List·getD-eq-default kinds BadChronology (above (suc n) 25 r (omega arith)))
 
 -- 0 is no refusal, and a number fits a byte
 pub number-in : (k : Kind) → (0 < number k) × (number k < 256)

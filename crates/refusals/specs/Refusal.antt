@@ -1,6 +1,8 @@
 -- The refusals: a number for each, and which of them name a place.
 use Prim.Native.Nat.{ℕ}
 use mathlib.Core.Bool.{Bool, true, false}
+use mathlib.Core.List.{List, [], _∷_}
+use lib.ListN.{getD}
 use Rattle.chars.specs.Pick.{pick}
 use Rattle.refusals.specs.declared.Kind.{Kind}
 use Rattle.refusals.specs.declared.Kind.the-variants.{UndefinedRange, DayOutOfRange, MonthOutOfRange, InvalidNumber, MissingNumber, WrongNumberOfDigits, InvalidFormat, YearZeroCE, RustPanics, BadUtf8, UnsupportedChar, NotStrict, NoRoom, BadFrame, BadChunks, TooLong, NotACalendarDate, BadPeriod, DuplicateEntry, ChronologyFull, UnknownEntry, BadTime, NotLevelOne, HasSeason, NoInstant, BadChronology}
@@ -35,6 +37,14 @@ number NotLevelOne = 23
 number HasSeason = 24
 number NoInstant = 25
 number BadChronology = 26
+
+-- the kinds by their numbers; the last stands at 0, which is none of theirs
+abbrev pub kinds : List Kind
+kinds = BadChronology ∷ UndefinedRange ∷ DayOutOfRange ∷ MonthOutOfRange ∷ InvalidNumber ∷ MissingNumber ∷ WrongNumberOfDigits ∷ InvalidFormat ∷ YearZeroCE ∷ RustPanics ∷ BadUtf8 ∷ UnsupportedChar ∷ NotStrict ∷ NoRoom ∷ BadFrame ∷ BadChunks ∷ TooLong ∷ NotACalendarDate ∷ BadPeriod ∷ DuplicateEntry ∷ ChronologyFull ∷ UnknownEntry ∷ BadTime ∷ NotLevelOne ∷ HasSeason ∷ NoInstant ∷ []
+
+-- the kind of a number; of numbers that are none of theirs, the last
+unfoldable pub kindOf : ℕ → Kind
+kindOf n = getD kinds n BadChronology
 
 -- whether a refusal names a place; where it does not, its place is 0, 0
 abbrev pub hasPlace : Kind → Bool

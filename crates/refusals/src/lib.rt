@@ -1,7 +1,6 @@
 // Refusals: why a call refuses, and where. A place in the formatted text and a place in the file are two types. Only the functions here
 // make one of the other.
 ghost use mathlib.Core.Path.{_≡_};
-ghost use Rattle.refusals.specs.declared.Kind.{Kind};
 ghost use Rattle.refusals.specs.Refusal as spec;
 ghost use Rattle.refusals.specs.Offset as move_;
 use dates::Date;
@@ -141,7 +140,7 @@ pub fn number(kind: Kind) -> u8
 
 // The kind of a number; of numbers that are none of theirs, the last.
 pub fn kind_of(n: u8) -> Kind
-    ensures { λ r. ⌜ ((k : Kind) → n ≡ spec.number k → r ≡ k) ⌝ }
+    ensures { λ r. ⌜ r ≡ spec.kindOf n ⌝ }
 {
     match n {
         1 => Kind::UndefinedRange,
