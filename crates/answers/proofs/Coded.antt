@@ -31,7 +31,7 @@ use Rattle.refusals.specs.Refusal.{number}
 use Rattle.codes.specs.declared.Words.{Words}
 use Rattle.codes.specs.Words.{twos, flag, hasMonth, monthNumber, hasDay, dayNumber, hasTime, clockOf, offsetSort, shiftOf, hoursOf, minutesOf, fourBytes, dayWordOf, timeWordOf, lastWord, dayWord, timeWord, valueWords, wordsOf}
 use Rattle.codes.specs.Typed.{DatetimeTyped, Typed}
-use Rattle.codes.proofs.Laws.{number-in}
+use Rattle.refusals.proofs.Told.{number-in}
 use Rattle.answers.specs.Answer.{wordBytes, monthByte, dayByte, shiftBytes, offsetBytes, timeBytes, datetimeBytes, endBytes, shape, endsBytes, bit, marks, bytesWith, acceptedBytes, refusedBytes, lineOf, acceptedLine, refusedLine}
 use Rattle.answers.specs.Coded.{partByte, partBytes, clockBytes, codedEnd, codedShape, codedMarks, oneCoded, twoCoded, wordsLine, refusedWords}
 use Rattle.answers.proofs.Digits.{length-line}

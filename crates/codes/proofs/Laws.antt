@@ -6,7 +6,7 @@ use mathlib.Core.List.{List, [], _∷_}
 use mathlib.Core.Option.{Option, none, some}
 use Prim.Native.Nat.{ℕ, _+_, _-_, _*_, _≤_, _<_}
 use native.Mathlib.Omega.{arith}
-use lib.Dec.{eqb, ltb, lit≤}
+use lib.Dec.{eqb, ltb}
 use lib.IntN.{pos}
 use lib.ListN.{length, getD, take, List·getD-eq-default}
 use borrow.Author.Tests.{eqb-true, ltb-true, ltb-false}
@@ -26,12 +26,11 @@ use Rattle.dates.specs.Calendar.{monthLength}
 use Rattle.dates.specs.Time.{time}
 use Rattle.dates.specs.Value.{datetime, month, day, date}
 use Rattle.dates.specs.declared.Date.{Date}
-use Rattle.refusals.specs.declared.Kind.{Kind}
-use Rattle.refusals.specs.declared.Kind.the-variants.{UndefinedRange, DayOutOfRange, MonthOutOfRange, InvalidNumber, MissingNumber, WrongNumberOfDigits, InvalidFormat, YearZeroCE, RustPanics, BadUtf8, UnsupportedChar, NotStrict, NoRoom, BadFrame, BadChunks, TooLong, NotACalendarDate, BadPeriod, DuplicateEntry, ChronologyFull, UnknownEntry, BadTime, NotLevelOne, HasSeason, NoInstant, BadChronology}
 use Rattle.refusals.specs.declared.Refusal.{Refusal}
 use Rattle.refusals.specs.declared.ReadDate.{ReadDate}
 use Rattle.refusals.specs.declared.ReadDate.the-variants.{Accepted, Refused}
 use Rattle.refusals.specs.Refusal.{number}
+use Rattle.refusals.proofs.Told.{number-in}
 use Rattle.datefield.specs.Text.{lastByte, isUncertain, isApproximate, unmarked}
 use Rattle.codes.specs.declared.Words.{Words}
 use Rattle.codes.specs.Words.{nothing, twos, fourBytes, sortOf, dayWord, timeWord, pointWord, clockWord, shiftWord, zoneWord, words, flag, marksOf, valueWords, valueOr, wordsOf, wordsOr}
@@ -289,35 +288,6 @@ value-last v u a = go v (flag u) (flag a) (flag-most u) (flag-most a)
 
 pub accepted-last : (d : Date) → wordsOf (Accepted d) .last < 4294967296
 accepted-last d = value-last (d .value) (d .uncertain) (d .approximate)
-
--- the number of a refusal is a byte, and not 0
-pub number-in : (k : Kind) → (1 ≤ number k) × (number k < 256)
-number-in UndefinedRange = (lit≤ tt, lit≤ tt)
-number-in DayOutOfRange = (lit≤ tt, lit≤ tt)
-number-in MonthOutOfRange = (lit≤ tt, lit≤ tt)
-number-in InvalidNumber = (lit≤ tt, lit≤ tt)
-number-in MissingNumber = (lit≤ tt, lit≤ tt)
-number-in WrongNumberOfDigits = (lit≤ tt, lit≤ tt)
-number-in InvalidFormat = (lit≤ tt, lit≤ tt)
-number-in YearZeroCE = (lit≤ tt, lit≤ tt)
-number-in RustPanics = (lit≤ tt, lit≤ tt)
-number-in BadUtf8 = (lit≤ tt, lit≤ tt)
-number-in UnsupportedChar = (lit≤ tt, lit≤ tt)
-number-in NotStrict = (lit≤ tt, lit≤ tt)
-number-in NoRoom = (lit≤ tt, lit≤ tt)
-number-in BadFrame = (lit≤ tt, lit≤ tt)
-number-in BadChunks = (lit≤ tt, lit≤ tt)
-number-in TooLong = (lit≤ tt, lit≤ tt)
-number-in NotACalendarDate = (lit≤ tt, lit≤ tt)
-number-in BadPeriod = (lit≤ tt, lit≤ tt)
-number-in DuplicateEntry = (lit≤ tt, lit≤ tt)
-number-in ChronologyFull = (lit≤ tt, lit≤ tt)
-number-in UnknownEntry = (lit≤ tt, lit≤ tt)
-number-in BadTime = (lit≤ tt, lit≤ tt)
-number-in NotLevelOne = (lit≤ tt, lit≤ tt)
-number-in HasSeason = (lit≤ tt, lit≤ tt)
-number-in NoInstant = (lit≤ tt, lit≤ tt)
-number-in BadChronology = (lit≤ tt, lit≤ tt)
 
 pub refused-last : (e : Refusal) → 4294967296 ≤ wordsOf (Refused e) .last
 refused-last e = let n = number-in (e .kind) .0 in omega arith

@@ -1,6 +1,6 @@
 -- Words that move with a list's span, and that what the ported reader says at once can be moved so.
 -- Assumes nothing.
-use mathlib.Core.Path.{_≡_, refl, ap, subst, _∙_}
+use mathlib.Core.Path.{_≡_, refl, subst}
 use mathlib.Core.Bool.{true, _&&_, _||_}
 use mathlib.Core.List.{List}
 use mathlib.Core.Option.{Option, none, some}
@@ -9,6 +9,7 @@ use native.Mathlib.Omega.{arith}
 use lib.Dec.{eqb, ltb, leb}
 use lib.IntN.{pos}
 use lib.ListN.{length, getD, take, drop}
+use borrow.Author.Tests.{lt-ltb, le-ltb}
 use Rattle.chars.specs.Pick.{pick}
 use Rattle.chars.proofs.Cases.{by-test}
 use Rattle.dates.specs.declared.Datetime.{Datetime}
@@ -18,32 +19,24 @@ use Rattle.refusals.specs.declared.Kind.the-variants.{InvalidFormat, MonthOutOf
 use Rattle.refusals.specs.declared.ReadDate.{ReadDate}
 use Rattle.refusals.specs.declared.ReadDate.the-variants.{Accepted, Refused}
 use Rattle.refusals.specs.Refusal.{hasPlace, refusal}
-use Rattle.codes.specs.declared.Words.{Words}
-use Rattle.codes.specs.Words.{words, wordsOf}
+use Rattle.refusals.proofs.Sums.{sum-fits}
+use Rattle.codes.specs.Words.{wordsOf}
 use Rattle.codes.specs.Points.{twoAt, yearOf, partAt, onSome, pointOf}
 use Rattle.codes.specs.Texts.{isSlash, slashOf}
-use Rattle.codes.specs.Ported.{refusedAt, areWordBytes, noYear, shortYear, isUnknown, yearsOf, monthsOf, daysOf, badParts, isDayForm, badDay, dayOrDays, badRange, ported, movedBy, Movable}
+use Rattle.codes.specs.Ported.{refusedAt, areWordBytes, noYear, shortYear, isUnknown, yearsOf, monthsOf, daysOf, badParts, isDayForm, badDay, dayOrDays, badRange, ported, movedBy, movedWords, Movable}
 use Rattle.codes.proofs.Laws.{accepted-last, refused-last}
 
-module _ (w : Words) (start : ℕ) where
-  -- a Date stays
-  pub date-stays : w .last < 4294967296 → (x : ReadDate) → w ≡ wordsOf x → Movable x → start < 0x8000000000000000 → w ≡ wordsOf (movedBy start x)
-  unfolding movedBy
-  date-stays h (Accepted d) e m l = e
-  date-stays h (Refused r) e m l = absurd (omega (arith, h, ap (λ (v : Words). v .last) e, refused-last r))
-
-  -- the place of a refusal moves
-  pub place-moves : {a b : ℕ} → 4294967296 ≤ w .last → (w .start + start < 18446744073709551616 → a ≡ w .start + start)
-      → (w .end + start < 18446744073709551616 → b ≡ w .end + start) → (x : ReadDate) → w ≡ wordsOf x → Movable x → start < 0x8000000000000000
-      → words a b (w .first) (w .«first_time») (w .second) (w .«second_time») (w .last) ≡ wordsOf (movedBy start x)
-  unfolding movedBy refusal pick
-  place-moves h f g (Accepted d) e m l = absurd (omega (arith, h, ap (λ (v : Words). v .last) e, accepted-last d))
-  place-moves {a} {b} h f g (Refused r) e (m, (p, q)) l =
-      let i = ap (λ (v : Words). v .start) e in
-      let j = ap (λ (v : Words). v .end) e in
-      let k : a ≡ r .place .0 + start = f (omega (arith, i, p, l)) ∙ ap (λ (n : ℕ). n + start) i in
-      let o : b ≡ r .place .1 + start = g (omega (arith, j, q, l)) ∙ ap (λ (n : ℕ). n + start) j in
-      rw (k, o, e, m)
+-- a Date stays, and the place of a refusal moves
+pub moved-is : (start : ℕ) → start < 0x8000000000000000 → (x : ReadDate) → Movable x → movedWords start (wordsOf x) ≡ wordsOf (movedBy start x)
+unfolding movedWords movedBy refusal pick
+moved-is start l (Accepted d) m = rw (lt-ltb (wordsOf (Accepted d) .last) 4294967296 (accepted-last d))
+moved-is start l (Refused r) (m, (p, q)) =
+    rw (
+      le-ltb (wordsOf (Refused r) .last) 4294967296 (refused-last r),
+      sum-fits (r .place .0) start (omega arith),
+      sum-fits (r .place .1) start (omega arith),
+      m,
+    )
 
 -- what is said at once can be moved
 abbrev Can : Option ReadDate → Type 0

@@ -9,7 +9,7 @@ use lib.Signed.{mag}
 use mir.Syntax.{w32}
 use mir.Val.{SFits, toZ, ofZ}
 use mir.ValLaws.{toZ-pos, toZ-ofZ}
-use borrow.Author.Tests.{lt-ltb, le-ltb}
+use borrow.Author.Tests.{lt-ltb, le-ltb, ne-eqb}
 use Rattle.chars.specs.Pick.{pick}
 use Rattle.dates.specs.declared.OptionMonth.{OptionMonth}
 use Rattle.dates.specs.declared.OptionMonth.the-variants.{NoMonth, SomeMonth}
@@ -29,17 +29,16 @@ use Rattle.dates.specs.declared.Date.{Date}
 use Rattle.dates.specs.Ends.{EachEnd}
 use Rattle.dates.specs.Time.{time}
 use Rattle.dates.specs.Value.{seasonNumber}
-use Rattle.refusals.specs.declared.Kind.{Kind}
 use Rattle.refusals.specs.declared.Refusal.{Refusal}
 use Rattle.refusals.specs.declared.ReadDate.{ReadDate}
 use Rattle.refusals.specs.declared.ReadDate.the-variants.{Accepted, Refused}
 use Rattle.refusals.specs.Refusal.{number, fileSpan}
-use Rattle.refusals.proofs.Told.{number-in}
+use Rattle.refusals.proofs.Told.{named, number-in}
 use Rattle.codes.specs.declared.Words.{Words}
 use Rattle.codes.specs.Words.{twos, flag, hasMonth, monthNumber, hasDay, dayNumber, hasTime, clockOf, offsetSort, shiftOf, hoursOf, minutesOf, dayWordOf, timeWordOf, lastWord, dayWord, timeWord, valueWords, wordsOf}
 use Rattle.codes.specs.Typed.{DatetimeTyped, Typed}
 use Rattle.codes.specs.Back.{yearIn, hasMonthIn, monthIn, hasDayIn, dayIn, isSet}
-use Rattle.codes.specs.Unpacked.{fromTwos, monthOf, dayOf, offsetOf, timeIn, seasonOf, datetimeIn, valueIn, dateIn}
+use Rattle.codes.specs.Unpacked.{fromTwos, monthOf, dayOf, offsetOf, timeIn, seasonOf, datetimeIn, valueIn, dateIn, readIn}
 
 -- a year in 32 bits
 pub twos-in : (y : ℤ) → mag y < 2147483648 → twos y < 4294967296
@@ -96,17 +95,17 @@ pub day-flag : (d : OptionDay) → hasDay d < 2
 day-flag NoDay = omega arith
 day-flag (SomeDay d) = omega arith
 
-time-flag : (t : OptionTime) → hasTime t < 2
+pub time-flag : (t : OptionTime) → hasTime t < 2
 time-flag NoTime = omega arith
 time-flag (SomeTime t) = omega arith
 
-sort-in : (o : OptionOffset) → offsetSort o < 4
+pub sort-in : (o : OptionOffset) → offsetSort o < 4
 sort-in NoOffset = omega arith
 sort-in (SomeOffset Utc) = omega arith
 sort-in (SomeOffset (Offset true h m)) = omega arith
 sort-in (SomeOffset (Offset false h m)) = omega arith
 
-season-in : (s : OptionSeason) → seasonNumber s < 25
+pub season-in : (s : OptionSeason) → seasonNumber s < 25
 season-in NoSeason = omega arith
 season-in Spring = omega arith
 season-in Summer = omega arith
@@ -128,14 +127,14 @@ unfolding dayOf pick
 day-back NoDay = refl
 day-back (SomeDay d) = refl
 
-offset-back : (o : OptionOffset) → offsetOf (offsetSort o) (hoursOf (shiftOf o)) (minutesOf (shiftOf o)) ≡ o
+pub offset-back : (o : OptionOffset) → offsetOf (offsetSort o) (hoursOf (shiftOf o)) (minutesOf (shiftOf o)) ≡ o
 unfolding offsetOf pick
 offset-back NoOffset = refl
 offset-back (SomeOffset Utc) = refl
 offset-back (SomeOffset (Offset true h m)) = refl
 offset-back (SomeOffset (Offset false h m)) = refl
 
-season-back : (s : OptionSeason) → seasonOf (seasonNumber s) ≡ s
+pub season-back : (s : OptionSeason) → seasonOf (seasonNumber s) ≡ s
 unfolding seasonOf pick
 season-back NoSeason = refl
 season-back Spring = refl
@@ -322,18 +321,9 @@ accepted-last d =
 refused-last : (e : Refusal) → wordsOf (Refused e) .last / 4294967296 % 256 ≡ number (e .kind)
 refused-last e = refusal-part 0 0 0 (number (e .kind)) (omega arith) (omega arith) (omega arith) (number-in (e .kind) .1)
 
--- words without a refusal
-pub unpacked-date : (w : Words) → w .last / 4294967296 % 256 ≡ 0 → (x : ReadDate) → w ≡ wordsOf x → Typed x → Accepted (dateIn w) ≡ x
-unpacked-date w z (Accepted d) e t = ap Accepted (ap dateIn e ∙ date-said d t)
-unpacked-date w z (Refused k) e t =
-    let n = sym z ∙ ap (λ (v : Words). v .last / 4294967296 % 256) e ∙ refused-last k in
-    absurd (let p = number-in (k .kind) .0 in omega arith)
-
--- words with one
-pub unpacked-refusal : (w : Words) (k : Kind) → (w .last / 4294967296 % 256 ≡ 0 → ⊥)
-    → ((j : Kind) → w .last / 4294967296 % 256 ≡ number j → k ≡ j)
-    → (x : ReadDate) → w ≡ wordsOf x → Typed x → Refused (record { kind = k; place = fileSpan (w .start) (w .end) }) ≡ x
-unpacked-refusal w k z named (Accepted d) e t = absurd (z (ap (λ (v : Words). v .last / 4294967296 % 256) e ∙ accepted-last d))
-unpacked-refusal w k z named (Refused r) e t =
-    let n = named (r .kind) (ap (λ (v : Words). v .last / 4294967296 % 256) e ∙ refused-last r) in
-    λ i. Refused (record { kind = n i; place = fileSpan (e i .start) (e i .end) })
+-- what a reader answers is read back from its words
+pub read-back : (x : ReadDate) → Typed x → readIn (wordsOf x) ≡ x
+unfolding readIn pick
+read-back (Accepted d) t = rw (accepted-last d) (ap Accepted (date-said d t))
+read-back (Refused e) t =
+    rw (refused-last e, ne-eqb (number (e .kind)) 0 (λ z. let p = number-in (e .kind) .0 in omega arith), named (e .kind))

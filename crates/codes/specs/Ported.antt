@@ -23,7 +23,10 @@ use Rattle.refusals.specs.declared.ReadDate.{ReadDate}
 use Rattle.refusals.specs.declared.ReadDate.the-variants.{Accepted, Refused}
 use Rattle.refusals.specs.declared.Refusal.{Refusal}
 use Rattle.refusals.specs.Refusal.{hasPlace, refusal, fileSpan}
+use Rattle.refusals.specs.Offset.{saturatingAdd}
 use Rattle.points.specs.Point.{windowed}
+use Rattle.codes.specs.declared.Words.{Words}
+use Rattle.codes.specs.Words.{words}
 use Rattle.codes.specs.Points.{twoAt, yearOf, partAt, onSome, pointOf}
 use Rattle.codes.specs.Texts.{isSlash, slashOf}
 
@@ -120,6 +123,13 @@ ported s =
 unfoldable pub movedBy : ℕ → ReadDate → ReadDate
 movedBy start (Accepted d) = Accepted d
 movedBy start (Refused e) = Refused (refusal (e .kind) (fileSpan (e .place .0 + start) (e .place .1 + start)))
+
+-- the words of it: where there is a refusal, both ends of its place move, each up to the largest number
+unfoldable pub movedWords : ℕ → Words → Words
+movedWords start w =
+    pick (ltb (w .last) 4294967296) w
+    (words (saturatingAdd (w .start) start) (saturatingAdd (w .end) start) (w .first) (w .«first_time») (w .second) (w .«second_time»)
+    (w .last))
 
 -- what can be moved so: a Date, or a refusal that names a place which becomes not too large
 abbrev pub Movable : ReadDate → Type 0

@@ -1,4 +1,4 @@
--- What words say, read back part by part. No public contract rests on it. That of `unpack` says that it is the way back from `wordsOf`.
+-- What words say, read back part by part: the way back from `wordsOf`.
 use Prim.Native.Nat.{ℕ, _-_, _/_, _%_}
 use lib.Dec.{eqb, ltb}
 use lib.IntN.{ℤ, pos, negsuc}
@@ -20,6 +20,9 @@ use Rattle.dates.specs.declared.DateValue.the-variants.{At, After, Before, Betw
 use Rattle.dates.specs.declared.Date.{Date}
 use Rattle.dates.specs.Time.{time}
 use Rattle.dates.specs.Value.{month, day, date}
+use Rattle.refusals.specs.declared.ReadDate.{ReadDate}
+use Rattle.refusals.specs.declared.ReadDate.the-variants.{Accepted, Refused}
+use Rattle.refusals.specs.Refusal.{kindOf, fileSpan}
 use Rattle.codes.specs.declared.Words.{Words}
 use Rattle.codes.specs.Back.{yearIn, hasMonthIn, monthIn, hasDayIn, dayIn, isSet}
 
@@ -74,3 +77,9 @@ valueIn w =
 -- the Date
 unfoldable pub dateIn : Words → Date
 dateIn w = date (valueIn w) (isSet (w .last / 256 % 256)) (isSet (w .last / 65536 % 256))
+
+-- what a reader answered: the Date if the refusal's number is 0, or the refusal of that number with its place
+unfoldable pub readIn : Words → ReadDate
+readIn w =
+    pick (eqb (w .last / 4294967296 % 256) 0) (Accepted (dateIn w))
+    (Refused (record { kind = kindOf (w .last / 4294967296 % 256); place = fileSpan (w .start) (w .end) }))

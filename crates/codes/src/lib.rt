@@ -8,14 +8,14 @@ ghost use lib.IntN.{pos};
 ghost use lib.Signed.{mag};
 ghost use Rattle.dates.specs.declared.OptionTime.the-variants.{NoTime};
 ghost use Rattle.refusals.specs.declared.ReadDate.{ReadDate};
-ghost use Rattle.datefield.specs.Text.{lastByte, isUncertain, isApproximate, isDots};
+ghost use Rattle.datefield.specs.Text.{lastByte, isUncertain, isApproximate};
 ghost use Rattle.codes.specs.Words as words;
 ghost use Rattle.codes.specs.Points as spec;
 ghost use Rattle.codes.specs.Texts as texts;
 ghost use Rattle.codes.specs.Ported as ported_;
 ghost use Rattle.codes.specs.Parts as parts;
 ghost use Rattle.codes.specs.Typed as typed;
-ghost use Rattle.codes.specs.Ported.{movedBy, Movable};
+ghost use Rattle.refusals.specs.Offset.{saturatingAdd};
 ghost use Rattle.points.specs.Point.{windowed};
 ghost use Rattle.fields.specs.Year.{beforeChrist};
 ghost use Rattle.codes.specs.Words.{wordsOf};
@@ -29,6 +29,7 @@ ghost use Rattle.puts.specs.Marks.{markText};
 ghost use Rattle.puts.specs.Numbers.{digits};
 ghost use Rattle.codes.specs.Back as back;
 use chars::is_digit;
+use datefield::is_dots;
 use dates::Date;
 use dates::DateValue;
 use dates::Datetime;
@@ -380,18 +381,6 @@ fn both(a: u64, b: u64, marks: u64) -> Words
     }
 }
 
-// Exactly two dots.
-fn is_dots(s: &[u8]) -> bool
-    ensures { λ r. ⌜ r ≡ isDots (now (s .entry)) ⌝ }
-{
-    if s.len() == 2 {
-        if s[0] == b'.' {
-            return s[1] == b'.';
-        }
-    }
-    false
-}
-
 // The texts on both sides of a slash.
 fn halves(a: &[u8], b: &[u8], marks: u64) -> Words
     requires { ⌜ marks ≤ 65792 ⌝ }
@@ -712,7 +701,7 @@ pub fn pack(r: ReadDate) -> Words
 
 // The sum, or the largest number where it would be above that.
 fn farther(a: u64, b: u64) -> u64
-    ensures { λ r. ⌜ (a + b < 18446744073709551616 → r ≡ a + b) ⌝ }
+    ensures { λ r. ⌜ r ≡ saturatingAdd a b ⌝ }
 {
     if NOTHING - b < a {
         return NOTHING;
@@ -722,7 +711,7 @@ fn farther(a: u64, b: u64) -> u64
 
 // The words of an answer whose refusal moves with a list's span.
 pub fn moved(w: Words, start: u64) -> Words
-    ensures { λ r. ⌜ ((x : ReadDate) → w ≡ words.wordsOf x → Movable x → start < 0x8000000000000000 → r ≡ words.wordsOf (movedBy start x)) ⌝ }
+    ensures { λ r. ⌜ r ≡ ported_.movedWords start w ⌝ }
 {
     if w.last < 4294967296 {
         return w;
@@ -1440,7 +1429,8 @@ fn day_back(has: u8, n: u8) -> OptionDay
     OptionDay::SomeDay(Day(n))
 }
 
-fn offset_back(sort: u8, hours: u8, minutes: u8) -> OptionOffset
+// An offset by its sort, its hours and its minutes.
+pub fn offset_of(sort: u8, hours: u8, minutes: u8) -> OptionOffset
     ensures { λ r. ⌜ r ≡ unpacked.offsetOf sort hours minutes ⌝ }
 {
     if sort == 0 {
@@ -1462,7 +1452,7 @@ fn time_back(t: u64) -> OptionTime
     if t % 256 == 0 {
         return OptionTime::NoTime;
     }
-    let offset = offset_back(
+    let offset = offset_of(
         low_byte(t / 4294967296),
         low_byte(t / 1099511627776),
         low_byte(t / 281474976710656),
@@ -1475,7 +1465,8 @@ fn time_back(t: u64) -> OptionTime
     })
 }
 
-fn season_back(n: u8) -> OptionSeason
+// A season by its number.
+pub fn season_of(n: u8) -> OptionSeason
     ensures { λ r. ⌜ r ≡ unpacked.seasonOf n ⌝ }
 {
     if n == 0 {
@@ -1502,7 +1493,7 @@ fn datetime_back(a: u64, t: u64) -> Datetime
         low_byte(a / 72057594037927936),
     );
     let time = time_back(t);
-    let season = season_back(low_byte(t / 72057594037927936));
+    let season = season_of(low_byte(t / 72057594037927936));
     Datetime {
         year: from_twos(a % 4294967296),
         month,
@@ -1542,7 +1533,7 @@ fn date_back(w: Words) -> Date
 
 // What a reader answered, from its words.
 pub fn unpack(w: Words) -> ReadDate
-    ensures { λ r. ⌜ ((x : ReadDate) → w ≡ wordsOf x → Typed x → r ≡ x) ⌝ }
+    ensures { λ r. ⌜ r ≡ unpacked.readIn w ⌝ }
 {
     let refusal = low_byte(w.last / 4294967296);
     if refusal == 0 {

@@ -79,7 +79,8 @@ fn is_blank(s: &[u8]) -> bool
     s.len() <= c.0
 }
 
-fn is_dots(s: &[u8]) -> bool
+// Exactly two dots.
+pub fn is_dots(s: &[u8]) -> bool
     ensures { λ r. ⌜ r ≡ text.isDots (now (s .entry)) ⌝ }
 {
     if s.len() == 2 {

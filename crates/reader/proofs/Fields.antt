@@ -1,25 +1,23 @@
 -- What three fields say at once, by the words of their parts. Assumes nothing.
 use mathlib.Core.Path.{_≡_, refl, ap}
 use mathlib.Core.Option.{Option, none, some}
-use Prim.Native.Nat.{ℕ, _+_, _*_, _-_, _≤_, _<_}
+use Prim.Native.Nat.{ℕ, _+_, _<_}
 use native.Mathlib.Omega.{arith}
-use lib.IntN.{ℤ, pos, negsuc}
-use lib.Signed.{mag}
+use lib.IntN.{ℤ}
 use Rattle.chunks.specs.Lent.{Three}
 use Rattle.dates.specs.declared.OptionMonth.{OptionMonth}
-use Rattle.dates.specs.declared.OptionMonth.the-variants.{NoMonth, SomeMonth}
 use Rattle.dates.specs.declared.OptionDay.{OptionDay}
-use Rattle.dates.specs.declared.OptionDay.the-variants.{NoDay, SomeDay}
 use Rattle.dates.specs.declared.OptionTime.the-variants.{NoTime}
 use Rattle.dates.specs.Value.{datetime, fromDatetime}
 use Rattle.refusals.specs.declared.ReadDate.{ReadDate}
 use Rattle.refusals.specs.declared.ReadDate.the-variants.{Accepted}
 use Rattle.codes.specs.declared.Words.{Words}
-use Rattle.codes.specs.Words.{nothing, twos, hasMonth, monthNumber, hasDay, dayNumber, yearWord, monthWord, dayPartWord, words, wordsOr}
+use Rattle.codes.specs.Words.{nothing, yearWord, monthWord, dayPartWord, words, wordsOr}
 use Rattle.codes.specs.Typed.{Typed, DatetimeTyped}
 use Rattle.codes.specs.Points.{onSome}
 use Rattle.codes.specs.Parts.{yearPart}
 use Rattle.codes.specs.Lists.{onNormal, monthOr, dayOr, listThree}
+use Rattle.codes.proofs.Unpacking.{twos-in, month-flag, day-flag}
 use Rattle.code_laws.proofs.Three.{three-typed}
 
 -- the words of three parts, and of what they say together
@@ -29,19 +27,6 @@ pub record Joined (y m d : ℕ) (v : Words) : Type 0 where
   pub no-day : d ≡ nothing → wordsOr none ≡ v
   pub said : (y ≡ nothing → ⊥) → (m ≡ nothing → ⊥) → (d ≡ nothing → ⊥) → words 0 0 (y + m + d) 0 0 0 0 ≡ v
   pub room : (y ≡ nothing → ⊥) → (m ≡ nothing → ⊥) → (d ≡ nothing → ⊥) → y + m + d < 18446744073709551616
-
-twos-most : (y : ℤ) → mag y < 2147483648 → twos y < 4294967296
-unfolding twos
-twos-most (pos n) h = omega arith
-twos-most (negsuc n) h = omega arith
-
-month-flag : (m : OptionMonth) → hasMonth m ≤ 1
-month-flag NoMonth = omega arith
-month-flag (SomeMonth m) = omega arith
-
-day-flag : (d : OptionDay) → hasDay d ≤ 1
-day-flag NoDay = omega arith
-day-flag (SomeDay d) = omega arith
 
 together : Option ℤ → Option OptionMonth → Option OptionDay → Option ReadDate
 together x a b = onSome x λ y. onSome a λ m. onSome b λ d. some (Accepted (fromDatetime (datetime y m d NoTime)))
@@ -57,7 +42,7 @@ joined-by (some y) (some m) none typed =
     record { no-year = λ e. refl; no-month = λ e. refl; no-day = λ e. refl; said = λ f g h. absurd (h refl); room = λ f g h. absurd (h refl) }
 joined-by (some y) (some m) (some d) typed =
     let h : DatetimeTyped (datetime y m d NoTime) = typed _ refl in
-    let t = twos-most y (h .year-typed) in
+    let t = twos-in y (h .year-typed) in
     let (i, (j, _)) = h .bytes-typed in
     let k = month-flag m in
     let l = day-flag d in

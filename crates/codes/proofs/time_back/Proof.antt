@@ -19,7 +19,7 @@ returns-2 c =
     let b5 = b4 .before in
     let b6 = b5 .before in
     let b7 = b6 .before in
-    simp (ne-eqb _ _ (b7 .if1 .left), ← b6 .low-byte .ensures, ← b5 .low-byte2 .ensures, ← b4 .low-byte3 .ensures, ← b3 .offset-back .ensures, ← b2 .low-byte4 .ensures, ← b1 .low-byte5 .ensures, ← c .low-byte6 .ensures)
+    simp (ne-eqb _ _ (b7 .if1 .left), ← b6 .low-byte .ensures, ← b5 .low-byte2 .ensures, ← b4 .low-byte3 .ensures, ← b3 .offset-of .ensures, ← b2 .low-byte4 .ensures, ← b1 .low-byte5 .ensures, ← c .low-byte6 .ensures)
 
 pub time-back-spec : {M : Type 1} → statement M
 time-back-spec =

@@ -6,7 +6,7 @@ use lib.ListN.{length}
 use lib.Seq.{length-take-le}
 use Rattle.puts.specs.Answers.{answer, afterwards}
 use Rattle.answers.specs.Coded.{wordsLine}
-use Rattle.frames.proofs.Plain.{text-in, text-put}
+use Rattle.codes.proofs.Short.{text-in, text-put}
 use borrow.Author.Needs.{needs}
 use Rattle.frames.proofs.write_plain.Statement.{statement}
 use Rattle.frames.proofs.write_plain.Tie as tie

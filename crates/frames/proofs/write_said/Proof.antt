@@ -8,6 +8,8 @@ use Rattle.puts.specs.Answers.{answer, afterwards}
 use Rattle.codes.specs.Words.{wordsOf}
 use Rattle.codes.specs.Typed.{Typed}
 use Rattle.codes.specs.Back.{wordsText}
+use Rattle.codes.specs.Unpacked.{readIn}
+use Rattle.codes.proofs.Unpacking.{read-back}
 use Rattle.answers.specs.Answer.{answerLine, levelLine}
 use Rattle.answers.specs.Coded.{wordsLine, refusedWords}
 use Rattle.frames.specs.Frame.{lineBy}
@@ -30,7 +32,7 @@ returns-2 c =
     let a = c .before .before .before .before .before .before .before .before .before .before .args in
     let q = c .before .before .write-level-answer .ensures in
     let l : (x : ReadDate) → a .w ≡ wordsOf x → Typed x → levelLine (c .before .before .before .before .unpack .result) ≡ lineBy (a .op) x =
-    λ x e t. ap levelLine (c .before .before .before .before .unpack .ensures x e t) ∙ level-line (a .op) (sym (c .before .before .before .before .before .before .by-level .ensures) ∙ c .before .before .before .before .before .if2 .taken) x in
+    λ x e t. ap levelLine (c .before .before .before .before .unpack .ensures ∙ ap readIn e ∙ read-back x t) ∙ level-line (a .op) (sym (c .before .before .before .before .before .before .by-level .ensures) ∙ c .before .before .before .before .before .if2 .taken) x in
     (λ x e t. q .0 ∙ ap (λ (s : List ℕ). answer false s (length (a .out .now))) (l x e t), λ x e t. q .1 ∙ ap (λ (s : List ℕ). afterwards false s (a .out .now)) (l x e t))
 
 write-plain-requires : tie.Need-write-plain-requires
@@ -49,7 +51,7 @@ returns-4 c =
     let a = c .before .before .before .before .before .before .before .before .before .before .before .before .args in
     let q = c .before .before .write-answer .ensures in
     let l : (x : ReadDate) → a .w ≡ wordsOf x → Typed x → answerLine (c .before .before .before .before .unpack2 .result) ≡ lineBy (a .op) x =
-    λ x e t. ap answerLine (c .before .before .before .before .unpack2 .ensures x e t) ∙ other-line (a .op) (sym (c .before .before .before .before .before .before .before .before .by-level .ensures) ∙ c .before .before .before .before .before .before .before .if2 .left) x in
+    λ x e t. ap answerLine (c .before .before .before .before .unpack2 .ensures ∙ ap readIn e ∙ read-back x t) ∙ other-line (a .op) (sym (c .before .before .before .before .before .before .before .before .by-level .ensures) ∙ c .before .before .before .before .before .before .before .if2 .left) x in
     (λ x e t. q .0 ∙ ap (λ (s : List ℕ). answer false s (length (a .out .now))) (l x e t), λ x e t. q .1 ∙ ap (λ (s : List ℕ). afterwards false s (a .out .now)) (l x e t))
 
 pub write-said-spec : {M : Type 1} → statement M

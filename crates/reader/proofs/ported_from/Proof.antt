@@ -5,9 +5,9 @@ use Rattle.chars.specs.Pick.{pick}
 use Rattle.codes.specs.declared.Words.{Words}
 use Rattle.codes.specs.Words.{wordsOr}
 use Rattle.codes.specs.Points.{onSome}
-use Rattle.codes.specs.Ported.{ported}
+use Rattle.codes.specs.Ported.{ported, movedWords}
 use Rattle.codes.proofs.Laws.{told, untold}
-use Rattle.codes.proofs.Places.{ported-movable}
+use Rattle.codes.proofs.Places.{moved-is, ported-movable}
 use borrow.Author.Needs.{needs}
 use Rattle.reader.proofs.ported_from.Statement.{statement}
 use Rattle.reader.proofs.ported_from.Tie as tie
@@ -29,7 +29,9 @@ returns-2 c =
     let e = b .ported .ensures in
     let n = told (ported t) (λ z. c .before .if2 .left (ap (λ (v : Words). v .last) e ∙ z)) in
     rw (lt-ltb _ _ (b .before .if1 .taken), n .1)
-    (c .moved .ensures (n .0) (e ∙ ap wordsOr (n .1)) (ported-movable t (n .1)) (b .before .if1 .taken))
+    (c .moved .ensures
+    ∙ ap (movedWords _) (e ∙ ap wordsOr (n .1))
+    ∙ moved-is _ (b .before .if1 .taken) (n .0) (ported-movable t (n .1)))
 
 returns-3 : tie.Need-returns-3
 unfolding pick

@@ -1,8 +1,8 @@
 use Rattle.chars.specs.Pick.{pick}
 use Rattle.codes.specs.Unpacked.{offsetOf}
 use borrow.Author.Tests.{eq-eqb, ne-eqb}
-use Rattle.codes.proofs.offset_back.Statement.{statement}
-use Rattle.codes.proofs.offset_back.Tie as tie
+use Rattle.codes.proofs.offset_of.Statement.{statement}
+use Rattle.codes.proofs.offset_of.Tie as tie
 
 returns : tie.Need-returns
 unfolding offsetOf pick
@@ -20,5 +20,5 @@ returns-3 c =
     let b1 = c .before in
     simp (ne-eqb _ _ (b1 .if1 .left), ne-eqb _ _ (c .if2 .left))
 
-pub offset-back-spec : {M : Type 1} → statement M
-offset-back-spec = tie.close (tie.spec returns returns-2 returns-3)
+pub offset-of-spec : {M : Type 1} → statement M
+offset-of-spec = tie.close (tie.spec returns returns-2 returns-3)

@@ -1,8 +1,8 @@
 use Rattle.chars.specs.Pick.{pick}
 use Rattle.codes.specs.Unpacked.{seasonOf}
 use borrow.Author.Tests.{eq-eqb, ne-eqb}
-use Rattle.codes.proofs.season_back.Statement.{statement}
-use Rattle.codes.proofs.season_back.Tie as tie
+use Rattle.codes.proofs.season_of.Statement.{statement}
+use Rattle.codes.proofs.season_of.Tie as tie
 
 returns : tie.Need-returns
 unfolding seasonOf pick
@@ -37,5 +37,5 @@ returns-5 c =
     let b3 = b2 .before in
     simp (ne-eqb _ _ (b3 .if1 .left), ne-eqb _ _ (b2 .if2 .left), ne-eqb _ _ (b1 .if3 .left), ne-eqb _ _ (c .if4 .left))
 
-pub season-back-spec : {M : Type 1} → statement M
-season-back-spec = tie.close (tie.spec returns returns-2 returns-3 returns-4 returns-5)
+pub season-of-spec : {M : Type 1} → statement M
+season-of-spec = tie.close (tie.spec returns returns-2 returns-3 returns-4 returns-5)
