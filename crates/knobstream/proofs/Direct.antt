@@ -19,13 +19,13 @@ use Rattle.writer.specs.Answers.{dateMeasured, dateAnswer, dateAfterwards}
 use Rattle.writer.specs.Texts.{dateText}
 use Rattle.codes.specs.Words.{fourBytes, lastWord}
 use Rattle.codes.specs.Back.{isPlainWord, wordsText, isPlain, plainLength, hasRoom, wordsPut}
-use Rattle.codes.specs.Unpacked.{monthOf as wordMonth, dayOf as wordDay}
+use Rattle.codes.specs.Unpacked.{monthOf as wordMonth, dayOf as wordDay, seasonOf}
 use Rattle.code_laws.proofs.Back.{Said, TextOf, point-said, words-said, no-end}
 use Rattle.knobstream.specs.declared.PlainDatetime.{PlainDatetime}
 use Rattle.knobstream.specs.declared.PlainWritten.{PlainWritten}
 use Rattle.knobstream.specs.Plain.{parts, dayWord, written, measure}
 use Rattle.knobstream.specs.Layout.{DatetimeFits}
-use Rattle.knobstream.specs.Back.{isSet, monthOf, dayOf, timeOf, seasonOf, datetimeOf, dateValue, dateBy, dateOf}
+use Rattle.knobstream.specs.Back.{isSet, monthOf, dayOf, timeOf, datetimeOf, dateValue, dateBy, dateOf}
 use Rattle.knobstream.proofs.Laws.{season-set}
 
 -- a part that may be absent is the same by its word

@@ -9,21 +9,18 @@ use Rattle.dates.specs.declared.OptionMonth.{OptionMonth}
 use Rattle.dates.specs.declared.OptionMonth.the-variants.{NoMonth, SomeMonth}
 use Rattle.dates.specs.declared.OptionDay.{OptionDay}
 use Rattle.dates.specs.declared.OptionDay.the-variants.{NoDay, SomeDay}
-use Rattle.dates.specs.declared.TimeOffset.the-variants.{Utc, Offset}
-use Rattle.dates.specs.declared.OptionOffset.{OptionOffset}
-use Rattle.dates.specs.declared.OptionOffset.the-variants.{NoOffset, SomeOffset}
 use Rattle.dates.specs.declared.OptionTime.{OptionTime}
 use Rattle.dates.specs.declared.OptionTime.the-variants.{NoTime, SomeTime}
-use Rattle.dates.specs.declared.OptionSeason.{OptionSeason}
-use Rattle.dates.specs.declared.OptionSeason.the-variants.{NoSeason, Spring, Summer, Autumn, Winter}
 use Rattle.dates.specs.declared.Datetime.{Datetime}
 use Rattle.dates.specs.declared.DateValue.{DateValue}
 use Rattle.dates.specs.declared.DateValue.the-variants.{At, After, Before, Between}
 use Rattle.dates.specs.declared.Date.{Date}
-use Rattle.dates.specs.Value.{seasonNumber, isSeason}
-use Rattle.codes.specs.Words.{hasMonth, monthNumber, hasDay, dayNumber, offsetSort, shiftOf, hoursOf, minutesOf, flag}
+use Rattle.dates.specs.Value.{isSeason}
+use Rattle.codes.specs.Words.{hasMonth, monthNumber, hasDay, dayNumber, flag}
+use Rattle.codes.specs.Unpacked.{seasonOf}
+use Rattle.codes.proofs.Unpacking.{offset-back, season-back}
 use Rattle.knobstream.specs.Plain.{datetime, date}
-use Rattle.knobstream.specs.Back.{isSet, monthOf, dayOf, offsetOf, timeOf, seasonOf, datetimeOf, dateValue, dateBy, dateOf}
+use Rattle.knobstream.specs.Back.{isSet, monthOf, dayOf, timeOf, datetimeOf, dateValue, dateBy, dateOf}
 
 flag-back : (b : Bool) → isSet (flag b) ≡ b
 unfolding isSet
@@ -40,25 +37,10 @@ unfolding dayOf isSet pick
 day-back NoDay = refl
 day-back (SomeDay d) = refl
 
-offset-back : (o : OptionOffset) → offsetOf (offsetSort o) (hoursOf (shiftOf o)) (minutesOf (shiftOf o)) ≡ o
-unfolding offsetOf pick
-offset-back NoOffset = refl
-offset-back (SomeOffset Utc) = refl
-offset-back (SomeOffset (Offset true hours minutes)) = refl
-offset-back (SomeOffset (Offset false hours minutes)) = refl
-
 time-back : (d : Datetime) (t : OptionTime) → d .time ≡ t → timeOf (datetime d) ≡ t
 unfolding timeOf isSet pick
 time-back d NoTime e = rw e
 time-back d (SomeTime t) e = rw (e, offset-back (t .offset))
-
-season-back : (s : OptionSeason) → seasonOf (seasonNumber s) ≡ s
-unfolding seasonOf pick
-season-back NoSeason = refl
-season-back Spring = refl
-season-back Summer = refl
-season-back Autumn = refl
-season-back Winter = refl
 
 -- a season is there exactly if its number is not 0
 pub season-set : (n : ℕ) → isSeason (seasonOf n) ≡ isSet n

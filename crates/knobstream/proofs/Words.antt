@@ -1,38 +1,25 @@
 -- The seven words of an answer, stored, are the struct that a C caller lends, byte by byte; and they tell the answer whole.
 -- Assumes nothing.
 use mathlib.Core.Path.{_≡_, refl, ap, _∙_}
-use mathlib.Core.Bool.{Bool, true, false}
+use mathlib.Core.Bool.{Bool}
 use mathlib.Core.List.{List, [], _∷_, _++_, flatMap, append-assoc}
 use Prim.Native.Nat.{ℕ, suc, _+_, _*_, _/_, _%_, _<_}
 use native.Mathlib.Omega.{arith}
 use lib.IntN.{ℤ, pos, negsuc}
 use lib.Signed.{mag}
 use lib.ListN.{length}
-use Rattle.dates.specs.declared.OptionMonth.{OptionMonth}
-use Rattle.dates.specs.declared.OptionMonth.the-variants.{NoMonth, SomeMonth}
-use Rattle.dates.specs.declared.OptionDay.{OptionDay}
-use Rattle.dates.specs.declared.OptionDay.the-variants.{NoDay, SomeDay}
-use Rattle.dates.specs.declared.TimeOffset.the-variants.{Utc, Offset}
-use Rattle.dates.specs.declared.OptionOffset.{OptionOffset}
-use Rattle.dates.specs.declared.OptionOffset.the-variants.{NoOffset, SomeOffset}
-use Rattle.dates.specs.declared.OptionTime.{OptionTime}
-use Rattle.dates.specs.declared.OptionTime.the-variants.{NoTime, SomeTime}
-use Rattle.dates.specs.declared.OptionSeason.{OptionSeason}
-use Rattle.dates.specs.declared.OptionSeason.the-variants.{NoSeason, Spring, Summer, Autumn, Winter}
 use Rattle.dates.specs.declared.Datetime.{Datetime}
 use Rattle.dates.specs.declared.DateValue.{DateValue}
 use Rattle.dates.specs.declared.DateValue.the-variants.{At, After, Before, Between}
 use Rattle.dates.specs.declared.Date.{Date}
 use Rattle.dates.specs.Ends.{EachEnd}
-use Rattle.dates.specs.Value.{seasonNumber}
-use Rattle.refusals.specs.declared.Kind.{Kind}
-use Rattle.refusals.specs.declared.Refusal.{Refusal}
 use Rattle.refusals.specs.declared.ReadDate.{ReadDate}
 use Rattle.refusals.specs.declared.ReadDate.the-variants.{Accepted, Refused}
 use Rattle.refusals.specs.Refusal.{number}
-use Rattle.codes.specs.Words.{twos, flag, hasMonth, hasDay, hasTime, offsetSort, clockOf, shapeOf, fourBytes, lastWord, wordsOf}
+use Rattle.refusals.proofs.Told.{number-in}
+use Rattle.codes.specs.Words.{twos, flag, clockOf, fourBytes, lastWord, wordsOf}
 use Rattle.codes.specs.Typed.{Bytes, DatetimeTyped, Typed}
-use Rattle.codes.proofs.Laws.{number-in}
+use Rattle.codes.proofs.Unpacking.{twos-in, month-flag, day-flag, time-flag, sort-in, season-in, flag-in}
 use Rattle.knobstream.specs.declared.PlainDatetime.{PlainDatetime}
 use Rattle.knobstream.specs.declared.PlainRead.{PlainRead}
 use Rattle.knobstream.specs.Plain.{datetime, noDatetime, noDate, accepted, date, read, dayWord, timeWord, words}
@@ -79,15 +66,10 @@ eight-bytes a b c d e f g h l m =
     let k : fourBytes a b c d < 4294967296 = omega arith in
     rw (halves, four-bytes a b c d l, four-bytes e f g h m)
 
-twos-fits : (y : ℤ) → mag y < 2147483648 → twos y < 4294967296
-unfolding twos
-twos-fits (pos n) h = omega arith
-twos-fits (negsuc n) h = omega arith
-
 module _ (p : PlainDatetime) (h : DatetimeFits p) where
   day-bytes : inBytes 8 (dayWord p) ≡ inBytes 4 (twos (p .year)) ++ (p .«has_month» ∷ p .month ∷ p .«has_day» ∷ p .day ∷ [])
   day-bytes =
-      let y = twos-fits (p .year) (h .year-fits) in
+      let y = twos-in (p .year) (h .year-fits) in
       rw (halves, four-bytes (p .«has_month») (p .month) (p .«has_day») (p .day) (omega arith))
 
   time-bytes : inBytes 8 (timeWord p)
@@ -124,53 +106,21 @@ refused-fits a b n ha hb hn =
 answered : (r : PlainRead) {ws : List ℕ} → Fits r → ws ≡ words r → Answered ws r
 answered r h e = record { in-words = e; fits = h; in-bytes = rw e (laid-out r h) }
 
--- the numbers that say whether a part is there
-month-there : (m : OptionMonth) → hasMonth m < 256
-month-there NoMonth = omega arith
-month-there (SomeMonth m) = omega arith
-
-day-there : (d : OptionDay) → hasDay d < 256
-day-there NoDay = omega arith
-day-there (SomeDay d) = omega arith
-
-time-there : (t : OptionTime) → hasTime t < 256
-time-there NoTime = omega arith
-time-there (SomeTime t) = omega arith
-
-sort-fits : (o : OptionOffset) → offsetSort o < 256
-sort-fits NoOffset = omega arith
-sort-fits (SomeOffset Utc) = omega arith
-sort-fits (SomeOffset (Offset true hours minutes)) = omega arith
-sort-fits (SomeOffset (Offset false hours minutes)) = omega arith
-
-season-fits : (s : OptionSeason) → seasonNumber s < 256
-season-fits NoSeason = omega arith
-season-fits Spring = omega arith
-season-fits Summer = omega arith
-season-fits Autumn = omega arith
-season-fits Winter = omega arith
-
-flag-fits : (b : Bool) → flag b < 256
-flag-fits true = omega arith
-flag-fits false = omega arith
-
 -- a Datetime whose numbers are of their types, as a struct
 datetime-fits : (d : Datetime) → DatetimeTyped d → DatetimeFits (datetime d)
 datetime-fits d h =
-    let (m, (n, (hour, (minute, (second, (hours, (minutes, _))))))) = h .bytes-typed in
-    record {
-      year-fits = h .year-typed;
-      bytes-fit = (
-        month-there (d .month),
-        (m, (day-there (d .day), (n, (time-there (d .time), (hour, (minute, (second, (sort-fits (clockOf (d .time) .offset), (hours, (minutes, (season-fits (d .season), tt))))))))))),
-      );
-    }
+    let m = month-flag (d .month) in
+    let n = day-flag (d .day) in
+    let t = time-flag (d .time) in
+    let o = sort-in (clockOf (d .time) .offset) in
+    let s = season-in (d .season) in
+    record { year-fits = h .year-typed; bytes-fit = omega arith }
 
 -- an answer of two structs
 both-fit : {n : ℕ} (u p : Bool) {a b : PlainDatetime} → n < 256 → DatetimeFits a → DatetimeFits b
     → Fits (accepted (record { shape = n; uncertain = flag u; approximate = flag p; first = a; second = b }))
 both-fit u p h f g =
-    record { start-fits = omega arith; end-fits = omega arith; first-fits = f; second-fits = g; bytes-fit = (h, (flag-fits u, (flag-fits p, (omega arith, tt)))) }
+    record { start-fits = omega arith; end-fits = omega arith; first-fits = f; second-fits = g; bytes-fit = (h, (omega (arith, flag-in u), (omega (arith, flag-in p), (omega arith, tt)))) }
 
 accepted-fits : (d : Date) (v : DateValue) → d .value ≡ v → EachEnd DatetimeTyped v → Fits (accepted (date d))
 accepted-fits d (At a) e t = rw e (both-fit (d .uncertain) (d .approximate) (omega arith) (datetime-fits a t) none-fits)
@@ -215,8 +165,8 @@ module _ (p q : PlainDatetime) (h : DatetimeFits p) (k : DatetimeFits q) where
   day-same : dayWord p ≡ dayWord q
       → (p .year ≡ q .year) × ((p .«has_month» ≡ q .«has_month») × ((p .month ≡ q .month) × ((p .«has_day» ≡ q .«has_day») × (p .day ≡ q .day))))
   day-same e =
-      let l = twos-fits (p .year) (h .year-fits) in
-      let m = twos-fits (q .year) (k .year-fits) in
+      let l = twos-in (p .year) (h .year-fits) in
+      let m = twos-in (q .year) (k .year-fits) in
       let y = twos-same (p .year) (q .year) (h .year-fits) (k .year-fits) (omega arith) in
       (y, four-same (p .«has_month») (p .month) (p .«has_day») (p .day) (omega arith) (omega arith) (omega arith))
 

@@ -7,19 +7,15 @@ use Rattle.dates.specs.declared.OptionMonth.{OptionMonth}
 use Rattle.dates.specs.declared.OptionMonth.the-variants.{NoMonth}
 use Rattle.dates.specs.declared.OptionDay.{OptionDay}
 use Rattle.dates.specs.declared.OptionDay.the-variants.{NoDay}
-use Rattle.dates.specs.declared.TimeOffset.the-variants.{Utc, Offset}
-use Rattle.dates.specs.declared.OptionOffset.{OptionOffset}
-use Rattle.dates.specs.declared.OptionOffset.the-variants.{NoOffset, SomeOffset}
 use Rattle.dates.specs.declared.OptionTime.{OptionTime}
 use Rattle.dates.specs.declared.OptionTime.the-variants.{NoTime, SomeTime}
-use Rattle.dates.specs.declared.OptionSeason.{OptionSeason}
-use Rattle.dates.specs.declared.OptionSeason.the-variants.{NoSeason, Spring, Summer, Autumn, Winter}
 use Rattle.dates.specs.declared.Datetime.{Datetime}
 use Rattle.dates.specs.declared.DateValue.{DateValue}
 use Rattle.dates.specs.declared.DateValue.the-variants.{At, After, Before, Between}
 use Rattle.dates.specs.declared.Date.{Date}
 use Rattle.dates.specs.Time.{time}
 use Rattle.dates.specs.Value.{month, day, date}
+use Rattle.codes.specs.Unpacked.{offsetOf, seasonOf}
 use Rattle.knobstream.specs.declared.PlainDatetime.{PlainDatetime}
 use Rattle.knobstream.specs.declared.PlainDate.{PlainDate}
 
@@ -35,21 +31,12 @@ monthOf has n = pick (isSet has) (month n) NoMonth
 unfoldable pub dayOf : ℕ → ℕ → OptionDay
 dayOf has n = pick (isSet has) (day n) NoDay
 
--- the offset: 0 none, 1 UTC, 2 ahead of it, every other number behind it
-unfoldable pub offsetOf : ℕ → ℕ → ℕ → OptionOffset
-offsetOf sort hours minutes =
-    pick (eqb sort 0) NoOffset (pick (eqb sort 1) (SomeOffset Utc) (SomeOffset (Offset (eqb sort 2) hours minutes)))
-
 -- the time, if there is one
 unfoldable pub timeOf : PlainDatetime → OptionTime
 timeOf p =
     pick (isSet (p .«has_time»))
     (SomeTime (time (p .hour) (p .minute) (p .second) (offsetOf (p .offset) (p .«offset_hours») (p .«offset_minutes»))))
     NoTime
-
--- the season: 0 none, 21 spring, 22 summer, 23 autumn, every other number winter
-unfoldable pub seasonOf : ℕ → OptionSeason
-seasonOf n = pick (eqb n 0) NoSeason (pick (eqb n 21) Spring (pick (eqb n 22) Summer (pick (eqb n 23) Autumn Winter)))
 
 -- the Datetime, with a time that is given
 abbrev pub datetimeAt : PlainDatetime → OptionTime → Datetime

@@ -20,6 +20,8 @@ ghost use Rattle.knobstream.specs.Layout as layout;
 ghost use Rattle.knobstream.specs.Layout.{Answered};
 ghost use Rattle.knobstream.specs.Back as back;
 use codes::Words;
+use codes::offset_of;
+use codes::season_of;
 use dates::Date;
 use dates::DateValue;
 use dates::Datetime;
@@ -27,11 +29,8 @@ use dates::Day;
 use dates::Month;
 use dates::OptionDay;
 use dates::OptionMonth;
-use dates::OptionOffset;
-use dates::OptionSeason;
 use dates::OptionTime;
 use dates::Time;
-use dates::TimeOffset;
 use order::Compared;
 use order::Order;
 use puts::Measured;
@@ -202,40 +201,6 @@ fn day_of(has: u8, n: u8) -> OptionDay
         return OptionDay::SomeDay(Day(n));
     }
     OptionDay::NoDay
-}
-
-fn offset_of(sort: u8, hours: u8, minutes: u8) -> OptionOffset
-    ensures { λ r. ⌜ r ≡ back.offsetOf sort hours minutes ⌝ }
-{
-    if sort == 0 {
-        return OptionOffset::NoOffset;
-    }
-    if sort == 1 {
-        return OptionOffset::SomeOffset(TimeOffset::Utc);
-    }
-    OptionOffset::SomeOffset(TimeOffset::Offset {
-        positive: sort == 2,
-        hours,
-        minutes,
-    })
-}
-
-fn season_of(n: u8) -> OptionSeason
-    ensures { λ r. ⌜ r ≡ back.seasonOf n ⌝ }
-{
-    if n == 0 {
-        return OptionSeason::NoSeason;
-    }
-    if n == 21 {
-        return OptionSeason::Spring;
-    }
-    if n == 22 {
-        return OptionSeason::Summer;
-    }
-    if n == 23 {
-        return OptionSeason::Autumn;
-    }
-    OptionSeason::Winter
 }
 
 fn time_of(p: PlainDatetime) -> OptionTime
