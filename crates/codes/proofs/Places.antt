@@ -23,8 +23,13 @@ use Rattle.refusals.proofs.Sums.{sum-fits}
 use Rattle.codes.specs.Words.{wordsOf}
 use Rattle.codes.specs.Points.{twoAt, yearOf, partAt, onSome, pointOf}
 use Rattle.codes.specs.Texts.{isSlash, slashOf}
-use Rattle.codes.specs.Ported.{refusedAt, areWordBytes, noYear, shortYear, isUnknown, yearsOf, monthsOf, daysOf, badParts, isDayForm, badDay, dayOrDays, badRange, ported, movedBy, movedWords, Movable}
+use Rattle.codes.specs.Ported.{refusedAt, areWordBytes, noYear, shortYear, isUnknown, yearsOf, monthsOf, daysOf, badParts, isDayForm, badDay, dayOrDays, badRange, ported, movedBy, movedWords}
 use Rattle.codes.proofs.Laws.{accepted-last, refused-last}
+
+-- what can be moved: a Date, or a refusal that names a place which becomes not too large
+abbrev pub Movable : ReadDate → Type 0
+Movable (Accepted d) = Unit {0}
+Movable (Refused e) = (hasPlace (e .kind) ≡ true) × ((e .place .0 < 0x8000000000000000) × (e .place .1 < 0x8000000000000000))
 
 -- a Date stays, and the place of a refusal moves
 pub moved-is : (start : ℕ) → start < 0x8000000000000000 → (x : ReadDate) → Movable x → movedWords start (wordsOf x) ≡ wordsOf (movedBy start x)

@@ -1,8 +1,7 @@
 -- Texts that the ported reader alone reads, or refuses, at once: no year, a year of two digits, X ranges, and days that no month has. Places count
 -- from the text's start.
 use Prim.Native.Char.{code}
-use Prim.Native.Nat.{ℕ, _+_, _-_, _*_, _<_}
-use mathlib.Core.Path.{_≡_}
+use Prim.Native.Nat.{ℕ, _+_, _-_, _*_}
 use mathlib.Core.Bool.{Bool, true, false, not, _&&_, _||_}
 use mathlib.Core.List.{List, [], _∷_}
 use lib.Dec.{eqb, ltb, leb}
@@ -22,7 +21,7 @@ use Rattle.refusals.specs.declared.Kind.the-variants.{InvalidFormat, MonthOutOf
 use Rattle.refusals.specs.declared.ReadDate.{ReadDate}
 use Rattle.refusals.specs.declared.ReadDate.the-variants.{Accepted, Refused}
 use Rattle.refusals.specs.declared.Refusal.{Refusal}
-use Rattle.refusals.specs.Refusal.{hasPlace, refusal, fileSpan}
+use Rattle.refusals.specs.Refusal.{refusal, fileSpan}
 use Rattle.refusals.specs.Offset.{saturatingAdd}
 use Rattle.points.specs.Point.{windowed}
 use Rattle.codes.specs.declared.Words.{Words}
@@ -130,8 +129,3 @@ movedWords start w =
     pick (ltb (w .last) 4294967296) w
     (words (saturatingAdd (w .start) start) (saturatingAdd (w .end) start) (w .first) (w .«first_time») (w .second) (w .«second_time»)
     (w .last))
-
--- what can be moved so: a Date, or a refusal that names a place which becomes not too large
-abbrev pub Movable : ReadDate → Type 0
-Movable (Accepted d) = Unit {0}
-Movable (Refused e) = (hasPlace (e .kind) ≡ true) × ((e .place .0 < 0x8000000000000000) × (e .place .1 < 0x8000000000000000))
