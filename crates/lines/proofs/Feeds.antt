@@ -78,10 +78,10 @@ one-more s at i first h l f {p} {r} ep er =
     let g : r ≡ first = of-test (ltb p first) (λ t. absurd (let k = ltb-true p first t in omega arith)) (λ t. rw t at er) in
     let n : (at + i) + 1 ≡ at + (i + 1) = omega arith in
     let o = rw n at (on s (at + i) h q) in
-    record
-    { bounded = omega arith;
+    record {
+      bounded = omega arith;
       there = λ u. let y = f .there (omega arith) in (omega (arith, y .0), y .1 ∙ sym g);
-      not-there = λ u. let y = f .not-there (sym g ∙ u) in omega (arith, y, o)
+      not-there = λ u. let y = f .not-there (sym g ∙ u) in omega (arith, y, o);
     })
 
 -- until all were looked at
