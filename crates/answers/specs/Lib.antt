@@ -1,3 +1,4 @@
 pub mod Answer
 pub mod Shapes
 pub mod Coded
+pub mod Lengths

@@ -7,12 +7,13 @@ ghost use Prim.Native.Nat.{_+_, _*_, _/_, _%_, _≤_, _<_};
 ghost use lib.Dec.{ltb};
 ghost use lib.ListN.{length};
 ghost use Rattle.puts.specs.Answers as writing;
-ghost use Rattle.puts.specs.Answers.{Put};
+ghost use Rattle.puts.specs.Answers.{Put, Tried};
 ghost use Rattle.refusals.specs.declared.ReadDate.the-variants.{Accepted};
 ghost use Rattle.puts.specs.declared.Measured.the-variants.{Length};
 ghost use Rattle.answers.specs.Answer as spec;
 ghost use Rattle.answers.specs.Shapes as shapes;
 ghost use Rattle.answers.specs.Coded as coded;
+ghost use Rattle.answers.specs.Lengths as lengths;
 use codes::Words;
 use dates::Date;
 use dates::DateValue;
@@ -548,21 +549,39 @@ pub fn write_level_answer(r: ReadDate, out: &mut [u8]) -> Written
     }
 }
 
-// The line of a Date, by its words, whose written text is given, if there is room for it.
+// The line of a Date, by its words, whose written text is given, if there is room for it: its length, which is handed on in a register, or 0.
+pub fn put_words(w: Words, text: &[u8], out: &mut [u8]) -> usize
+    ensures { λ r. ⌜ Tried (coded.wordsLine w (now (text .entry))) (now (out .entry)) 0 (now (out .exit)) r ⌝ }
+{
+    if w.last % 4 == 3 {
+        if is_short(out.len(), 29, text.len()) {
+            return 0;
+        }
+        return put_two_coded(w, text, out);
+    }
+    if is_short(out.len(), 16, text.len()) {
+        return 0;
+    }
+    put_one_coded(w, text, out)
+}
+
+// What is answered where a line of so many bytes was put; no line is empty, so that 0 says that there was no room.
+pub fn written(n: usize) -> Written
+    ensures { λ r. ⌜ r ≡ lengths.answered n ⌝ }
+{
+    if n == 0 {
+        return no_room();
+    }
+    Written::Done(n)
+}
+
+// The same as an answer.
 pub fn write_words(w: Words, text: &[u8], out: &mut [u8]) -> Written
     ensures { λ r. ⌜ r ≡ writing.answer false (coded.wordsLine w (now (text .entry))) (length (now (out .entry))) ⌝ }
     ensures { λ r. ⌜ now (out .exit) ≡ writing.afterwards false (coded.wordsLine w (now (text .entry))) (now (out .entry)) ⌝ }
 {
-    if w.last % 4 == 3 {
-        if is_short(out.len(), 29, text.len()) {
-            return no_room();
-        }
-        return Written::Done(put_two_coded(w, text, out));
-    }
-    if is_short(out.len(), 16, text.len()) {
-        return no_room();
-    }
-    Written::Done(put_one_coded(w, text, out))
+    let n = put_words(w, text, out);
+    written(n)
 }
 
 // The line of a refusal, by its words, if there is room for it.

@@ -6,3 +6,4 @@ pub mod Plain
 pub mod Inverse
 pub mod Operations
 pub mod Most
+pub mod Lengths

@@ -8,6 +8,8 @@ use lib.ListN.{length, take, drop}
 use Rattle.chars.specs.Pick.{pick}
 use Rattle.refusals.specs.declared.ReadDate.{ReadDate}
 use Rattle.codes.specs.declared.Words.{Words}
+use Rattle.puts.specs.declared.Written.{Written}
+use Rattle.puts.specs.declared.Written.the-variants.{Done, Refused}
 use Rattle.codes.specs.Back.{isPlain}
 use Rattle.reading_laws.specs.Field.{parsed, parsedStrict, parsedLevelOne}
 use Rattle.chunks.specs.Lent.{lent, optional, three}
@@ -116,3 +118,8 @@ unfoldable pub saysPlain : Words → Bool
 saysPlain w =
     ltb (w .«first_time») 72057594037927936
     && (ltb (w .«second_time») 72057594037927936 && isPlain (w .first) (w .second) (w .last))
+
+-- how many bytes an answer has; 0 where there is no room for it
+unfoldable pub lengthIn : Written → ℕ
+lengthIn (Done n) = n
+lengthIn (Refused e) = 0

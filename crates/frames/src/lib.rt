@@ -5,7 +5,7 @@ ghost use Prim.Native.Nat.{_+_, _*_, _≤_, _<_};
 ghost use lib.ListN.{length};
 ghost use Rattle.hexes.specs.Hex.{isHex};
 ghost use Rattle.puts.specs.Answers as writing;
-ghost use Rattle.puts.specs.Answers.{Put};
+ghost use Rattle.puts.specs.Answers.{Put, Tried};
 ghost use Rattle.refusals.specs.declared.ReadDate.{ReadDate};
 ghost use Rattle.codes.specs.Words.{wordsOf};
 ghost use Rattle.codes.specs.Typed.{Typed};
@@ -13,7 +13,7 @@ ghost use Rattle.codes.specs.Back.{isPlain, wordsText};
 ghost use Rattle.answers.specs.Answer.{answerLine};
 ghost use Rattle.answers.specs.Coded.{wordsLine};
 ghost use Rattle.frames.specs.Lists as list;
-ghost use Rattle.frames.specs.Room.{Room, operationOf, readsList, readBy, listBy, readLists, isSingle, textStart, rowLength, Threefold, readsUsual, isUsual, byLevel, saysPlain};
+ghost use Rattle.frames.specs.Room.{Room, operationOf, readsList, readBy, listBy, readLists, isSingle, textStart, rowLength, Threefold, readsUsual, isUsual, byLevel, saysPlain, lengthIn};
 ghost use Rattle.frames.specs.declared.Operation.the-variants.{ThreeFields};
 ghost use Rattle.frames.specs.Frame as spec;
 use codes::NOTHING;
@@ -573,28 +573,36 @@ fn write_said(op: Operation, w: Words, out: &mut [u8]) -> Written
     answers::write_answer(codes::unpack(w), out)
 }
 
+// How many bytes an answer has; 0 where there is no room for it. From here on this number is handed on, which goes in a register.
+fn length_of(w: Written) -> usize
+    ensures { λ r. ⌜ r ≡ lengthIn w ⌝ }
+{
+    match w {
+        Written::Done(n) => n,
+        Written::Refused(_) => 0,
+    }
+}
+
 // The answer to any frame.
-fn answer_any(f: &[u8], out: &mut [u8]) -> Written
+fn answer_any(f: &[u8], out: &mut [u8]) -> usize
     requires { ⌜ length (now f) ≤ 8192 ⌝ }
-    ensures { λ r. ⌜ r ≡ writing.answer false (spec.frameAnswer (now (f .entry))) (length (now (out .entry))) ⌝ }
-    ensures { λ r. ⌜ now (out .exit) ≡ writing.afterwards false (spec.frameAnswer (now (f .entry))) (now (out .entry)) ⌝ }
+    ensures { λ r. ⌜ Tried (spec.frameAnswer (now (f .entry))) (now (out .entry)) 0 (now (out .exit)) r ⌝ }
 {
     let op = asked(byte_at(f, 0));
-    write_said(op, read_frame(f), out)
+    length_of(write_said(op, read_frame(f), out))
 }
 
 // The answer to a frame. A usual text without a time is that of its Date, so that its line can be written at once.
-fn answer_frame(f: &[u8], out: &mut [u8]) -> Written
+fn answer_frame(f: &[u8], out: &mut [u8]) -> usize
     requires { ⌜ length (now f) ≤ 8192 ⌝ }
-    ensures { λ r. ⌜ r ≡ writing.answer false (spec.frameAnswer (now (f .entry))) (length (now (out .entry))) ⌝ }
-    ensures { λ r. ⌜ now (out .exit) ≡ writing.afterwards false (spec.frameAnswer (now (f .entry))) (now (out .entry)) ⌝ }
+    ensures { λ r. ⌜ Tried (spec.frameAnswer (now (f .entry))) (now (out .entry)) 0 (now (out .exit)) r ⌝ }
 {
     if is_usual(f) {
         let text = &f[12..];
         let w = codes::text(text);
         if w.last != NOTHING {
             if w.first_time == 0 {
-                return answers::write_words(w, text, out);
+                return answers::put_words(w, text, out);
             }
         }
     }
@@ -602,14 +610,13 @@ fn answer_frame(f: &[u8], out: &mut [u8]) -> Written
 }
 
 // The answer to a line, with a buffer for its bytes.
-fn answer_line(line: &[u8], frame: &mut [u8], out: &mut [u8]) -> Written
+fn answer_line(line: &[u8], frame: &mut [u8], out: &mut [u8]) -> usize
     requires { ⌜ (isHex (now line) (length (now frame)) ≡ isHex (now line) 8192) × (length (now frame) ≤ 8192) ⌝ }
-    ensures { λ r. ⌜ r ≡ writing.answer false (spec.lineAnswer (now (line .entry))) (length (now (out .entry))) ⌝ }
-    ensures { λ r. ⌜ now (out .exit) ≡ writing.afterwards false (spec.lineAnswer (now (line .entry))) (now (out .entry)) ⌝ }
+    ensures { λ r. ⌜ Tried (spec.lineAnswer (now (line .entry))) (now (out .entry)) 0 (now (out .exit)) r ⌝ }
 {
     match hexes::decode(line, frame) {
         Hex::Bytes(n) => answer_frame(&frame[..n], out),
-        Hex::Bad => answer_long(out),
+        Hex::Bad => length_of(answer_long(out)),
     }
 }
 
@@ -620,10 +627,10 @@ pub fn answer(line: &[u8], out: &mut [u8]) -> Written
 {
     if line.len() <= 512 {
         let mut frame = [0u8; 256];
-        return answer_line(line, &mut frame, out);
+        return answers::written(answer_line(line, &mut frame, out));
     }
     let mut frame = [0u8; 8192];
-    answer_line(line, &mut frame, out)
+    answers::written(answer_line(line, &mut frame, out))
 }
 
 // The answer to a line of more than 16,384 bytes, which need not be at hand: it is no frame, whatever it holds.

@@ -1,5 +1,5 @@
 -- Digits, and lines of them from a place on. Assumes nothing.
-use mathlib.Core.Path.{_≡_, refl, ap, _∙_}
+use mathlib.Core.Path.{_≡_, refl, sym, ap, _∙_}
 use mathlib.Core.Bool.{Bool, true, false, _&&_, false≢true}
 use mathlib.Core.List.{List, [], _∷_, _++_}
 use Prim.Native.Nat.{ℕ, zero, suc, _+_, _-_, _*_, _/_, _%_, _≤_, _<_}
@@ -7,13 +7,13 @@ use native.Mathlib.Omega.{arith}
 use borrow.Author.Tests.{lt-leb, le-leb, leb-true, ne-eqb, eq-eqb}
 use lib.Dec.{leb}
 use lib.ListN.{length, getD, drop, set, length-drop, drop-of-length-le}
-use lib.Seq.{sets, drop-cons, sets-eq}
+use lib.Seq.{sets, drop-cons, drop-drop, sets-eq}
 use Rattle.chars.specs.Pick.{pick}
 use Rattle.chars.proofs.Cases.{of-test}
 use Rattle.hexes.specs.declared.Hex.the-variants.{Bytes, Bad}
 use Rattle.hexes.specs.Hex.{within, isDigit, digitOf, allDigits, bytesOf, half, isHex, decoded, decodedInto}
 
-and-left : (a b : Bool) → a && b ≡ true → a ≡ true
+pub and-left : (a b : Bool) → a && b ≡ true → a ≡ true
 and-left true b e = refl
 and-left false b e = e
 
@@ -51,6 +51,35 @@ next-is line i h = rw (drop-cons line i 0 h)
 pub none-left : (line : List ℕ) (i : ℕ) → length line ≤ i → allDigits (drop i line) ≡ true
 unfolding allDigits
 none-left line i h = rw (drop-of-length-le line {i = i} h)
+
+-- and behind a place, where all are digits
+rest-digits : (l : List ℕ) (k : ℕ) → allDigits l ≡ true → allDigits (drop k l) ≡ true
+unfolding allDigits
+rest-digits l zero e = e
+rest-digits [] (suc k) e = e
+rest-digits (b ∷ l) (suc k) e = rest-digits l k (and-right (isDigit b) _ e)
+
+-- by thirty-two at a time: a block of them
+pub all-looked : (line : List ℕ) (at i : ℕ) (all : Bool) → i ≤ 32 → 32 ≤ i → (all && allDigits (drop (at + i) line)) ≡ allDigits (drop at line)
+    → (all && allDigits (drop (at + 32) line)) ≡ allDigits (drop at line)
+all-looked line at i all h g e = let q : i ≡ 32 = omega arith in rw q at e
+
+-- the last one
+pub last-block : (line : List ℕ) (at : ℕ) → length line ≤ at + 32 → {r : Bool} → (r && allDigits (drop (at + 32) line)) ≡ allDigits (drop at line) → r ≡ allDigits (drop at line)
+last-block line at h {r} e = sym (and-true r) ∙ (rw (none-left line (at + 32) h) at e)
+
+-- it is looked at first
+pub begun : (line : List ℕ) (k : ℕ) (t : Bool) → t ≡ allDigits (drop k line) → (t && allDigits line) ≡ allDigits line
+begun line k true e = refl
+begun line k false e =
+    of-test (allDigits line) (λ q. absurd (false≢true (e ∙ rest-digits line k q))) (λ q. sym q)
+
+-- and nothing else is left
+pub ended : (line : List ℕ) (k i : ℕ) (all : Bool) → k ≤ i → (all ≡ true → allDigits (drop k line) ≡ true) → (all && allDigits (drop i line)) ≡ allDigits line → all ≡ allDigits line
+ended line k i true h f e =
+    let q : k + (i - k) ≡ i = omega arith in
+    sym (rw (drop-drop (i - k) k line, q) at (rest-digits (drop k line) (i - k) (f refl))) ∙ e
+ended line k i false h f e = e
 
 -- each of them is one
 pub each-digit : (line : List ℕ) (i : ℕ) → allDigits line ≡ true → i < length line → isDigit (getD line i 0) ≡ true

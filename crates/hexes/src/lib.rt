@@ -1,8 +1,8 @@
 // Lines of hexadecimal digits, in either case, as bytes.
 ghost use mathlib.Core.Path.{_≡_};
-ghost use mathlib.Core.Bool.{true};
+ghost use mathlib.Core.Bool.{true, _&&_};
 ghost use Prim.Native.Nat.{_+_, _≤_, _<_};
-ghost use lib.ListN.{length};
+ghost use lib.ListN.{length, drop};
 ghost use lib.Seq.{sets};
 ghost use Rattle.hexes.specs.Hex as spec;
 
@@ -27,8 +27,8 @@ fn digit(b: u8) -> u8
     b % 16 + 9 * (b / 64)
 }
 
-// Whether every byte is a digit.
-fn all_digits(line: &[u8]) -> bool
+// Whether every byte of a short line is a digit.
+fn few_digits(line: &[u8]) -> bool
     ensures { λ r. ⌜ r ≡ spec.allDigits (now (line .entry)) ⌝ }
 {
     let mut i = 0;
@@ -36,6 +36,37 @@ fn all_digits(line: &[u8]) -> bool
     while i < line.len() {
         all = all & is_digit(line[i]);
         i += 1;
+    }
+    all
+}
+
+// Whether thirty-two bytes are.
+fn are_digits(line: &[u8], at: usize) -> bool
+    requires { ⌜ at + 32 ≤ length (now line) ⌝ }
+    ensures { λ r. ⌜ (r && spec.allDigits (drop (at + 32) (now (line .entry)))) ≡ spec.allDigits (drop at (now (line .entry))) ⌝ }
+{
+    let mut i = 0;
+    let mut all = true;
+    while i < 32 {
+        all = all & is_digit(line[at + i]);
+        i += 1;
+    }
+    all
+}
+
+// Whether every byte is a digit. The last thirty-two are looked at first, and perhaps again: so none is left over.
+fn all_digits(line: &[u8]) -> bool
+    ensures { λ r. ⌜ r ≡ spec.allDigits (now (line .entry)) ⌝ }
+{
+    let n = line.len();
+    if n < 32 {
+        return few_digits(line);
+    }
+    let mut i = 0;
+    let mut all = are_digits(line, n - 32);
+    while 32 < n - i {
+        all = all & are_digits(line, i);
+        i += 32;
     }
     all
 }

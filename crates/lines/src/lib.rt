@@ -2,9 +2,12 @@
 ghost use mathlib.Core.Path.{_≡_};
 ghost use mathlib.Core.Bool.{false};
 ghost use Prim.Native.Nat.{_+_, _≤_};
+ghost use lib.Dec.{eqb, ltb};
 ghost use lib.ListN.{length, drop};
+ghost use Rattle.chars.specs.Pick.{pick};
 ghost use Rattle.puts.specs.Answers as writing;
 ghost use Rattle.lines.specs.Lines as spec;
+ghost use Rattle.lines.specs.Blocks.{Found};
 ghost use Rattle.lines.specs.Steps.{Replied, nextAnswer, takenAt, Stepped, Finished};
 ghost use Rattle.frames.specs.Frame.{lineAnswer};
 ghost use Rattle.lines.specs.Frames.{longAnswer};
@@ -24,31 +27,53 @@ pub struct Taken {
 
 // ---- the next line feed
 
-// Whether a line feed stands among sixteen bytes. No test here decides where to go on: the compiler then takes them all at once.
-fn has_feed(s: &[u8], at: usize) -> bool
-    requires { ⌜ at + 16 ≤ length (now s) ⌝ }
-    ensures { λ r. ⌜ (r ≡ false → spec.lineLength (drop at (now (s .entry))) ≡ 16 + spec.lineLength (drop (at + 16) (now (s .entry)))) ⌝ }
+// The place of a byte in a block of sixty-four, if it is a line feed; else 64.
+fn feed_place(b: u8, i: u8) -> u8
+    ensures { λ r. ⌜ r ≡ pick (eqb b 10) i 64 ⌝ }
 {
-    let mut any = false;
-    let mut i = 0;
-    while i < 16 {
-        any = any | (s[at + i] == 10);
-        i += 1;
+    if b == 10 {
+        return i;
     }
-    any
+    64
 }
 
-// A place with no line feed before it, by sixteen bytes at a time.
+// The smaller of two.
+fn sooner(a: u8, b: u8) -> u8
+    ensures { λ r. ⌜ r ≡ pick (ltb a b) a b ⌝ }
+{
+    if a < b {
+        return a;
+    }
+    b
+}
+
+// The place of the first line feed among sixty-four bytes; 64 if there is none. No byte decides where the loop goes on: the compiler then takes
+// many at once.
+fn feed_in(s: &[u8], at: usize) -> usize
+    requires { ⌜ at + 64 ≤ length (now s) ⌝ }
+    ensures { λ r. ⌜ Found (now (s .entry)) at 64 r ⌝ }
+{
+    let mut first: u8 = 64;
+    let mut i: u8 = 0;
+    while i < 64 {
+        first = sooner(feed_place(s[at + i as usize], i), first);
+        i += 1;
+    }
+    first as usize
+}
+
+// A place with no line feed before it, by sixty-four bytes at a time.
 fn skip_blocks(s: &[u8], at: usize) -> usize
     requires { ⌜ at ≤ length (now s) ⌝ }
     ensures { λ r. ⌜ (r + spec.lineLength (drop r (now (s .entry))) ≡ at + spec.lineLength (drop at (now (s .entry)))) × (r ≤ length (now (s .entry))) ⌝ }
 {
     let mut i = at;
-    while 16 <= s.len() - i {
-        if has_feed(s, i) {
-            return i;
+    while 64 <= s.len() - i {
+        let k = feed_in(s, i);
+        if k < 64 {
+            return i + k;
         }
-        i += 16;
+        i += 64;
     }
     i
 }

@@ -50,15 +50,11 @@ use refusals::ReadDate;
 use scanner::Cursor;
 use strict::Matched;
 
-// The formatted text of a date field. One of several chunks may be usual, too.
+// The formatted text of a date field.
 fn text_words(s: &[u8], span: FileSpan) -> Words
     ensures { λ r. ⌜ r ≡ wordsOf (parseText span (now (s .entry))) ⌝ }
     ensures { λ r. ⌜ Typed (parseText span (now (s .entry))) ⌝ }
 {
-    let w = codes::text(s);
-    if w.last != NOTHING {
-        return w;
-    }
     codes::pack(datefield::parse_text(s, span))
 }
 
@@ -144,6 +140,14 @@ fn parse_by(level: bool, bytes: &[u8], table: &[u64]) -> ReadDate
     parse_by_in(level, bytes, table, &mut buf)
 }
 
+// The same by the strict one, in words.
+fn any_strict(bytes: &[u8], table: &[u64]) -> Words
+    ensures { λ r. ⌜ r ≡ wordsOf (field.parsedStrict (now (bytes .entry)) (now (table .entry))) ⌝ }
+    ensures { λ r. ⌜ Typed (field.parsedStrict (now (bytes .entry)) (now (table .entry))) ⌝ }
+{
+    codes::pack(parse_by(false, bytes, table))
+}
+
 // ---- at once
 
 // Whether a list is one Normal chunk with all of the bytes.
@@ -192,19 +196,6 @@ fn is_joined(bytes: &[u8], table: &[u64]) -> bool
         }
     }
     false
-}
-
-// What is said at once of the text of such a list, or of one Normal chunk.
-fn at_once(bytes: &[u8], table: &[u64]) -> Words
-    ensures { λ r. ⌜ r ≡ wordsOr (lists.listWritten (now (bytes .entry)) (now (table .entry))) ⌝ }
-{
-    if is_one_normal(bytes, table) {
-        return codes::text(bytes);
-    }
-    if is_joined(bytes, table) {
-        return codes::text(bytes);
-    }
-    codes::no_words()
 }
 
 // What the ported reader alone says at once of a text, in a list whose span starts at a place.
@@ -268,6 +259,34 @@ fn joined_words(bytes: &[u8], table: &[u64]) -> Words
     any_words(bytes, table)
 }
 
+// A date field that is one Normal chunk, by the strict grammar.
+fn normal_strict(bytes: &[u8], table: &[u64]) -> Words
+    requires { ⌜ lists.oneNormal (now bytes) (now table) ≡ true ⌝ }
+    ensures { λ r. ⌜ r ≡ wordsOf (field.parsedStrict (now (bytes .entry)) (now (table .entry))) ⌝ }
+    ensures { λ r. ⌜ Typed (field.parsedStrict (now (bytes .entry)) (now (table .entry))) ⌝ }
+{
+    let w = codes::text(bytes);
+    if w.last != NOTHING {
+        return again(w);
+    }
+    any_strict(bytes, table)
+}
+
+// Any other, by the strict grammar.
+fn joined_strict(bytes: &[u8], table: &[u64]) -> Words
+    ensures { λ r. ⌜ r ≡ wordsOf (field.parsedStrict (now (bytes .entry)) (now (table .entry))) ⌝ }
+    ensures { λ r. ⌜ Typed (field.parsedStrict (now (bytes .entry)) (now (table .entry))) ⌝ }
+{
+    if is_joined(bytes, table) {
+        let w = codes::text(bytes);
+        if w.last != NOTHING {
+            return again(w);
+        }
+        return any_strict(bytes, table);
+    }
+    any_strict(bytes, table)
+}
+
 // ---- the calls for a date field
 
 // A date field, read as the Rust reads it.
@@ -286,11 +305,10 @@ pub fn parse_strict_words(bytes: &[u8], table: &[u64]) -> Words
     ensures { λ r. ⌜ r ≡ wordsOf (field.parsedStrict (now (bytes .entry)) (now (table .entry))) ⌝ }
     ensures { λ r. ⌜ Typed (field.parsedStrict (now (bytes .entry)) (now (table .entry))) ⌝ }
 {
-    let w = at_once(bytes, table);
-    if w.last != NOTHING {
-        return w;
+    if is_one_normal(bytes, table) {
+        return normal_strict(bytes, table);
     }
-    codes::pack(parse_by(false, bytes, table))
+    joined_strict(bytes, table)
 }
 
 // A date field by the grammar of level one.

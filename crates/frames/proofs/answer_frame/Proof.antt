@@ -16,7 +16,7 @@ part-text-start c =
 returns : tie.Need-returns
 returns c =
     let e = said-line (c .before .before .before .before .before .before .before .before .before .before .before .before .before .before .args .f .now) (sym (c .before .before .before .before .before .before .before .before .before .before .before .is-usual .ensures) ∙ c .before .before .before .before .before .before .before .before .before .before .if1 .taken) (c .before .before .before .before .before .before .before .before .text2 .ensures) (c .before .before .before .before .before .before .if2 .taken) (c .before .before .before .before .if3 .taken) in
-    rw e at (c .before .before .write-words .ensures)
+    rw e at (c .before .before .put-words .ensures)
 
 pub answer-frame-spec : {M : Type 1} → statement M
 answer-frame-spec =

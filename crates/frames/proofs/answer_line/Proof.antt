@@ -1,10 +1,9 @@
-use mathlib.Core.Path.{sym, ap, _∙_}
-use mathlib.Core.Bool.{false}
-use mathlib.Core.List.{List}
-use Prim.Native.Nat.{ℕ}
-use lib.ListN.{length}
+use mathlib.Core.Path.{sym}
 use lib.Seq.{length-take-le}
-use Rattle.puts.specs.Answers.{answer, afterwards}
+use Rattle.puts.proofs.Puts.{tried-as}
+use Rattle.answers.specs.Answer.{answerLine}
+use Rattle.frames.specs.Frame.{badFrame}
+use Rattle.frames.proofs.Lengths.{answer-tried}
 use Rattle.frames.proofs.Parts.{bytes-in, frame-small, line-is, line-bad}
 use borrow.Author.Needs.{needs}
 use Rattle.frames.proofs.answer_line.Statement.{statement}
@@ -33,16 +32,15 @@ returns c =
     let a = c .before .before .before .before .before .before .before .before .before .before .before .before .before .before .before in
     let d = c .before .before .before .before .before .before .before .before .before .before .decode .ensures in
     let e = line-is (a .args .line .now) (a .args .frame .now) (a .pre .0) (a .pre .1) (d .0) (d .1) (c .before .before .before .before .before .before .n .given .1) in
-    let q = c .before .before .answer-frame .ensures in
-    (q .0 ∙ ap (λ (x : List ℕ). answer false x (length (a .args .out .now))) e, q .1 ∙ ap (λ (x : List ℕ). afterwards false x (a .args .out .now)) e)
+    tried-as (sym e) (c .before .before .answer-frame .ensures)
 
 returns-2 : tie.Need-returns-2
 returns-2 c =
-    let a = c .before .before .before .before .before .before .before .before .before .before .before .before .before in
-    let d = c .before .before .before .before .before .before .before .before .decode .ensures in
-    let e = line-bad (a .args .line .now) (a .args .frame .now) (a .pre .0) (a .pre .1) (d .0) (d .1) (c .before .before .before .before .enum-told .given .1) in
-    let q = c .before .before .answer-long .ensures in
-    (q .0 ∙ ap (λ (x : List ℕ). answer false x (length (a .args .out .now))) e, q .1 ∙ ap (λ (x : List ℕ). afterwards false x (a .args .out .now)) e)
+    let a = c .before .before .before .before .before .before .before .before .before .before .before .before .before .before in
+    let d = c .before .before .before .before .before .before .before .before .before .decode .ensures in
+    let e = line-bad (a .args .line .now) (a .args .frame .now) (a .pre .0) (a .pre .1) (d .0) (d .1) (c .before .before .before .before .before .enum-told .given .1) in
+    let q = c .before .before .before .answer-long .ensures in
+    tried-as (sym e) (answer-tried (answerLine badFrame) (a .args .out .now) (q .0) (q .1) (c .length-of .ensures))
 
 pub answer-line-spec : {M : Type 1} → statement M
 answer-line-spec =
@@ -54,6 +52,7 @@ answer-line-spec =
     slice-aggregate-answer-frame
     answer-frame-requires
     (λ c. search needs)
+    (λ c κs. search needs)
     (λ c κs. search needs)
     (λ c. search needs)
     (λ c. search needs)

@@ -3,6 +3,7 @@ use Prim.Native.Nat.{_+_, _≤_, _-_}
 use native.Mathlib.Omega.{arith}
 use lib.ListN.{length, drop}
 use Rattle.lines.specs.Lines.{lineLength}
+use Rattle.lines.proofs.Feeds.{found-here}
 use Rattle.lines.proofs.skip_blocks.Statement.{statement}
 use Rattle.lines.proofs.skip_blocks.Tie as tie
 
@@ -15,8 +16,20 @@ abbrev μ-loop : tie.MeasureT-loop
 loop-holds : tie.Need-loop-holds Inv-loop μ-loop
 loop-holds c = (refl, omega arith)
 
+returns : tie.Need-returns Inv-loop μ-loop
+returns c =
+    let b = c .before .before .before in
+    let s = b .before .before .args .s .now in
+    let y = c .before .feed-in .ensures .there (c .if1 .taken) .1 in
+    let z = found-here s (b .loop .i) (c .before .feed-in .result) y in
+    (omega (arith, y, z, b .loop .inv .0), omega arith)
+
 loop-again : tie.Need-loop-again Inv-loop μ-loop
-loop-again c = (omega (arith, c .before .has-feed .ensures (c .if1 .left)), omega arith)
+loop-again c =
+    let b = c .before .before .before in
+    let f = c .before .feed-in .ensures in
+    let y = f .not-there (omega (arith, f .bounded, c .if1 .left)) in
+    (omega (arith, y, b .loop .inv .0), omega arith)
 
 pub skip-blocks-spec : {M : Type 1} → statement M
 skip-blocks-spec =
@@ -28,6 +41,7 @@ skip-blocks-spec =
     (λ c. omega arith)
     (λ c κs. omega arith)
     (λ c. omega arith)
+    returns
     (λ c. omega arith)
     (λ c. omega arith)
     loop-again

@@ -6,7 +6,8 @@ use Rattle.frames.specs.Frame.{lineAnswer}
 use native.Mathlib.Omega.{arith}
 use lib.ListN.{length}
 use borrow.Author.Needs.{needs}
-use Rattle.lines.proofs.Ways.{frames-long, frames-some}
+use Rattle.frames.proofs.Lengths.{frames-some}
+use Rattle.lines.proofs.Ways.{frames-long}
 use Rattle.lines.proofs.Moves.{Sofar, begun, end-in, no-feed, next, stopped, ended}
 use Rattle.lines.proofs.step.Statement.{statement}
 use Rattle.lines.proofs.step.Tie as tie
