@@ -1,0 +1,343 @@
+// What is said of the dates of a row of an import file: full, read otherwise, or refused. The text of a cell is read as one Normal chunk.
+ghost use mathlib.Core.Path.{_≡_};
+ghost use Rattle.codes.specs.Words.{wordsOf};
+ghost use Rattle.codes.specs.Typed.{Typed};
+ghost use Rattle.datefield.specs.Text as text;
+ghost use Rattle.numbers.specs.Number.{behindSign};
+ghost use Rattle.reading_laws.specs.Field.{parsed};
+ghost use Rattle.reading_laws.specs.Fields.{threeFields};
+ghost use Rattle.refusals.specs.declared.ReadDate.{ReadDate};
+ghost use Rattle.verdicts.specs.Dates as dates_;
+ghost use Rattle.verdicts.specs.Windows as windows;
+ghost use Rattle.verdicts.specs.Fields as six;
+use codes::Words;
+use dates::Date;
+use numbers::Digits;
+use numbers::ReadInt;
+use refusals::ReadDate;
+use refusals::Refusal;
+use scanner::Class;
+use scanner::Cursor;
+use scanner::EatIf;
+
+// What is said of a date.
+pub enum Verdict {
+    // There is none.
+    NoDate,
+    // It is as it should be.
+    Full,
+    // The strict reader refuses it, and the ported one reads this.
+    NotStrict(Date),
+    // A year has fewer than four digits and no era, and this is read.
+    ShortYear(Date),
+    // A part is given that is not read.
+    Unread,
+    // It is not read.
+    Refused(Refusal),
+}
+
+// ---- a date in one cell
+
+// What the ported reader says of a cell that is not strict.
+fn read_otherwise(cell: &[u8], table: &[u64]) -> Verdict
+    ensures { λ r. ⌜ r ≡ dates_.otherwise (parsed (now (cell .entry)) (now (table .entry))) ⌝ }
+{
+    match reader::parse(cell, table) {
+        ReadDate::Accepted(d) => Verdict::NotStrict(d),
+        ReadDate::Refused(e) => Verdict::Refused(e),
+    }
+}
+
+// A date in one cell. Of a strict one no Date is made: that it is accepted is seen from the words.
+pub fn date_verdict(cell: &[u8]) -> Verdict
+    ensures { λ r. ⌜ r ≡ dates_.dateVerdict (now (cell .entry)) ⌝ }
+{
+    let n = cell.len() as u64;
+    if n == 0 {
+        return Verdict::NoDate;
+    }
+    let table = [0, n, 0, n];
+    let w = reader::parse_strict_words(cell, &table);
+    if w.last < 4294967296 {
+        return Verdict::Full;
+    }
+    read_otherwise(cell, &table)
+}
+
+// ---- a year of two digits
+
+// The place of the first byte that is b, or the end.
+fn find(s: &[u8], b: u8) -> usize
+    ensures { λ r. ⌜ r ≡ text.firstOf b (now (s .entry)) ⌝ }
+{
+    let mut i = 0;
+    while i < s.len() {
+        if s[i] == b {
+            return i;
+        }
+        i = i + 1;
+    }
+    i
+}
+
+// Whether there is an X or an x.
+fn has_x(s: &[u8]) -> bool
+    ensures { λ r. ⌜ r ≡ windows.hasX (now (s .entry)) ⌝ }
+{
+    if find(s, b'X') < s.len() {
+        return true;
+    }
+    find(s, b'x') < s.len()
+}
+
+// Whether a text begins with a number of two bytes.
+fn begins_two(s: &[u8]) -> bool
+    ensures { λ r. ⌜ r ≡ windows.beginsTwo (now (s .entry)) ⌝ }
+{
+    match numbers::parse_int(s, Cursor(0), Digits::Two) {
+        ReadInt::Int { value: _, next: _ } => true,
+        ReadInt::NoInt { next: _ } => false,
+        ReadInt::IntPanics => false,
+    }
+}
+
+// Whether a year of two digits was put into the window of a hundred years.
+pub fn is_windowed(cell: &[u8]) -> bool
+    ensures { λ r. ⌜ r ≡ windows.isWindowed (now (cell .entry)) ⌝ }
+{
+    if has_x(cell) {
+        return false;
+    }
+    let slash = find(cell, b'/');
+    if begins_two(&cell[..slash]) {
+        return true;
+    }
+    if slash < cell.len() {
+        return begins_two(&cell[slash + 1..]);
+    }
+    false
+}
+
+// ---- a date in six cells
+
+// Whether one of three cells has a text.
+fn some_given(year: &[u8], month: &[u8], day: &[u8]) -> bool
+    ensures { λ r. ⌜ r ≡ six.someGiven (six.cells (now (year .entry)) (now (month .entry)) (now (day .entry))) ⌝ }
+{
+    0 < year.len() || (0 < month.len() || 0 < day.len())
+}
+
+// Whether a text is white space alone, or nothing.
+fn is_blank(s: &[u8]) -> bool
+    ensures { λ r. ⌜ r ≡ text.isBlank (now (s .entry)) ⌝ }
+{
+    let c = scanner::eat_whitespace(s, Cursor(0));
+    s.len() <= c.0
+}
+
+// Whether there is a day without a month.
+fn day_alone(month: &[u8], day: &[u8]) -> bool
+    ensures { λ r. ⌜ r ≡ six.dayAlone (now (month .entry)) (now (day .entry)) ⌝ }
+{
+    if 0 < month.len() {
+        return false;
+    }
+    0 < day.len()
+}
+
+// Whether an end has a text, and a year that is blank.
+fn behind_blank(year: &[u8], month: &[u8], day: &[u8]) -> bool
+    ensures { λ r. ⌜ r ≡ six.behindBlank (six.cells (now (year .entry)) (now (month .entry)) (now (day .entry))) ⌝ }
+{
+    if some_given(year, month, day) {
+        return is_blank(year);
+    }
+    false
+}
+
+// Past a sign, if one stands there.
+fn behind_sign(s: &[u8], c: Cursor) -> Cursor
+    ensures { λ r. ⌜ r .0 ≡ behindSign (now (s .entry)) (c .0) ⌝ }
+{
+    match scanner::eat_if(s, c, Class::Sign) {
+        EatIf::Past(next) => next,
+        EatIf::Kept => c,
+    }
+}
+
+// Whether a text is a year of fewer than four digits and no era.
+fn few_digits(s: &[u8]) -> bool
+    ensures { λ r. ⌜ r ≡ six.fewDigits (now (s .entry)) ⌝ }
+{
+    let a = behind_sign(s, scanner::eat_whitespace(s, Cursor(0)));
+    let e = scanner::eat_while(s, a, Class::AsciiDigit);
+    if a.0 < e.0 {
+        if e.0 - a.0 < 4 {
+            let c = scanner::eat_whitespace(s, e);
+            return scanner::done(s, c);
+        }
+    }
+    false
+}
+
+// Whether the year or the end year is such a one.
+fn either_few(year: &[u8], end_year: &[u8]) -> bool
+    ensures { λ r. ⌜ r ≡ six.eitherFew (now (year .entry)) (now («end_year» .entry)) ⌝ }
+{
+    few_digits(year) || few_digits(end_year)
+}
+
+// What was read is full unless a year is short.
+fn full_unless(short: bool, r: ReadDate) -> Verdict
+    ensures { λ v. ⌜ v ≡ six.fullUnless short r ⌝ }
+{
+    match r {
+        ReadDate::Accepted(d) => {
+            if short {
+                return Verdict::ShortYear(d);
+            }
+            Verdict::Full
+        }
+        ReadDate::Refused(e) => Verdict::Refused(e),
+    }
+}
+
+// The same from words. Of a full date no Date is made.
+fn words_verdict(short: bool, w: Words) -> Verdict
+    ensures { λ v. ⌜ ((x : ReadDate) → w ≡ wordsOf x → Typed x → v ≡ six.fullUnless short x) ⌝ }
+{
+    if w.last < 4294967296 {
+        if short {
+            return full_unless(short, codes::unpack(w));
+        }
+        return Verdict::Full;
+    }
+    full_unless(short, codes::unpack(w))
+}
+
+// Cells of a start without an end year.
+fn start_verdict(short: bool, year: &[u8], month: &[u8], day: &[u8]) -> Verdict
+    ensures { λ v. ⌜ v ≡ six.fullUnless short (threeFields (six.fieldsOf (six.cells (now (year .entry)) (now (month .entry)) (now (day .entry))))) ⌝ }
+{
+    let y = year.len() as u64;
+    let m = month.len() as u64;
+    let d = day.len() as u64;
+    let year_table = [0, y, 0, y];
+    let month_table = [0, m, 0, m];
+    let day_table = [0, d, 0, d];
+    let w = reader::three_words(
+        year,
+        &year_table,
+        0 < m,
+        month,
+        &month_table,
+        0 < d,
+        day,
+        &day_table,
+    );
+    words_verdict(short, w)
+}
+
+// Cells of a start and of an end, as the reader of six fields reads them.
+fn read_six(
+    year: &[u8],
+    month: &[u8],
+    day: &[u8],
+    end_year: &[u8],
+    end_month: &[u8],
+    end_day: &[u8],
+) -> ReadDate
+    ensures { λ r. ⌜ r ≡ six.sixRead (six.cells (now (year .entry)) (now (month .entry)) (now (day .entry))) (six.cells (now («end_year» .entry)) (now («end_month» .entry)) (now («end_day» .entry))) ⌝ }
+{
+    let y = year.len() as u64;
+    let m = month.len() as u64;
+    let d = day.len() as u64;
+    let ey = end_year.len() as u64;
+    let em = end_month.len() as u64;
+    let ed = end_day.len() as u64;
+    sixfields::parse_six_fields(
+        year,
+        &[0, y, 0, y],
+        0 < m,
+        month,
+        &[0, m, 0, m],
+        0 < d,
+        day,
+        &[0, d, 0, d],
+        0 < ey,
+        end_year,
+        &[0, ey, 0, ey],
+        0 < em,
+        end_month,
+        &[0, em, 0, em],
+        0 < ed,
+        end_day,
+        &[0, ed, 0, ed],
+    )
+}
+
+// Whether a cell has a text that the reader of six fields would not look at.
+fn is_unread(month: &[u8], day: &[u8], end_year: &[u8], end_month: &[u8], end_day: &[u8]) -> bool
+    ensures { λ r. ⌜ r ≡ six.isUnread (now (month .entry)) (now (day .entry)) (six.cells (now («end_year» .entry)) (now («end_month» .entry)) (now («end_day» .entry))) ⌝ }
+{
+    day_alone(month, day)
+        || (behind_blank(end_year, end_month, end_day) || day_alone(end_month, end_day))
+}
+
+// What the reader of six fields says. Without an end year it is what the reader of three fields says.
+fn read_verdict(
+    year: &[u8],
+    month: &[u8],
+    day: &[u8],
+    end_year: &[u8],
+    end_month: &[u8],
+    end_day: &[u8],
+) -> Verdict
+    ensures { λ r. ⌜ r ≡ six.fullUnless (six.eitherFew (now (year .entry)) (now («end_year» .entry))) (six.sixRead (six.cells (now (year .entry)) (now (month .entry)) (now (day .entry))) (six.cells (now («end_year» .entry)) (now («end_month» .entry)) (now («end_day» .entry)))) ⌝ }
+{
+    let short = either_few(year, end_year);
+    if end_year.len() == 0 {
+        return start_verdict(short, year, month, day);
+    }
+    full_unless(
+        short,
+        read_six(year, month, day, end_year, end_month, end_day),
+    )
+}
+
+// Six cells of which one has a text.
+fn given_verdict(
+    year: &[u8],
+    month: &[u8],
+    day: &[u8],
+    end_year: &[u8],
+    end_month: &[u8],
+    end_day: &[u8],
+) -> Verdict
+    ensures { λ r. ⌜ r ≡ six.givenVerdict (six.cells (now (year .entry)) (now (month .entry)) (now (day .entry))) (six.cells (now («end_year» .entry)) (now («end_month» .entry)) (now («end_day» .entry))) ⌝ }
+{
+    if is_unread(month, day, end_year, end_month, end_day) {
+        return Verdict::Unread;
+    }
+    read_verdict(year, month, day, end_year, end_month, end_day)
+}
+
+// A date in six cells: year, month and day of a start and of an end.
+pub fn six_verdict(
+    year: &[u8],
+    month: &[u8],
+    day: &[u8],
+    end_year: &[u8],
+    end_month: &[u8],
+    end_day: &[u8],
+) -> Verdict
+    ensures { λ r. ⌜ r ≡ six.sixVerdict (six.cells (now (year .entry)) (now (month .entry)) (now (day .entry))) (six.cells (now («end_year» .entry)) (now («end_month» .entry)) (now («end_day» .entry))) ⌝ }
+{
+    if some_given(year, month, day) {
+        return given_verdict(year, month, day, end_year, end_month, end_day);
+    }
+    if some_given(end_year, end_month, end_day) {
+        return given_verdict(year, month, day, end_year, end_month, end_day);
+    }
+    Verdict::NoDate
+}
