@@ -1,0 +1,6 @@
+pub mod Runs
+pub mod Texts
+pub mod Bounds
+pub mod Short
+pub mod Shape
+pub mod Examples
