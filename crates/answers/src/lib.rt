@@ -164,14 +164,14 @@ fn glyph(d: u8) -> u8
 }
 
 // The high digit of a byte.
-fn high(b: u8) -> u8
+pub fn high(b: u8) -> u8
     ensures { λ r. ⌜ r ≡ spec.glyph (b / 16) ⌝ }
 {
     glyph(b / 16)
 }
 
 // The digit behind it.
-fn low(b: u8) -> u8
+pub fn low(b: u8) -> u8
     ensures { λ r. ⌜ r ≡ spec.glyph (b % 16) ⌝ }
 {
     glyph(b % 16)

@@ -72,7 +72,8 @@ fn find(s: &[u8], b: u8) -> usize
     i
 }
 
-fn is_blank(s: &[u8]) -> bool
+// White space alone, or nothing.
+pub fn is_blank(s: &[u8]) -> bool
     ensures { λ r. ⌜ r ≡ text.isBlank (now (s .entry)) ⌝ }
 {
     let c = scanner::eat_whitespace(s, Cursor(0));

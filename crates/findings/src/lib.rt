@@ -7,7 +7,6 @@ ghost use mathlib.Core.List.{[], _∷_, _++_};
 ghost use Prim.Native.Nat.{_+_, _≤_, _<_};
 ghost use lib.ListN.{length};
 ghost use Rattle.chars.specs.Ascii.{ascii};
-ghost use Rattle.answers.specs.Answer as answers_;
 ghost use Rattle.puts.specs.Answers as writing;
 ghost use Rattle.puts.specs.Numbers as numbers;
 ghost use Rattle.findings.specs.Escapes as escapes;
@@ -130,17 +129,6 @@ fn put_placed(t: &[u8], n: u64, out: &mut [u8], at: usize) -> usize
 
 // ---- bytes of the file
 
-// A hexadecimal digit.
-fn glyph(d: u8) -> u8
-    requires { ⌜ d < 16 ⌝ }
-    ensures { λ r. ⌜ r ≡ answers_.glyph d ⌝ }
-{
-    if d < 10 {
-        return b'0' + d;
-    }
-    b'a' + (d - 10)
-}
-
 // Whether a byte is shown by its digits.
 fn is_hidden(b: u8) -> bool
     ensures { λ r. ⌜ r ≡ escapes.isHidden b ⌝ }
@@ -166,8 +154,8 @@ fn put_shown(b: u8, out: &mut [u8], at: usize) -> usize
     ensures { λ r. ⌜ Ran (escapes.shownByte b) (now (out .entry)) at (now (out .exit)) r ⌝ }
 {
     if is_hidden(b) {
-        let high = glyph(b / 16);
-        let low = glyph(b % 16);
+        let high = answers::high(b);
+        let low = answers::low(b);
         return put_piece(&[b'\\', b'x', high, low], out, at);
     }
     if is_marked(b) {

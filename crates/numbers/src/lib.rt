@@ -72,7 +72,7 @@ pub fn parse_unsigned_int(s: &[u8], c: Cursor, digits: Digits) -> Parsed
 }
 
 // Past a plus or a minus, if one stands there.
-fn eat_sign(s: &[u8], c: Cursor) -> Cursor
+pub fn eat_sign(s: &[u8], c: Cursor) -> Cursor
     ensures { λ r. ⌜ r .0 ≡ spec.behindSign (now (s .entry)) (c .0) ⌝ }
 {
     match scanner::eat_if(s, c, Class::Sign) {

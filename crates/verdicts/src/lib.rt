@@ -3,7 +3,6 @@ ghost use mathlib.Core.Path.{_≡_};
 ghost use Rattle.codes.specs.Words.{wordsOf};
 ghost use Rattle.codes.specs.Typed.{Typed};
 ghost use Rattle.datefield.specs.Text as text;
-ghost use Rattle.numbers.specs.Number.{behindSign};
 ghost use Rattle.reading_laws.specs.Field.{parsed};
 ghost use Rattle.reading_laws.specs.Fields.{threeFields};
 ghost use Rattle.refusals.specs.declared.ReadDate.{ReadDate};
@@ -18,7 +17,6 @@ use refusals::ReadDate;
 use refusals::Refusal;
 use scanner::Class;
 use scanner::Cursor;
-use scanner::EatIf;
 
 // What is said of a date.
 pub enum Verdict {
@@ -127,14 +125,6 @@ fn some_given(year: &[u8], month: &[u8], day: &[u8]) -> bool
     0 < year.len() || (0 < month.len() || 0 < day.len())
 }
 
-// Whether a text is white space alone, or nothing.
-fn is_blank(s: &[u8]) -> bool
-    ensures { λ r. ⌜ r ≡ text.isBlank (now (s .entry)) ⌝ }
-{
-    let c = scanner::eat_whitespace(s, Cursor(0));
-    s.len() <= c.0
-}
-
 // Whether there is a day without a month.
 fn day_alone(month: &[u8], day: &[u8]) -> bool
     ensures { λ r. ⌜ r ≡ six.dayAlone (now (month .entry)) (now (day .entry)) ⌝ }
@@ -150,26 +140,16 @@ fn behind_blank(year: &[u8], month: &[u8], day: &[u8]) -> bool
     ensures { λ r. ⌜ r ≡ six.behindBlank (six.cells (now (year .entry)) (now (month .entry)) (now (day .entry))) ⌝ }
 {
     if some_given(year, month, day) {
-        return is_blank(year);
+        return datefield::is_blank(year);
     }
     false
-}
-
-// Past a sign, if one stands there.
-fn behind_sign(s: &[u8], c: Cursor) -> Cursor
-    ensures { λ r. ⌜ r .0 ≡ behindSign (now (s .entry)) (c .0) ⌝ }
-{
-    match scanner::eat_if(s, c, Class::Sign) {
-        EatIf::Past(next) => next,
-        EatIf::Kept => c,
-    }
 }
 
 // Whether a text is a year of fewer than four digits and no era.
 fn few_digits(s: &[u8]) -> bool
     ensures { λ r. ⌜ r ≡ six.fewDigits (now (s .entry)) ⌝ }
 {
-    let a = behind_sign(s, scanner::eat_whitespace(s, Cursor(0)));
+    let a = numbers::eat_sign(s, scanner::eat_whitespace(s, Cursor(0)));
     let e = scanner::eat_while(s, a, Class::AsciiDigit);
     if a.0 < e.0 {
         if e.0 - a.0 < 4 {

@@ -13,7 +13,7 @@ returns c =
     let b6 = b5 .before in
     let b7 = b6 .before in
     let b8 = b7 .before in
-    ran-as (b2 .put-piece .ensures) (simp (← b8 .is-hidden .ensures, b7 .if1 .taken, ← b6 .glyph .ensures, ← b5 .glyph2 .ensures))
+    ran-as (b2 .put-piece .ensures) (simp (← b8 .is-hidden .ensures, b7 .if1 .taken, ← b6 .high .ensures, ← b5 .low .ensures))
 
 returns-2 : tie.Need-returns-2
 unfolding shownByte pick

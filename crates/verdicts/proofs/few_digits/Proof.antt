@@ -13,7 +13,7 @@ returns c =
     let b8 = b5 .before .before .before in
     let b9 = b8 .before in
     let b10 = b9 .before in
-    simp (← b10 .eat-whitespace .ensures, ← b9 .behind-sign .ensures, ← b8 .eat-while .ensures, lt-ltb _ _ (b5 .if1 .taken), lt-ltb _ _ (b2 .if2 .taken), ← b1 .eat-whitespace2 .ensures, ← c .done .ensures)
+    simp (← b10 .eat-whitespace .ensures, ← b9 .eat-sign .ensures, ← b8 .eat-while .ensures, lt-ltb _ _ (b5 .if1 .taken), lt-ltb _ _ (b2 .if2 .taken), ← b1 .eat-whitespace2 .ensures, ← c .done .ensures)
 
 returns-2 : tie.Need-returns-2
 unfolding fewDigits fewFrom isFew
@@ -22,7 +22,7 @@ returns-2 c =
     let b6 = b3 .before .before .before in
     let b7 = b6 .before in
     let b8 = b7 .before in
-    simp (← b8 .eat-whitespace .ensures, ← b7 .behind-sign .ensures, ← b6 .eat-while .ensures, lt-ltb _ _ (b3 .if1 .taken), le-ltb _ _ (c .if2 .left))
+    simp (← b8 .eat-whitespace .ensures, ← b7 .eat-sign .ensures, ← b6 .eat-while .ensures, lt-ltb _ _ (b3 .if1 .taken), le-ltb _ _ (c .if2 .left))
 
 returns-3 : tie.Need-returns-3
 unfolding fewDigits fewFrom isFew
@@ -30,7 +30,7 @@ returns-3 c =
     let b3 = c .before .before .before in
     let b4 = b3 .before in
     let b5 = b4 .before in
-    simp (← b5 .eat-whitespace .ensures, ← b4 .behind-sign .ensures, ← b3 .eat-while .ensures, le-ltb _ _ (c .if1 .left))
+    simp (← b5 .eat-whitespace .ensures, ← b4 .eat-sign .ensures, ← b3 .eat-while .ensures, le-ltb _ _ (c .if1 .left))
 
 pub few-digits-spec : {M : Type 1} → statement M
 few-digits-spec =

@@ -1,0 +1,11 @@
+use Rattle.headers.specs.Names.{isSpace}
+use mathlib.Core.Path.{refl}
+use Rattle.headers.proofs.is_space.Statement.{statement}
+use Rattle.headers.proofs.is_space.Tie as tie
+
+returns : tie.Need-returns
+unfolding isSpace
+returns c = refl
+
+pub is-space-spec : {M : Type 1} → statement M
+is-space-spec = tie.close (tie.spec returns)

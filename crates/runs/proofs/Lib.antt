@@ -1,0 +1,4 @@
+pub mod Reports
+pub mod Theorems
+pub mod Pieces
+pub mod Onwards

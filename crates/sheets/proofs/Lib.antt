@@ -1,0 +1,10 @@
+pub mod Goings
+pub mod Owns
+pub mod Copies
+pub mod OneDate
+pub mod RowLaws
+pub mod Bounds
+pub mod Stepping
+pub mod Skips
+pub mod Steady
+pub mod Theorems

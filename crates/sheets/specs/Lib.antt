@@ -1,0 +1,5 @@
+pub mod Tallies
+pub mod Rows
+pub mod Steps
+pub mod Reports
+pub mod Inside
