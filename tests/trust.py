@@ -135,8 +135,12 @@ def known(file):
     return {part: item.key for item in items(path) for part in [*(parts(item) if item.kind == 'data' else []), item.key.name]}
 
 def found_in(file, name):
-    """The definition that a name of a file stands for: a constructor stands for its type. Of the library's and of made modules nothing is known."""
-    return known(file).get(name, Key(file, name)) if pathlib.Path(f'crates/{file}.antt').exists() else Key(file, name)
+    """The definition that a name of a file stands for: a constructor stands for its type, also where it is named by the type's own path. Of the
+    library's and of made modules nothing is known."""
+    within, _, type = file.rpartition('/')
+    if pathlib.Path(f'crates/{file}.antt').exists():
+        return known(file).get(name, Key(file, name))
+    return known(within).get(type, Key(file, name)) if pathlib.Path(f'crates/{within}.antt').exists() else Key(file, name)
 
 def meant(path, code):
     """The keys of the names in a piece of a file's code."""

@@ -65,7 +65,7 @@ data Seen : List ℕ → Type 0 where
 
 -- ---- what is seen
 
-occurs-append : (b : ℕ) (s t : List ℕ) → occurs b (s ++ t) ≡ occurs b s + occurs b t
+pub occurs-append : (b : ℕ) (s t : List ℕ) → occurs b (s ++ t) ≡ occurs b s + occurs b t
 unfolding occurs
 occurs-append b [] t = omega arith
 occurs-append b (x ∷ s) t = let e = occurs-append b s t in omega arith

@@ -8,3 +8,5 @@ pub mod Stepping
 pub mod Skips
 pub mod Steady
 pub mod Theorems
+pub mod Counts
+pub mod Safe
