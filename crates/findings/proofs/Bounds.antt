@@ -25,7 +25,8 @@ use Rattle.findings.specs.declared.RowFault.the-variants.{Broken, Cells,
 use Rattle.findings.specs.declared.Unusable.{Unusable}
 use Rattle.findings.specs.declared.Unusable.the-variants.{Empty, NoColumn, Twice, Returns, NoRow}
 use Rattle.findings.specs.Escapes.{isHidden, isMarked, shownByte, escaped, quoted}
-use Rattle.findings.specs.Words.{capped, placed, kindWords, placeWords, refusalWords, writtenText, windowWords, isSaid, sort, message, faultWords, rowWords}
+use Rattle.verdicts.specs.Plain.{writtenText}
+use Rattle.findings.specs.Words.{capped, placed, kindWords, placeWords, refusalWords, windowWords, isSaid, sort, message, faultWords, rowWords}
 use Rattle.findings.specs.Lines.{finding, verdictLine, columnName, dateLine, namedCell, stillFirst, sixText, sixLine, badRowLine, signing, summary, unusableWords, unreadLine}
 
 -- ---- pieces

@@ -32,7 +32,8 @@ use Rattle.findings.specs.declared.RowFault.the-variants.{Broken, Cells,
 use Rattle.findings.specs.declared.Unusable.{Unusable}
 use Rattle.findings.specs.declared.Unusable.the-variants.{Empty, NoColumn, Twice, Returns, NoRow}
 use Rattle.findings.specs.Escapes.{isHidden, isMarked, shownByte, escaped, quoted}
-use Rattle.findings.specs.Words.{capped, kindWords, placeWords, refusalWords, textIf, writtenText, windowWords, isSaid, sort, message, faultWords, rowWords}
+use Rattle.verdicts.specs.Plain.{textIf, writtenText}
+use Rattle.findings.specs.Words.{capped, kindWords, placeWords, refusalWords, windowWords, isSaid, sort, message, faultWords, rowWords}
 use Rattle.findings.specs.Lines.{finding, verdictLine, columnName, dateLine, namedCell, stillFirst, sixText, sixLine, badRowLine, signing, summary, unusableWords, unreadLine}
 
 -- ---- bytes of the file

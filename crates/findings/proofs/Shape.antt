@@ -37,7 +37,8 @@ use Rattle.findings.specs.declared.Column.the-variants.{Date as DateColu
 use Rattle.findings.specs.declared.RowFault.{RowFault}
 use Rattle.findings.specs.declared.RowFault.the-variants.{Broken, Cells, BadUtf8, LongCell}
 use Rattle.findings.specs.Escapes.{isHidden, isMarked, shownByte, escaped, quoted}
-use Rattle.findings.specs.Words.{capped, placed, kindWords, placeWords, refusalWords, textIf, writtenText, windowWords, isSaid, sort, message, faultWords, rowWords}
+use Rattle.verdicts.specs.Plain.{textIf, writtenText}
+use Rattle.findings.specs.Words.{capped, placed, kindWords, placeWords, refusalWords, windowWords, isSaid, sort, message, faultWords, rowWords}
 use Rattle.findings.specs.Lines.{finding, verdictLine, columnName, dateLine, namedCell, stillFirst, sixText, sixLine, badRowLine}
 
 -- how often a byte stands in a text

@@ -1,6 +1,6 @@
 -- What is said of the cells of a row: the Date has a short text, so that the lines are short. Assumes nothing.
 use mathlib.Core.Path.{_≡_, refl, ap, _∙_, sym}
-use mathlib.Core.Bool.{Bool, true, false, false≢true, _||_}
+use mathlib.Core.Bool.{Bool, true, false, false≢true}
 use mathlib.Core.List.{List}
 use Prim.Native.Nat.{ℕ, _≤_}
 use native.Mathlib.Omega.{arith}
@@ -13,17 +13,12 @@ use Rattle.refusals.specs.declared.ReadDate.the-variants.{Accepted, Refused as 
 use Rattle.verdicts.specs.declared.Verdict.{Verdict}
 use Rattle.verdicts.specs.declared.Verdict.the-variants.{NoDate, Full, NotStrict, ShortYear, Unread, Refused}
 use Rattle.verdicts.specs.Dates.{otherwise, byReaders, dateVerdict}
-use Rattle.verdicts.specs.Fields.{Cells, someGiven, isUnread, fullUnless, givenVerdict, sixVerdict}
-use Rattle.verdicts.proofs.Written.{HasText, date-has-text, six-has-text}
-use Rattle.findings.specs.Words.{textIf, writtenText}
+use Rattle.verdicts.specs.Plain.{writtenText}
+use Rattle.verdicts.specs.Fields.{Cells, sixVerdict}
+use Rattle.verdicts.proofs.Written.{date-has-text, six-has-text, six-other-text, said-short}
 use Rattle.findings.proofs.Bounds.{ShortText}
 
--- a text that is written is short
-short : {d : Date} → HasText d → length (writtenText d) ≤ 40
-unfolding writtenText textIf
-short h = let g = h .short in rw (h .measures) (omega arith)
-
--- which of the two verdicts with a Date it is
+-- whether it is the verdict of a short year
 isShort : Verdict → Bool
 isShort NoDate = false
 isShort Full = false
@@ -31,14 +26,6 @@ isShort (NotStrict d) = false
 isShort (ShortYear d) = true
 isShort Unread = false
 isShort (Refused e) = false
-
-isOther : Verdict → Bool
-isOther NoDate = false
-isOther Full = false
-isOther (NotStrict d) = true
-isOther (ShortYear d) = false
-isOther Unread = false
-isOther (Refused e) = false
 
 readers-not : (strict ported : ReadDate) → isShort (byReaders strict ported) ≡ false
 unfolding byReaders otherwise isShort
@@ -49,18 +36,6 @@ readers-not (NotRead e) (NotRead f) = refl
 date-not : (s : List ℕ) → isShort (dateVerdict s) ≡ false
 unfolding dateVerdict isShort
 date-not s = by-test (λ (v : Verdict). isShort v ≡ false) (eqb (length s) 0) (λ _. refl) (λ _. readers-not _ _)
-
-full-not : (short : Bool) (r : ReadDate) → isOther (fullUnless short r) ≡ false
-unfolding fullUnless isOther
-full-not short (Accepted d) = by-test (λ (v : Verdict). isOther v ≡ false) short (λ _. refl) (λ _. refl)
-full-not short (NotRead e) = refl
-
-six-not : (start end : Cells) → isOther (sixVerdict start end) ≡ false
-unfolding sixVerdict givenVerdict isOther
-six-not start end =
-    by-test (λ (v : Verdict). isOther v ≡ false) (someGiven start || someGiven end)
-    (λ _. by-test (λ (v : Verdict). isOther v ≡ false) (isUnread (start .month) (start .day) end) (λ _. refl) (λ _. full-not _ _))
-    (λ _. refl)
 
 -- by the verdict
 all-short : (v : Verdict) → ((d : Date) → v ≡ NotStrict d → length (writtenText d) ≤ 40) → ((d : Date) → v ≡ ShortYear d → length (writtenText d) ≤ 40) → ShortText v
@@ -75,10 +50,9 @@ all-short (Refused e) f g = tt
 pub date-short : (s : List ℕ) → ShortText (dateVerdict s)
 unfolding isShort
 date-short s =
-    all-short (dateVerdict s) (λ d e. short (date-has-text s d e)) (λ d e. absurd (false≢true (sym (date-not s) ∙ ap isShort e)))
+    all-short (dateVerdict s) (λ d e. said-short (date-has-text s d e)) (λ d e. absurd (false≢true (sym (date-not s) ∙ ap isShort e)))
 
 -- a date in six cells
 pub six-short : (start end : Cells) → ShortText (sixVerdict start end)
-unfolding isOther
 six-short start end =
-    all-short (sixVerdict start end) (λ d e. absurd (false≢true (sym (six-not start end) ∙ ap isOther e))) (λ d e. short (six-has-text start end d e))
+    all-short (sixVerdict start end) (λ d e. said-short (six-other-text start end d e)) (λ d e. said-short (six-has-text start end d e))

@@ -5,16 +5,12 @@ use mathlib.Core.List.{List, [], _++_}
 use lib.Dec.{leb, eqb}
 use Rattle.chars.specs.Pick.{pick}
 use Rattle.chars.specs.Ascii.{ascii}
-use Rattle.dates.specs.declared.Date.{Date}
 use Rattle.refusals.specs.declared.Refusal.{Refusal}
 use Rattle.refusals.specs.Refusal.{number, hasPlace}
-use Rattle.puts.specs.declared.Measured.{Measured}
-use Rattle.puts.specs.declared.Measured.the-variants.{Length, NoLength}
 use Rattle.puts.specs.Numbers.{decimal}
-use Rattle.writer.specs.Texts.{dateText}
-use Rattle.writer.specs.Answers.{dateMeasured}
 use Rattle.verdicts.specs.declared.Verdict.{Verdict}
 use Rattle.verdicts.specs.declared.Verdict.the-variants.{NoDate, Full, NotStrict, ShortYear, Unread, Refused}
+use Rattle.verdicts.specs.Plain.{writtenText}
 use Rattle.csv.specs.declared.Fault.{Fault}
 use Rattle.csv.specs.declared.Fault.the-variants.{QuoteInside, TextBehind, LoneReturn, NeverClosed, TooLong, TooMany}
 use Rattle.findings.specs.declared.RowFault.{RowFault}
@@ -57,15 +53,6 @@ placeWords e =
 -- a refusal
 unfoldable pub refusalWords : Refusal → List ℕ
 refusalWords e = kindWords (number (e .kind)) ++ placeWords e
-
--- a text that has a length, and nothing where the writer refuses
-unfoldable pub textIf : Measured → List ℕ → List ℕ
-textIf (Length n) text = text
-textIf (NoLength e) text = []
-
--- the written text of a Date; a Date that the writer refuses has none
-unfoldable pub writtenText : Date → List ℕ
-writtenText d = textIf (dateMeasured d (dateText d)) (dateText d)
 
 -- said of a year of two digits
 unfoldable pub windowWords : Bool → List ℕ

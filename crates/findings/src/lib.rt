@@ -9,6 +9,7 @@ ghost use lib.ListN.{length};
 ghost use Rattle.chars.specs.Ascii.{ascii};
 ghost use Rattle.puts.specs.Answers as writing;
 ghost use Rattle.puts.specs.Numbers as numbers;
+ghost use Rattle.verdicts.specs.Plain as plain;
 ghost use Rattle.findings.specs.Escapes as escapes;
 ghost use Rattle.findings.specs.Words as words;
 ghost use Rattle.findings.specs.Lines as lines;
@@ -232,7 +233,7 @@ fn put_refusal(e: Refusal, out: &mut [u8], at: usize) -> usize
 
 // The written text of a Date.
 fn put_written(d: Date, out: &mut [u8], at: usize) -> usize
-    ensures { λ r. ⌜ Ran (words.writtenText d) (now (out .entry)) at (now (out .exit)) r ⌝ }
+    ensures { λ r. ⌜ Ran (plain.writtenText d) (now (out .entry)) at (now (out .exit)) r ⌝ }
 {
     let mut text = [0u8; 40];
     match writer::write_text(d, &mut text) {
@@ -253,7 +254,7 @@ fn put_window(windowed: bool, out: &mut [u8], at: usize) -> usize
 
 // What is said of a date that is not strict.
 fn put_not_strict(d: Date, windowed: bool, out: &mut [u8], at: usize) -> usize
-    ensures { λ r. ⌜ Ran (ascii "not a full date; the typesetting run would print " ++ (words.writtenText d ++ words.windowWords windowed)) (now (out .entry)) at (now (out .exit)) r ⌝ }
+    ensures { λ r. ⌜ Ran (ascii "not a full date; the typesetting run would print " ++ (plain.writtenText d ++ words.windowWords windowed)) (now (out .entry)) at (now (out .exit)) r ⌝ }
 {
     let j = put_piece(
         b"not a full date; the typesetting run would print ",
@@ -266,7 +267,7 @@ fn put_not_strict(d: Date, windowed: bool, out: &mut [u8], at: usize) -> usize
 
 // Of one with a short year.
 fn put_short(d: Date, out: &mut [u8], at: usize) -> usize
-    ensures { λ r. ⌜ Ran (ascii "a year of fewer than four digits is read as it stands; the typesetting run would print " ++ words.writtenText d) (now (out .entry)) at (now (out .exit)) r ⌝ }
+    ensures { λ r. ⌜ Ran (ascii "a year of fewer than four digits is read as it stands; the typesetting run would print " ++ plain.writtenText d) (now (out .entry)) at (now (out .exit)) r ⌝ }
 {
     let k = put_piece(
         b"a year of fewer than four digits is read as it stands; the typesetting run would print ",

@@ -26,7 +26,8 @@ use Rattle.datefield.specs.Value.{moved, onHalf, value, marked, trimmedDate, pa
 use Rattle.reading_laws.specs.Field.{onClean, parsed, strictly, parsedStrict}
 use Rattle.verdicts.specs.Dates.{cellTable}
 
-strict-none : parsedStrict [] (cellTable []) ≡ Refused (nowhere NotStrict)
+-- the strict reader refuses it
+pub strict-none : parsedStrict [] (cellTable []) ≡ Refused (nowhere NotStrict)
 unfolding parsedStrict strictly onClean checked fits isShort chunksOf kindsKnown lengths faultOf orElse faultIn characters upTo formatted chunksOut chunkOut normal codes codesOf pick within isAsciiDigit matcher.two matcher.on matcher.onFour matcher.four matcher.pointAt matcher.point matcher.unknown matcher.isOpen matcher.onPoint matcher.fromPoint matcher.ofPoints matcher.onUnknown matcher.textOf matcher.strict
 strict-none = refl
 

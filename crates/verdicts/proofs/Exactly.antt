@@ -1,11 +1,12 @@
 -- Each verdict, exactly: when it is given. Assumes nothing.
-use mathlib.Core.Path.{_≡_, refl, sym, _∙_}
-use mathlib.Core.Bool.{Bool, true, false, _||_}
+use mathlib.Core.Path.{_≡_, refl, sym, subst, _∙_}
+use mathlib.Core.Bool.{Bool, true, false, _&&_, _||_}
 use mathlib.Core.List.{List, [], _∷_}
 use mathlib.Core.Logic.{_↔_}
 use Prim.Native.Nat.{ℕ}
 use native.Mathlib.Omega.{arith}
 use Rattle.chars.specs.Pick.{pick}
+use Rattle.chars.proofs.Cases.{by-test, and-true}
 use Rattle.dates.specs.declared.Date.{Date}
 use Rattle.refusals.specs.declared.Refusal.{Refusal}
 use Rattle.refusals.specs.declared.ReadDate.{ReadDate}
@@ -14,7 +15,8 @@ use Rattle.reading_laws.specs.Field.{parsed, parsedStrict}
 use Rattle.verdicts.specs.declared.Verdict.{Verdict}
 use Rattle.verdicts.specs.declared.Verdict.the-variants.{NoDate, Full, NotStrict, ShortYear, Unread, Refused}
 use Rattle.verdicts.specs.Dates.{cellTable, otherwise, byReaders, dateVerdict}
-use Rattle.verdicts.specs.Fields.{Cells, someGiven, isUnread, sixRead, eitherFew, fullUnless, givenVerdict, sixVerdict}
+use Rattle.verdicts.specs.Plain.{isStrict}
+use Rattle.verdicts.specs.Fields.{Cells, someGiven, isUnread, sixRead, eitherFew, bothPlain, verdictOf, readVerdict, givenVerdict, sixVerdict}
 use Rattle.verdicts.proofs.Said.{asked}
 use Rattle.verdicts.proofs.Empty.{empty-strict, empty-ported}
 
@@ -116,49 +118,28 @@ pub record SixSaid (start end : Cells) (short : Bool) (r : ReadDate) : Type 0 wh
   -- the reader's answer
   pub read : sixRead start end ≡ r
 
--- the verdict by what is asked: whether a cell has a text, whether one is left unread, whether a year is short, what was read
-abbrev told : Bool → Bool → Bool → ReadDate → Verdict
-told g u f r = pick g (pick u Unread (fullUnless f r)) NoDate
+-- the verdict by what is asked: whether a cell has a text, whether one is left unread, whether a year is short, whether the cells are
+-- plain, and what was read
+abbrev told : Bool → Bool → Bool → Bool → ReadDate → Verdict
+told g u f p r = pick g (pick u Unread (verdictOf f p r)) NoDate
 
-none-told : (g u f : Bool) (r : ReadDate) → told g u f r ≡ NoDate → g ≡ false
-unfolding pick fullUnless
-none-told false u f r e = refl
-none-told true true f r e = absurd (let z : _≡_ {A = ℕ} 0 1 = cc in omega arith)
-none-told true false true (Accepted a) e = absurd (let z : _≡_ {A = ℕ} 0 1 = cc in omega arith)
-none-told true false false (Accepted a) e = absurd (let z : _≡_ {A = ℕ} 0 1 = cc in omega arith)
-none-told true false f (NotRead h) e = absurd (let z : _≡_ {A = ℕ} 0 1 = cc in omega arith)
+-- what was asked, by the verdict
+data Told (g u f p : Bool) (r : ReadDate) : Verdict → Type 0 where
+  empty-told : g ≡ false → Told g u f p r NoDate
+  left-told : g ≡ true → u ≡ true → Told g u f p r Unread
+  short-told : {d : Date} → g ≡ true → u ≡ false → f ≡ true → r ≡ Accepted d → Told g u f p r (ShortYear d)
+  full-told : (d : Date) → g ≡ true → u ≡ false → f ≡ false → r ≡ Accepted d → p && isStrict d ≡ true → Told g u f p r Full
+  other-told : {d : Date} → g ≡ true → u ≡ false → f ≡ false → r ≡ Accepted d → p && isStrict d ≡ false → Told g u f p r (NotStrict d)
+  refused-told : {e : Refusal} → g ≡ true → u ≡ false → r ≡ NotRead e → Told g u f p r (Refused e)
 
-unread-told : (g u f : Bool) (r : ReadDate) → told g u f r ≡ Unread → (g ≡ true) × (u ≡ true)
-unfolding pick fullUnless
-unread-told false u f r e = absurd (let z : _≡_ {A = ℕ} 0 1 = cc in omega arith)
-unread-told true true f r e = (refl, refl)
-unread-told true false true (Accepted a) e = absurd (let z : _≡_ {A = ℕ} 0 1 = cc in omega arith)
-unread-told true false false (Accepted a) e = absurd (let z : _≡_ {A = ℕ} 0 1 = cc in omega arith)
-unread-told true false f (NotRead h) e = absurd (let z : _≡_ {A = ℕ} 0 1 = cc in omega arith)
-
-full-told : (g u f : Bool) (r : ReadDate) → told g u f r ≡ Full → (d : Date) × (g ≡ true) × (u ≡ false) × (f ≡ false) × (r ≡ Accepted d)
-unfolding pick fullUnless
-full-told false u f r e = absurd (let z : _≡_ {A = ℕ} 0 1 = cc in omega arith)
-full-told true true f r e = absurd (let z : _≡_ {A = ℕ} 0 1 = cc in omega arith)
-full-told true false true (Accepted a) e = absurd (let z : _≡_ {A = ℕ} 0 1 = cc in omega arith)
-full-told true false false (Accepted a) e = (a, refl, refl, refl, refl)
-full-told true false f (NotRead h) e = absurd (let z : _≡_ {A = ℕ} 0 1 = cc in omega arith)
-
-short-told : (g u f : Bool) (r : ReadDate) (d : Date) → told g u f r ≡ ShortYear d → (g ≡ true) × (u ≡ false) × (f ≡ true) × (r ≡ Accepted d)
-unfolding pick fullUnless
-short-told false u f r d e = absurd (let z : _≡_ {A = ℕ} 0 1 = cc in omega arith)
-short-told true true f r d e = absurd (let z : _≡_ {A = ℕ} 0 1 = cc in omega arith)
-short-told true false true (Accepted a) d e = (refl, refl, refl, cc)
-short-told true false false (Accepted a) d e = absurd (let z : _≡_ {A = ℕ} 0 1 = cc in omega arith)
-short-told true false f (NotRead h) d e = absurd (let z : _≡_ {A = ℕ} 0 1 = cc in omega arith)
-
-refused-told : (g u f : Bool) (r : ReadDate) (h : Refusal) → told g u f r ≡ Refused h → (g ≡ true) × (u ≡ false) × (r ≡ NotRead h)
-unfolding pick fullUnless
-refused-told false u f r h e = absurd (let z : _≡_ {A = ℕ} 0 1 = cc in omega arith)
-refused-told true true f r h e = absurd (let z : _≡_ {A = ℕ} 0 1 = cc in omega arith)
-refused-told true false true (Accepted a) h e = absurd (let z : _≡_ {A = ℕ} 0 1 = cc in omega arith)
-refused-told true false false (Accepted a) h e = absurd (let z : _≡_ {A = ℕ} 0 1 = cc in omega arith)
-refused-told true false f (NotRead g) h e = (refl, refl, cc)
+view : (g u f p : Bool) (r : ReadDate) → Told g u f p r (told g u f p r)
+unfolding pick verdictOf
+view false u f p r = empty-told refl
+view true true f p r = left-told refl refl
+view true false true p (Accepted d) = short-told refl refl refl refl
+view true false false p (Accepted d) =
+    by-test (Told true false false p (Accepted d)) (p && isStrict d) (full-told d refl refl refl refl) (other-told refl refl refl refl)
+view true false f p (NotRead e) = refused-told refl refl refl
 
 module _ (start end : Cells) where
   abbrev some : Bool
@@ -170,46 +151,65 @@ module _ (start end : Cells) where
   abbrev few : Bool
   few = eitherFew (start .year) (end .year)
 
-  is-told : sixVerdict start end ≡ told some left few (sixRead start end)
-  unfolding sixVerdict givenVerdict
+  abbrev plain : Bool
+  plain = bothPlain start end
+
+  abbrev ToldOf : Verdict → Type 0
+  ToldOf v = Told some left few plain (sixRead start end) v
+
+  is-told : sixVerdict start end ≡ told some left few plain (sixRead start end)
+  unfolding sixVerdict givenVerdict readVerdict
   is-told = refl
+
+  by : {v : Verdict} → sixVerdict start end ≡ v → ToldOf v
+  by e = subst ToldOf (sym is-told ∙ e) (view some left few plain (sixRead start end))
 
   -- six cells hold no date exactly if none has a text
   pub six-no-date : (sixVerdict start end ≡ NoDate) ↔ (someGiven start || someGiven end ≡ false)
   unfolding pick
-  six-no-date = (λ e. none-told some left few (sixRead start end) (sym is-told ∙ e), λ e. is-told ∙ rw e)
+  six-no-date = (λ e. of (by e), λ e. is-told ∙ rw e)
+    where
+      of : ToldOf NoDate → some ≡ false
+      of (empty-told g) = g
 
   -- something is unread
   pub unread : (sixVerdict start end ≡ Unread) ↔ ((someGiven start || someGiven end ≡ true) × (isUnread (start .month) (start .day) end ≡ true))
   unfolding pick
-  unread = (λ e. unread-told some left few (sixRead start end) (sym is-told ∙ e), λ p. is-told ∙ rw (p .0, p .1))
+  unread = (λ e. of (by e), λ p. is-told ∙ rw (p .0, p .1))
+    where
+      of : ToldOf Unread → (some ≡ true) × (left ≡ true)
+      of (left-told g u) = (g, u)
 
-  -- they are full exactly if all is read, no year is short, and a Date was read
-  pub six-full : (sixVerdict start end ≡ Full) ↔ ((d : Date) × SixSaid start end false (Accepted d))
-  unfolding pick fullUnless
-  six-full = (
-    λ e.
-        let p = full-told some left few (sixRead start end) (sym is-told ∙ e) in
-        (p .0, record { some = p .1; all = p .2; digits = p .3; read = p .4 }),
-    λ p. is-told ∙ rw (p .1 .some, p .1 .all, p .1 .digits, p .1 .read),
-  )
+  -- they are full exactly if all is read, no year is short, a Date was read, all cells are plain, and the Date's written text is strict
+  pub six-full : (sixVerdict start end ≡ Full) ↔ ((d : Date) × SixSaid start end false (Accepted d) × (bothPlain start end ≡ true) × (isStrict d ≡ true))
+  unfolding pick verdictOf
+  six-full = (λ e. of (by e), λ p. is-told ∙ rw (p .1 .some, p .1 .all, p .1 .digits, p .1 .read, p .2, p .3))
+    where
+      of : ToldOf Full → (d : Date) × SixSaid start end false (Accepted d) × (plain ≡ true) × (isStrict d ≡ true)
+      of (full-told d g u f r k) =
+          let b = and-true plain (isStrict d) k in
+          (d, record { some = g; all = u; digits = f; read = r }, b .0, b .1)
+
+  -- they are not strict exactly if all is read, no year is short, a Date was read, and a cell is not plain or the text is not strict
+  pub six-not-strict : (d : Date) → (sixVerdict start end ≡ NotStrict d) ↔ (SixSaid start end false (Accepted d) × (bothPlain start end && isStrict d ≡ false))
+  unfolding pick verdictOf
+  six-not-strict d = (λ e. of (by e), λ p. is-told ∙ rw (p .0 .some, p .0 .all, p .0 .digits, p .0 .read, p .1))
+    where
+      of : ToldOf (NotStrict d) → SixSaid start end false (Accepted d) × (plain && isStrict d ≡ false)
+      of (other-told g u f r k) = (record { some = g; all = u; digits = f; read = r }, k)
 
   -- a year is short
   pub short-year : (d : Date) → (sixVerdict start end ≡ ShortYear d) ↔ SixSaid start end true (Accepted d)
-  unfolding pick fullUnless
-  short-year d = (
-    λ e.
-        let p = short-told some left few (sixRead start end) d (sym is-told ∙ e) in
-        record { some = p .0; all = p .1; digits = p .2; read = p .3 },
-    λ p. is-told ∙ rw (p .some, p .all, p .digits, p .read),
-  )
+  unfolding pick verdictOf
+  short-year d = (λ e. of (by e), λ p. is-told ∙ rw (p .some, p .all, p .digits, p .read))
+    where
+      of : ToldOf (ShortYear d) → SixSaid start end true (Accepted d)
+      of (short-told g u f r) = record { some = g; all = u; digits = f; read = r }
 
   -- all is read, and refused
   pub six-refused : (e : Refusal) → (sixVerdict start end ≡ Refused e) ↔ SixSaid start end (eitherFew (start .year) (end .year)) (NotRead e)
-  unfolding pick fullUnless
-  six-refused e = (
-    λ h.
-        let p = refused-told some left few (sixRead start end) e (sym is-told ∙ h) in
-        record { some = p .0; all = p .1; digits = refl; read = p .2 },
-    λ p. is-told ∙ rw (p .some, p .all, p .read),
-  )
+  unfolding pick verdictOf
+  six-refused e = (λ h. of (by h), λ p. is-told ∙ rw (p .some, p .all, p .read))
+    where
+      of : ToldOf (Refused e) → SixSaid start end few (NotRead e)
+      of (refused-told g u r) = record { some = g; all = u; digits = refl; read = r }

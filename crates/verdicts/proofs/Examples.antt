@@ -8,7 +8,9 @@ use lib.IntN.{ℤ, pos, negsuc}
 use Rattle.chars.specs.Ascii.{ascii}
 use Rattle.refusals.specs.declared.Kind.{Kind}
 use Rattle.refusals.specs.declared.Kind.the-variants.{MonthOutOfRange, InvalidFormat, RustPanics}
+use Rattle.dates.specs.declared.OptionMonth.{OptionMonth}
 use Rattle.dates.specs.declared.OptionMonth.the-variants.{NoMonth}
+use Rattle.dates.specs.declared.OptionDay.{OptionDay}
 use Rattle.dates.specs.declared.OptionDay.the-variants.{NoDay}
 use Rattle.dates.specs.declared.OptionTime.the-variants.{NoTime}
 use Rattle.dates.specs.declared.Datetime.{Datetime}
@@ -56,7 +58,13 @@ use Rattle.chars.specs.Signs.{signed}
 use Rattle.strict.specs.Grammar as strictGrammar
 use Rattle.strict.specs.Matcher as strictMatcher
 use Rattle.sixfields.specs.Six as six
+use Rattle.puts.specs.Numbers.{count, digitCount, width, decimal}
+use Rattle.puts.specs.Marks.{markText}
+use Rattle.puts.specs.Answers.{measured}
+use Rattle.writer.specs.Texts.{minus, yearText, writtenMonth, writtenDay, dayParts, monthParts, partsOf, partText, hyphenPart, partsText, datetimeText, valueText, dateText, tooLarge, endPanics, valuePanics, panics}
+use Rattle.writer.specs.Answers.{dateMeasured}
 use Rattle.verdicts.specs.Dates as dates_
+use Rattle.verdicts.specs.Plain as plains
 use Rattle.verdicts.specs.Windows as windows
 use Rattle.verdicts.specs.Fields as cellsOf
 
@@ -139,6 +147,10 @@ row y m d = cells (ascii y) (ascii m) (ascii d)
 abbrev empty : Cells
 empty = row "" "" ""
 
+-- not strict, and this is read
+abbrev read : ℤ → OptionMonth → OptionDay → Verdict
+read y m d = NotStrict (plain (At (datetime y m d NoTime)))
+
 pub record SixExample : Type 0 where
   pub start : Cells
   pub end : Cells
@@ -151,7 +163,10 @@ sixes =
     ∷ record { start = row "0049" "" ""; end = empty; is = Full }
     ∷ record { start = row "1000 BC" "" ""; end = empty; is = Full }
     ∷ record { start = row "49 AD" "" ""; end = empty; is = Full }
-    ∷ record { start = row "2000" "99" "31"; end = empty; is = Full }
+    ∷ record { start = row "49 CE" "" ""; end = empty; is = Full }
+    ∷ record { start = row "9 BCE" "" ""; end = empty; is = Full }
+    ∷ record { start = row "-0049" "12" "31"; end = empty; is = Full }
+    ∷ record { start = row "2000" "Sept" "4"; end = empty; is = Full }
     ∷ record { start = row "2000" "" ""; end = row " " "" ""; is = Unread }
     ∷ record { start = row "2000" "2" ""; end = row "2001" "mar" "4"; is = Full }
     -- fewer than four digits, and what is read
@@ -172,5 +187,28 @@ sixes =
     ∷ []
 
 pub sixes-hold : map (λ (e : SixExample). sixVerdict (e .start) (e .end)) sixes ≡ map (λ (e : SixExample). e .is) sixes
-unfolding sixes charsAscii.digitOf charsClasses.within charsClasses.isAdmitted charsClasses.isWhitespace charsClasses.isAsciiDigit charsClasses.isNumeric charsClasses.isAsciiAlphabetic charsClasses.isAlphabetic charsClasses.isAlphanumeric charsPick.pick charsUtf8.lenOf charsUtf8.isCont charsUtf8.isSurrogate charsUtf8.decode2 charsUtf8.decode3 charsUtf8.decode4 charsUtf8.decode charsUtf8.first charsUtf8.decodeAt charsUtf8.lenD charsUtf8.encode charsUtf8.encodeAll scannerClass.inClass scannerScan.lenIn scannerScan.matchLen scannerScan.walk scannerScan.eatWhile scannerScan.eatIf scannerScan.begins scannerScan.eatText scannerScan.eaten scannerScan.eatAt scannerScan.standsAt scannerScan.doneAt scannerScan.part refusalsOffset.saturatingAdd refusalsOffset.offset refusalsOffset.offsetSecond refusalsOffset.unshifted refusalsRefusal.refusal chunksCharacters.andThen chunksCharacters.upTo chunksCharacters.characters chunksCharacters.codesOf chunksCharacters.codes chunksCheck.faultIn chunksCheck.orElse chunksCheck.faultOf chunksCheck.checked chunksChunks.chunksOf chunksChunks.kindsKnown chunksChunks.lengths chunksChunks.fits chunksChunks.isShort chunksChunks.lastEnd chunksChunks.spanOf chunksFormat.isBreak chunksFormat.oneOut chunksFormat.normal chunksFormat.lastWhite chunksFormat.chunkOut chunksFormat.chunkFlag chunksFormat.chunksOut chunksFormat.formatted numbersNumber.admits numbersNumber.runValue numbersNumber.runOf numbersNumber.runAt numbersNumber.parseUnsignedInt strsParse.wholeValue strsParse.digitsFrom strsParse.parse strsTrim.stepBy strsTrim.stepOver strsTrim.trimStep strsTrim.trimFrom strsTrim.trimEnd strsTrim.trim fieldsDay.isDay fieldsDay.dayOf fieldsDay.dayDigits fieldsDay.dayBehind fieldsDay.dayAt fieldsDay.dayFrom fieldsDay.dayInMonthField fieldsDay.dayGiven fieldsDay.dayField fieldsMonth.named fieldsMonth.monthOf fieldsMonth.monthField fieldsNames.lower fieldsNames.sameLetters fieldsNames.monthIn fieldsNames.getMonthForName fieldsNames.getMonthForAbbr fieldsNames.orElse fieldsNames.monthFor fieldsYear.onPast fieldsYear.eraEnd fieldsYear.negativeEra fieldsYear.eraAt fieldsYear.parseEraMarker fieldsYear.ended fieldsYear.withEra fieldsYear.behindDigits fieldsYear.onNumber fieldsYear.yearDigits fieldsYear.yearFrom fieldsYear.behindSign fieldsYear.yearAt fieldsYear.getYear datefieldText.isBlank readerField.onClean readerFields.partsChecked readerFields.fieldsChecked readerFields.movedYear readerFields.yearOf readerFields.onMonth readerFields.insideDay readerFields.monthText readerFields.monthAlone readerFields.fieldDay readerFields.monthAndDay readerFields.partsOf readerFields.dated readerFields.onYear readerFields.readFields readerFields.threeFields six.judged six.blank six.endYearOf six.single six.unmarked six.onThree six.between six.onEndYear six.withEnd six.sixFields numbersNumber.orKept numbersNumber.behindSign cellsOf.someGiven cellsOf.dayAlone cellsOf.behindBlank cellsOf.isUnread cellsOf.sixRead cellsOf.isFew cellsOf.fewFrom cellsOf.fewDigits cellsOf.eitherFew cellsOf.fullUnless cellsOf.givenVerdict cellsOf.sixVerdict
+unfolding sixes charsAscii.digitOf charsClasses.within charsClasses.isAdmitted charsClasses.isWhitespace charsClasses.isAsciiDigit charsClasses.isNumeric charsClasses.isAsciiAlphabetic charsClasses.isAlphabetic charsClasses.isAlphanumeric charsPick.pick charsUtf8.lenOf charsUtf8.isCont charsUtf8.isSurrogate charsUtf8.decode2 charsUtf8.decode3 charsUtf8.decode4 charsUtf8.decode charsUtf8.first charsUtf8.decodeAt charsUtf8.lenD charsUtf8.encode charsUtf8.encodeAll scannerClass.inClass scannerScan.lenIn scannerScan.matchLen scannerScan.walk scannerScan.eatWhile scannerScan.eatIf scannerScan.begins scannerScan.eatText scannerScan.eaten scannerScan.eatAt scannerScan.standsAt scannerScan.doneAt scannerScan.part refusalsOffset.saturatingAdd refusalsOffset.offset refusalsOffset.offsetSecond refusalsOffset.unshifted refusalsRefusal.refusal chunksCharacters.andThen chunksCharacters.upTo chunksCharacters.characters chunksCharacters.codesOf chunksCharacters.codes chunksCheck.faultIn chunksCheck.orElse chunksCheck.faultOf chunksCheck.checked chunksChunks.chunksOf chunksChunks.kindsKnown chunksChunks.lengths chunksChunks.fits chunksChunks.isShort chunksChunks.lastEnd chunksChunks.spanOf chunksFormat.isBreak chunksFormat.oneOut chunksFormat.normal chunksFormat.lastWhite chunksFormat.chunkOut chunksFormat.chunkFlag chunksFormat.chunksOut chunksFormat.formatted numbersNumber.admits numbersNumber.runValue numbersNumber.runOf numbersNumber.runAt numbersNumber.parseUnsignedInt strsParse.wholeValue strsParse.digitsFrom strsParse.parse strsTrim.stepBy strsTrim.stepOver strsTrim.trimStep strsTrim.trimFrom strsTrim.trimEnd strsTrim.trim fieldsDay.isDay fieldsDay.dayOf fieldsDay.dayDigits fieldsDay.dayBehind fieldsDay.dayAt fieldsDay.dayFrom fieldsDay.dayInMonthField fieldsDay.dayGiven fieldsDay.dayField fieldsMonth.named fieldsMonth.monthOf fieldsMonth.monthField fieldsNames.lower fieldsNames.sameLetters fieldsNames.monthIn fieldsNames.getMonthForName fieldsNames.getMonthForAbbr fieldsNames.orElse fieldsNames.monthFor fieldsYear.onPast fieldsYear.eraEnd fieldsYear.negativeEra fieldsYear.eraAt fieldsYear.parseEraMarker fieldsYear.ended fieldsYear.withEra fieldsYear.behindDigits fieldsYear.onNumber fieldsYear.yearDigits fieldsYear.yearFrom fieldsYear.behindSign fieldsYear.yearAt fieldsYear.getYear datefieldText.isBlank readerField.onClean readerFields.partsChecked readerFields.fieldsChecked readerFields.movedYear readerFields.yearOf readerFields.onMonth readerFields.insideDay readerFields.monthText readerFields.monthAlone readerFields.fieldDay readerFields.monthAndDay readerFields.partsOf readerFields.dated readerFields.onYear readerFields.readFields readerFields.threeFields six.judged six.blank six.endYearOf six.single six.unmarked six.onThree six.between six.onEndYear six.withEnd six.sixFields numbersNumber.orKept numbersNumber.behindSign cellsOf.someGiven cellsOf.dayAlone cellsOf.behindBlank cellsOf.isUnread cellsOf.sixRead cellsOf.isFew cellsOf.fewFrom cellsOf.fewDigits cellsOf.eitherFew datesCalendar.multiple datesCalendar.leapYear datesCalendar.february datesCalendar.monthLengths datesCalendar.monthLength readerField.parsed readerField.strictly readerField.parsedStrict strictGrammar.lastDay strictMatcher.two strictMatcher.on strictMatcher.onFour strictMatcher.four strictMatcher.counted strictMatcher.field strictMatcher.shiftAt strictMatcher.offsetAt strictMatcher.timeAt strictMatcher.behindMonth strictMatcher.behindYear strictMatcher.pointAt strictMatcher.point strictMatcher.dashXX strictMatcher.years strictMatcher.months strictMatcher.days strictMatcher.unknownYears strictMatcher.unknownParts strictMatcher.unknown strictMatcher.marked strictMatcher.ending strictMatcher.isOpen strictMatcher.onPoint strictMatcher.behindOpen strictMatcher.behindSlash strictMatcher.fromPoint strictMatcher.ofPoints strictMatcher.onUnknown strictMatcher.textOf strictMatcher.strict dateMeasured measured panics valuePanics endPanics tooLarge dateText valueText datetimeText yearText minus decimal width digitCount count partsOf monthParts dayParts writtenMonth writtenDay partsText hyphenPart partText markText plains.isDigits plains.isFullYear plains.endsIn plains.endsInEra plains.hasEra plains.isEraYear plains.isPlainYear plains.isNamed plains.isPlainMonth plains.isPlainDay plains.textIf plains.writtenText plains.isAccepted plains.isStrictText plains.isStrict cellsOf.arePlain cellsOf.bothPlain cellsOf.verdictOf cellsOf.readVerdict cellsOf.givenVerdict cellsOf.sixVerdict signed
 sixes-hold = refl
+
+pub others : List SixExample
+others =
+    -- no such month, no such day
+    record { start = row "2000" "99" "31"; end = empty; is = read (pos 2000) (month 98) (day 30) }
+    ∷ record { start = row "2000" "13" ""; end = empty; is = read (pos 2000) (month 12) NoDay }
+    ∷ record { start = row "1900" "2" "29"; end = empty; is = read (pos 1900) (month 1) (day 28) }
+    -- a month that is none goes, and the text has no day without it
+    ∷ record { start = row "2000" "febr" "4"; end = empty; is = read (pos 2000) NoMonth (day 3) }
+    ∷ record { start = row "2000" "jul,4" ""; end = empty; is = read (pos 2000) (month 6) NoDay }
+    -- what is read right and does not stand as it should
+    ∷ record { start = row "2000 " "" ""; end = empty; is = read (pos 2000) NoMonth NoDay }
+    ∷ record { start = row "+2000" "" ""; end = empty; is = read (pos 2000) NoMonth NoDay }
+    ∷ record { start = row "49  AD" "" ""; end = empty; is = read (pos 49) NoMonth NoDay }
+    ∷ record { start = row "5 BC, or so" "" ""; end = empty; is = read (negsuc 3) NoMonth NoDay }
+    ∷ record { start = row "2000" " 7" ""; end = empty; is = read (pos 2000) (month 6) NoDay }
+    ∷ record { start = row "2000" "7" "+4"; end = empty; is = read (pos 2000) (month 6) (day 3) }
+    ∷ record { start = row "2000" "" ""; end = row "2001" "7" "004"; is = NotStrict (plain (Between (year (pos 2000)) (datetime (pos 2001) (month 6) (day 3) NoTime))) }
+    ∷ []
+
+pub others-hold : map (λ (e : SixExample). sixVerdict (e .start) (e .end)) others ≡ map (λ (e : SixExample). e .is) others
+unfolding others charsAscii.digitOf charsClasses.within charsClasses.isAdmitted charsClasses.isWhitespace charsClasses.isAsciiDigit charsClasses.isNumeric charsClasses.isAsciiAlphabetic charsClasses.isAlphabetic charsClasses.isAlphanumeric charsPick.pick charsUtf8.lenOf charsUtf8.isCont charsUtf8.isSurrogate charsUtf8.decode2 charsUtf8.decode3 charsUtf8.decode4 charsUtf8.decode charsUtf8.first charsUtf8.decodeAt charsUtf8.lenD charsUtf8.encode charsUtf8.encodeAll scannerClass.inClass scannerScan.lenIn scannerScan.matchLen scannerScan.walk scannerScan.eatWhile scannerScan.eatIf scannerScan.begins scannerScan.eatText scannerScan.eaten scannerScan.eatAt scannerScan.standsAt scannerScan.doneAt scannerScan.part refusalsOffset.saturatingAdd refusalsOffset.offset refusalsOffset.offsetSecond refusalsOffset.unshifted refusalsRefusal.refusal chunksCharacters.andThen chunksCharacters.upTo chunksCharacters.characters chunksCharacters.codesOf chunksCharacters.codes chunksCheck.faultIn chunksCheck.orElse chunksCheck.faultOf chunksCheck.checked chunksChunks.chunksOf chunksChunks.kindsKnown chunksChunks.lengths chunksChunks.fits chunksChunks.isShort chunksChunks.lastEnd chunksChunks.spanOf chunksFormat.isBreak chunksFormat.oneOut chunksFormat.normal chunksFormat.lastWhite chunksFormat.chunkOut chunksFormat.chunkFlag chunksFormat.chunksOut chunksFormat.formatted numbersNumber.admits numbersNumber.runValue numbersNumber.runOf numbersNumber.runAt numbersNumber.parseUnsignedInt strsParse.wholeValue strsParse.digitsFrom strsParse.parse strsTrim.stepBy strsTrim.stepOver strsTrim.trimStep strsTrim.trimFrom strsTrim.trimEnd strsTrim.trim fieldsDay.isDay fieldsDay.dayOf fieldsDay.dayDigits fieldsDay.dayBehind fieldsDay.dayAt fieldsDay.dayFrom fieldsDay.dayInMonthField fieldsDay.dayGiven fieldsDay.dayField fieldsMonth.named fieldsMonth.monthOf fieldsMonth.monthField fieldsNames.lower fieldsNames.sameLetters fieldsNames.monthIn fieldsNames.getMonthForName fieldsNames.getMonthForAbbr fieldsNames.orElse fieldsNames.monthFor fieldsYear.onPast fieldsYear.eraEnd fieldsYear.negativeEra fieldsYear.eraAt fieldsYear.parseEraMarker fieldsYear.ended fieldsYear.withEra fieldsYear.behindDigits fieldsYear.onNumber fieldsYear.yearDigits fieldsYear.yearFrom fieldsYear.behindSign fieldsYear.yearAt fieldsYear.getYear datefieldText.isBlank readerField.onClean readerFields.partsChecked readerFields.fieldsChecked readerFields.movedYear readerFields.yearOf readerFields.onMonth readerFields.insideDay readerFields.monthText readerFields.monthAlone readerFields.fieldDay readerFields.monthAndDay readerFields.partsOf readerFields.dated readerFields.onYear readerFields.readFields readerFields.threeFields six.judged six.blank six.endYearOf six.single six.unmarked six.onThree six.between six.onEndYear six.withEnd six.sixFields numbersNumber.orKept numbersNumber.behindSign cellsOf.someGiven cellsOf.dayAlone cellsOf.behindBlank cellsOf.isUnread cellsOf.sixRead cellsOf.isFew cellsOf.fewFrom cellsOf.fewDigits cellsOf.eitherFew datesCalendar.multiple datesCalendar.leapYear datesCalendar.february datesCalendar.monthLengths datesCalendar.monthLength readerField.parsed readerField.strictly readerField.parsedStrict strictGrammar.lastDay strictMatcher.two strictMatcher.on strictMatcher.onFour strictMatcher.four strictMatcher.counted strictMatcher.field strictMatcher.shiftAt strictMatcher.offsetAt strictMatcher.timeAt strictMatcher.behindMonth strictMatcher.behindYear strictMatcher.pointAt strictMatcher.point strictMatcher.dashXX strictMatcher.years strictMatcher.months strictMatcher.days strictMatcher.unknownYears strictMatcher.unknownParts strictMatcher.unknown strictMatcher.marked strictMatcher.ending strictMatcher.isOpen strictMatcher.onPoint strictMatcher.behindOpen strictMatcher.behindSlash strictMatcher.fromPoint strictMatcher.ofPoints strictMatcher.onUnknown strictMatcher.textOf strictMatcher.strict dateMeasured measured panics valuePanics endPanics tooLarge dateText valueText datetimeText yearText minus decimal width digitCount count partsOf monthParts dayParts writtenMonth writtenDay partsText hyphenPart partText markText plains.isDigits plains.isFullYear plains.endsIn plains.endsInEra plains.hasEra plains.isEraYear plains.isPlainYear plains.isNamed plains.isPlainMonth plains.isPlainDay plains.textIf plains.writtenText plains.isAccepted plains.isStrictText plains.isStrict cellsOf.arePlain cellsOf.bothPlain cellsOf.verdictOf cellsOf.readVerdict cellsOf.givenVerdict cellsOf.sixVerdict signed
+others-hold = refl

@@ -1,5 +1,7 @@
 pub mod Said
+pub mod Texts
 pub mod Empty
+pub mod Plain
 pub mod Exactly
 pub mod Written
 pub mod Unread

@@ -1,12 +1,12 @@
 -- What the code says is what the definitions say: of words, of cells that are empty, of halves of a text. Assumes nothing.
 use mathlib.Core.Path.{_≡_, refl, sym, ap, _∙_}
-use mathlib.Core.Bool.{Bool, false}
+use mathlib.Core.Bool.{false}
 use mathlib.Core.List.{List, [], _∷_}
 use Prim.Native.Nat.{ℕ, _≤_, _<_}
 use native.Mathlib.Omega.{arith}
 use lib.Dec.{eqb}
 use lib.ListN.{length, drop, drop-of-length-le}
-use borrow.Author.Tests.{le-ltb, ne-eqb}
+use borrow.Author.Tests.{ne-eqb}
 use Rattle.chars.specs.Pick.{pick}
 use Rattle.chars.specs.Utf8.{first, decodeAt}
 use Rattle.chars.proofs.Cases.{by-test}
@@ -18,13 +18,10 @@ use Rattle.codes.proofs.Laws.{last-accepted, last-refused}
 use Rattle.numbers.specs.Number.{admits, runOf, runAt, parseUnsignedInt, orKept, behindSign, withSign, intAt, parseInt}
 use Rattle.datefield.specs.Text.{firstOf}
 use Rattle.reading_laws.specs.Field.{parsed, parsedStrict}
-use Rattle.reading_laws.specs.Fields.{threeFields}
-use Rattle.sixfields.proofs.Back.{without-end}
 use Rattle.verdicts.specs.declared.Verdict.{Verdict}
 use Rattle.verdicts.specs.declared.Verdict.the-variants.{Full}
 use Rattle.verdicts.specs.Dates.{cellTable, otherwise, byReaders, dateVerdict}
 use Rattle.verdicts.specs.Windows.{isInt, beginsTwo}
-use Rattle.verdicts.specs.Fields.{Cells, fieldsOf, sixRead, fullUnless}
 
 -- the first byte of a value is within the text, or its end
 pub first-within : (b : ℕ) (s : List ℕ) → firstOf b s ≤ length s
@@ -67,15 +64,3 @@ module _ (s : List ℕ) (n : length s ≡ 0 → ⊥) where
 
     pub otherwise-said : 4294967296 ≤ w .last → {v : Verdict} → v ≡ otherwise (parsed s (cellTable s)) → v ≡ dateVerdict s
     otherwise-said h f = f ∙ by-ported (parsedStrict s (cellTable s)) (parsed s (cellTable s)) e h ∙ sym asked
-
--- what was read of fields, with no short year
-pub short-said : {w : Words} {short : Bool} (x : ReadDate) → short ≡ false → w ≡ wordsOf x → w .last < 4294967296 → Full ≡ fullUnless short x
-unfolding fullUnless pick
-short-said x q e h =
-    let a = last-accepted x (omega (arith, h, ap (λ (v : Words). v .last) e)) in
-    rw (a .1, q)
-
--- without an end year six cells are three
-pub no-end : (start end : Cells) → length (end .year) ≡ 0 → sixRead start end ≡ threeFields (fieldsOf start)
-unfolding sixRead
-no-end start end h = rw (le-ltb 0 (length (end .year)) (omega arith)) (without-end _ _)

@@ -38,8 +38,9 @@ use Rattle.sixfields.specs.Six.{blank, judged, endYearOf, single, unmarked, onT
 use Rattle.sixfields.proofs.Seasons.{six-none}
 use Rattle.verdicts.specs.declared.Verdict.the-variants.{NotStrict, ShortYear}
 use Rattle.verdicts.specs.Dates.{dateVerdict}
+use Rattle.verdicts.specs.Plain.{textIf, writtenText}
 use Rattle.verdicts.specs.Fields.{Cells, sixRead, sixVerdict}
-use Rattle.verdicts.proofs.Exactly.{not-strict, short-year}
+use Rattle.verdicts.proofs.Exactly.{not-strict, short-year, six-not-strict}
 
 -- ---- what is narrow has a text
 
@@ -122,12 +123,23 @@ date-has-text s d e =
     let p = not-strict s d .0 e .1 in
     has-text d (ported-none _ _ p) (parsed-narrow _ _ p)
 
--- and of six cells with a short year.
-pub six-has-text : (start end : Cells) (d : Date) → sixVerdict start end ≡ ShortYear d → HasText d
+-- of six cells that are read,
+six-text : (start end : Cells) (d : Date) → sixRead start end ≡ Accepted d → HasText d
 unfolding sixRead
-six-has-text start end d e =
-    let p = short-year start end d .0 e .read in
-    has-text d (six-none _ _ _ p) (six-narrow _ _ _ p)
+six-text start end d p = has-text d (six-none _ _ _ p) (six-narrow _ _ _ p)
+
+-- be a year short
+pub six-has-text : (start end : Cells) (d : Date) → sixVerdict start end ≡ ShortYear d → HasText d
+six-has-text start end d e = six-text start end d (short-year start end d .0 e .read)
+
+-- or something not as it should be.
+pub six-other-text : (start end : Cells) (d : Date) → sixVerdict start end ≡ NotStrict d → HasText d
+six-other-text start end d e = six-text start end d (six-not-strict start end d .0 e .0 .read)
+
+-- The text that is said is short.
+pub said-short : {d : Date} → HasText d → length (writtenText d) ≤ 40
+unfolding writtenText textIf
+said-short h = let g = h .short in rw (h .measures) (omega arith)
 
 -- So the writer answers and stores as one does to whom no Date is wrong.
 module _ (d : Date) (w : HasText d) where

@@ -14,8 +14,9 @@ use Rattle.numbers.specs.Number.{behindSign}
 use Rattle.datefield.specs.Text.{isBlank}
 use Rattle.sixfields.specs.Six.{sixFields}
 use Rattle.verdicts.specs.declared.Verdict.{Verdict}
-use Rattle.verdicts.specs.declared.Verdict.the-variants.{NoDate, Full, ShortYear, Unread, Refused}
+use Rattle.verdicts.specs.declared.Verdict.the-variants.{NoDate, Full, NotStrict, ShortYear, Unread, Refused}
 use Rattle.verdicts.specs.Dates.{cellTable}
+use Rattle.verdicts.specs.Plain.{isPlainYear, isPlainMonth, isPlainDay, isStrict}
 
 -- the texts of a start's cells, or of an end's
 pub record Cells : Type 0 where
@@ -78,15 +79,26 @@ fewDigits s = fewFrom s (behindSign s (eatWhile Whitespace s 0))
 unfoldable pub eitherFew : List ℕ → List ℕ → Bool
 eitherFew year endYear = fewDigits year || fewDigits endYear
 
--- what was read is full unless a year is short
-unfoldable pub fullUnless : Bool → ReadDate → Verdict
-fullUnless short (Accepted d) = pick short (ShortYear d) Full
-fullUnless short (NotRead e) = Refused e
+-- cells that leave nothing to be guessed
+unfoldable pub arePlain : Cells → Bool
+arePlain c = isPlainYear (c .year) && (isPlainMonth (c .month) && isPlainDay (c .day))
 
--- six cells of which one has a text: something is not read, or the reader of six fields says it
+-- the same of a start and an end
+unfoldable pub bothPlain : Cells → Cells → Bool
+bothPlain start end = arePlain start && arePlain end
+
+-- what was read: a year is short; or it is full, if the cells are plain and its written text is strict
+unfoldable pub verdictOf : Bool → Bool → ReadDate → Verdict
+verdictOf short plain (Accepted d) = pick short (ShortYear d) (pick (plain && isStrict d) Full (NotStrict d))
+verdictOf short plain (NotRead e) = Refused e
+
+-- what the reader of six fields says
+unfoldable pub readVerdict : Cells → Cells → Verdict
+readVerdict start end = verdictOf (eitherFew (start .year) (end .year)) (bothPlain start end) (sixRead start end)
+
+-- six cells of which one has a text: something is not read, or the reader says it
 unfoldable pub givenVerdict : Cells → Cells → Verdict
-givenVerdict start end =
-    pick (isUnread (start .month) (start .day) end) Unread (fullUnless (eitherFew (start .year) (end .year)) (sixRead start end))
+givenVerdict start end = pick (isUnread (start .month) (start .day) end) Unread (readVerdict start end)
 
 -- six cells; all of them may be empty
 unfoldable pub sixVerdict : Cells → Cells → Verdict

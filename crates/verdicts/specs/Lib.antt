@@ -1,3 +1,4 @@
 pub mod Dates
 pub mod Windows
+pub mod Plain
 pub mod Fields

@@ -1,22 +1,21 @@
 // What is said of the dates of a row of an import file: full, read otherwise, or refused. The text of a cell is read as one Normal chunk.
 ghost use mathlib.Core.Path.{_≡_};
-ghost use Rattle.codes.specs.Words.{wordsOf};
-ghost use Rattle.codes.specs.Typed.{Typed};
 ghost use Rattle.datefield.specs.Text as text;
 ghost use Rattle.reading_laws.specs.Field.{parsed};
-ghost use Rattle.reading_laws.specs.Fields.{threeFields};
-ghost use Rattle.refusals.specs.declared.ReadDate.{ReadDate};
 ghost use Rattle.verdicts.specs.Dates as dates_;
 ghost use Rattle.verdicts.specs.Windows as windows;
+ghost use Rattle.verdicts.specs.Plain as plain;
 ghost use Rattle.verdicts.specs.Fields as six;
-use codes::Words;
 use dates::Date;
+use dates::OptionMonth;
 use numbers::Digits;
 use numbers::ReadInt;
+use puts::Written;
 use refusals::ReadDate;
 use refusals::Refusal;
 use scanner::Class;
 use scanner::Cursor;
+use scanner::EatIf;
 
 // What is said of a date.
 pub enum Verdict {
@@ -24,7 +23,7 @@ pub enum Verdict {
     NoDate,
     // It is as it should be.
     Full,
-    // The strict reader refuses it, and the ported one reads this.
+    // It is not, and this is read.
     NotStrict(Date),
     // A year has fewer than four digits and no era, and this is read.
     ShortYear(Date),
@@ -167,55 +166,136 @@ fn either_few(year: &[u8], end_year: &[u8]) -> bool
     few_digits(year) || few_digits(end_year)
 }
 
-// What was read is full unless a year is short.
-fn full_unless(short: bool, r: ReadDate) -> Verdict
-    ensures { λ v. ⌜ v ≡ six.fullUnless short r ⌝ }
+// ---- what leaves nothing to be guessed
+
+// Whether a text is digits alone, from low to high of them.
+fn is_digits(s: &[u8], low: usize, high: usize) -> bool
+    ensures { λ r. ⌜ r ≡ plain.isDigits low high (now (s .entry)) ⌝ }
+{
+    if low <= s.len() {
+        if s.len() <= high {
+            let e = scanner::eat_while(s, Cursor(0), Class::AsciiDigit);
+            return scanner::done(s, e);
+        }
+    }
+    false
+}
+
+// Whether a text is four digits, behind a minus or not.
+fn is_full_year(s: &[u8]) -> bool
+    ensures { λ r. ⌜ r ≡ plain.isFullYear (now (s .entry)) ⌝ }
+{
+    if s.len() == 0 {
+        return false;
+    }
+    if s[0] == b'-' {
+        return is_digits(&s[1..], 4, 4);
+    }
+    is_digits(s, 4, 4)
+}
+
+// Whether a text stands at a place, and nothing behind it.
+fn ends_in(t: &[u8], s: &[u8], c: Cursor) -> bool
+    ensures { λ r. ⌜ r ≡ plain.endsIn (now (t .entry)) (now (s .entry)) (c .0) ⌝ }
+{
+    match scanner::eat_text(s, c, t) {
+        EatIf::Past(e) => scanner::done(s, e),
+        EatIf::Kept => false,
+    }
+}
+
+// Whether an era behind one space stands there.
+fn ends_in_era(s: &[u8], c: Cursor) -> bool
+    ensures { λ r. ⌜ r ≡ plain.endsInEra (now (s .entry)) (c .0) ⌝ }
+{
+    ends_in(b" AD", s, c)
+        || (ends_in(b" CE", s, c) || (ends_in(b" BC", s, c) || ends_in(b" BCE", s, c)))
+}
+
+// Whether a text is one to four digits and an era.
+fn is_era_year(s: &[u8]) -> bool
+    ensures { λ r. ⌜ r ≡ plain.isEraYear (now (s .entry)) ⌝ }
+{
+    let e = scanner::eat_while(s, Cursor(0), Class::AsciiDigit);
+    if 0 < e.0 {
+        if e.0 < 5 {
+            return ends_in_era(s, e);
+        }
+    }
+    false
+}
+
+// Whether a year's cell is plain.
+fn is_plain_year(s: &[u8]) -> bool
+    ensures { λ r. ⌜ r ≡ plain.isPlainYear (now (s .entry)) ⌝ }
+{
+    if s.len() == 0 {
+        return true;
+    }
+    is_full_year(s) || is_era_year(s)
+}
+
+// Whether a month's cell is.
+fn is_plain_month(s: &[u8]) -> bool
+    ensures { λ r. ⌜ r ≡ plain.isPlainMonth (now (s .entry)) ⌝ }
+{
+    if is_digits(s, 0, 2) {
+        return true;
+    }
+    match fields::month_for(s) {
+        OptionMonth::SomeMonth(_) => true,
+        OptionMonth::NoMonth => false,
+    }
+}
+
+// Whether three cells are.
+fn are_plain(year: &[u8], month: &[u8], day: &[u8]) -> bool
+    ensures { λ r. ⌜ r ≡ six.arePlain (six.cells (now (year .entry)) (now (month .entry)) (now (day .entry))) ⌝ }
+{
+    is_plain_year(year) && (is_plain_month(month) && is_digits(day, 0, 2))
+}
+
+// Whether the strict reader accepts a text.
+fn is_strict_text(s: &[u8]) -> bool
+    ensures { λ r. ⌜ r ≡ plain.isStrictText (now (s .entry)) ⌝ }
+{
+    let n = s.len() as u64;
+    let w = reader::parse_strict_words(s, &[0, n, 0, n]);
+    w.last < 4294967296
+}
+
+// Whether it accepts the written text of a Date.
+fn is_strict(d: Date) -> bool
+    ensures { λ r. ⌜ r ≡ plain.isStrict d ⌝ }
+{
+    let mut text = [0u8; 40];
+    match writer::write_text(d, &mut text) {
+        Written::Done(n) => is_strict_text(&text[..n]),
+        Written::Refused(_) => false,
+    }
+}
+
+// ---- a date in six cells, as it is read
+
+// What was read: a year is short, or it is full, or neither.
+fn verdict_of(short: bool, plain: bool, r: ReadDate) -> Verdict
+    ensures { λ v. ⌜ v ≡ six.verdictOf short plain r ⌝ }
 {
     match r {
         ReadDate::Accepted(d) => {
             if short {
                 return Verdict::ShortYear(d);
             }
-            Verdict::Full
+            if plain {
+                if is_strict(d) {
+                    return Verdict::Full;
+                }
+                return Verdict::NotStrict(d);
+            }
+            Verdict::NotStrict(d)
         }
         ReadDate::Refused(e) => Verdict::Refused(e),
     }
-}
-
-// The same from words. Of a full date no Date is made.
-fn words_verdict(short: bool, w: Words) -> Verdict
-    ensures { λ v. ⌜ ((x : ReadDate) → w ≡ wordsOf x → Typed x → v ≡ six.fullUnless short x) ⌝ }
-{
-    if w.last < 4294967296 {
-        if short {
-            return full_unless(short, codes::unpack(w));
-        }
-        return Verdict::Full;
-    }
-    full_unless(short, codes::unpack(w))
-}
-
-// Cells of a start without an end year.
-fn start_verdict(short: bool, year: &[u8], month: &[u8], day: &[u8]) -> Verdict
-    ensures { λ v. ⌜ v ≡ six.fullUnless short (threeFields (six.fieldsOf (six.cells (now (year .entry)) (now (month .entry)) (now (day .entry))))) ⌝ }
-{
-    let y = year.len() as u64;
-    let m = month.len() as u64;
-    let d = day.len() as u64;
-    let year_table = [0, y, 0, y];
-    let month_table = [0, m, 0, m];
-    let day_table = [0, d, 0, d];
-    let w = reader::three_words(
-        year,
-        &year_table,
-        0 < m,
-        month,
-        &month_table,
-        0 < d,
-        day,
-        &day_table,
-    );
-    words_verdict(short, w)
 }
 
 // Cells of a start and of an end, as the reader of six fields reads them.
@@ -264,7 +344,21 @@ fn is_unread(month: &[u8], day: &[u8], end_year: &[u8], end_month: &[u8], end_da
         || (behind_blank(end_year, end_month, end_day) || day_alone(end_month, end_day))
 }
 
-// What the reader of six fields says. Without an end year it is what the reader of three fields says.
+// Whether six cells are plain.
+fn both_plain(
+    year: &[u8],
+    month: &[u8],
+    day: &[u8],
+    end_year: &[u8],
+    end_month: &[u8],
+    end_day: &[u8],
+) -> bool
+    ensures { λ r. ⌜ r ≡ six.bothPlain (six.cells (now (year .entry)) (now (month .entry)) (now (day .entry))) (six.cells (now («end_year» .entry)) (now («end_month» .entry)) (now («end_day» .entry))) ⌝ }
+{
+    are_plain(year, month, day) && are_plain(end_year, end_month, end_day)
+}
+
+// What the reader of six fields says.
 fn read_verdict(
     year: &[u8],
     month: &[u8],
@@ -273,14 +367,13 @@ fn read_verdict(
     end_month: &[u8],
     end_day: &[u8],
 ) -> Verdict
-    ensures { λ r. ⌜ r ≡ six.fullUnless (six.eitherFew (now (year .entry)) (now («end_year» .entry))) (six.sixRead (six.cells (now (year .entry)) (now (month .entry)) (now (day .entry))) (six.cells (now («end_year» .entry)) (now («end_month» .entry)) (now («end_day» .entry)))) ⌝ }
+    ensures { λ r. ⌜ r ≡ six.readVerdict (six.cells (now (year .entry)) (now (month .entry)) (now (day .entry))) (six.cells (now («end_year» .entry)) (now («end_month» .entry)) (now («end_day» .entry))) ⌝ }
 {
     let short = either_few(year, end_year);
-    if end_year.len() == 0 {
-        return start_verdict(short, year, month, day);
-    }
-    full_unless(
+    let plain = both_plain(year, month, day, end_year, end_month, end_day);
+    verdict_of(
         short,
+        plain,
         read_six(year, month, day, end_year, end_month, end_day),
     )
 }

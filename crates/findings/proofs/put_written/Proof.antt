@@ -1,5 +1,5 @@
 use lib.Seq.{length-take-le}
-use Rattle.findings.proofs.Texts.{done-text, no-text}
+use Rattle.verdicts.proofs.Texts.{done-text, no-text}
 use Rattle.findings.proofs.Runs.{nothing, ran-as}
 use mathlib.Core.Path.{refl, sym}
 use borrow.Author.Needs.{needs}
