@@ -3,6 +3,8 @@ pub mod Texts
 pub mod Empty
 pub mod Plain
 pub mod Exactly
+pub mod Means
+pub mod Kept
 pub mod Written
 pub mod Unread
 pub mod Examples
