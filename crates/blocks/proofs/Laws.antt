@@ -7,7 +7,7 @@ use native.Mathlib.Omega.{arith}
 use borrow.Author.Tests.{le-leb, lt-leb}
 use lib.Dec.{leb}
 use lib.ListN.{length, getD, take, drop, set, length-drop}
-use lib.Seq.{getD-drop, getD-append-add, take-suc, drop-cons, set-at, length-take-le, take-at}
+use lib.Seq.{getD-drop, getD-append-add, take-suc, drop-cons, set-at, length-take-le, take-add, take-at, drop-at}
 use Rattle.chars.specs.Pick.{pick}
 use Rattle.blocks.specs.Moves.{movedDown}
 
@@ -20,6 +20,13 @@ moved-in from to s h g = rw (le-leb from to h, le-leb to (length s) g)
 pub moved-front : (from to : ℕ) (s : List ℕ) → from ≤ to → to ≤ length s → take (to - from) (movedDown from to s) ≡ take (to - from) (drop from s)
 moved-front from to s h g =
     ap (take (to - from)) (moved-in from to s h g) ∙ take-at (take (to - from) (drop from s)) (drop (to - from) s) (to - from) (length-take-le (to - from) (drop from s) (omega (arith, length-drop from s)))
+
+-- so what is kept of the first bytes stands there
+pub moved-kept : (from to : ℕ) (s : List ℕ) → from ≤ to → to ≤ length s → take (to - from) (movedDown from to s) ≡ drop from (take to s)
+moved-kept from to s h g =
+    let e : from + (to - from) ≡ to = omega arith in
+    moved-front from to s h g
+    ∙ sym (ap (drop from) (rw e at (take-add from (to - from) s)) ∙ drop-at (take from s) (take (to - from) (drop from s)) from (length-take-le from s (omega arith)))
 
 -- one byte more
 module _ (s : List ℕ) (from i : ℕ) (h : from + i < length s) where

@@ -5,23 +5,19 @@ use mathlib.Core.List.{List, [], _++_, append-nil}
 use Prim.Native.Nat.{ℕ, _+_, _-_, _≤_}
 use native.Mathlib.Omega.{arith}
 use lib.ListN.{length, take, drop, length-drop}
-use lib.Seq.{take-add, drop-at, length-take-le}
+use lib.Seq.{take-add, length-take-le}
+use Rattle.blocks.specs.Moves.{movedDown}
+use Rattle.blocks.proofs.Laws.{moved-kept}
 use Rattle.lines.specs.Lines.{NoFeed}
 use Rattle.lines.specs.Runs.{Run, Onward}
 use Rattle.lines.specs.Runs.Run.{read}
 
--- a front that is cut in two
-cut : (l : List ℕ) (i n : ℕ) → i ≤ n → take n l ≡ take i l ++ take (n - i) (drop i l)
-cut l i n h = let e : i + (n - i) ≡ n = omega arith in rw e at (take-add i (n - i) l)
-
-module _ (buf buf' : List ℕ) (n from : ℕ) (h : n ≤ length buf) (i : from ≤ length (take n buf)) (m : take (n - from) buf' ≡ take (n - from) (drop from buf)) where
+module _ (buf buf' : List ℕ) (n from : ℕ) (h : n ≤ length buf) (i : from ≤ length (take n buf)) (m : buf' ≡ movedDown from n buf) where
   pub in-front : from ≤ n
   in-front = omega (arith, length-take-le n buf h)
 
   moved-is : take (n - from) buf' ≡ drop from (take n buf)
-  moved-is =
-      let g = in-front in
-      m ∙ sym (ap (drop from) (cut buf from n g) ∙ drop-at (take from buf) (take (n - from) (drop from buf)) from (length-take-le from buf (omega arith)))
+  moved-is = ap (take (n - from)) m ∙ moved-kept from n buf in-front h
 
   -- what is left is the block
   pub left-onward : {answer : List ℕ → List ℕ} {limit : ℕ} {long l : Bool}

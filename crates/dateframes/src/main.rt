@@ -4,13 +4,12 @@
 ghost use mathlib.Core.Path.{_≡_};
 ghost use mathlib.Core.Bool.{true};
 ghost use mathlib.Core.List.{[]};
-ghost use Prim.Native.Nat.{_+_, _-_, _≤_, _<_};
+ghost use Prim.Native.Nat.{_+_, _≤_, _<_};
 ghost use lib.ListN.{length, take, drop};
 ghost use Rattle.lines.specs.Lines.{NoFeed};
 ghost use Rattle.lines.specs.Runs.{Onward};
 ghost use Rattle.frames.specs.Frame.{lineAnswer};
 use libc::STDIN_FILENO;
-use libc::STDOUT_FILENO;
 
 // What is kept between reads: how many bytes of a line stand at the front of the block, whether that line is too long already, and whether
 // to go on.
@@ -27,17 +26,6 @@ struct Done {
     good: bool,
 }
 
-// Writes all that was put, or says why it cannot.
-fn flush(out: &[u8], put: usize) -> bool {
-    if put <= out.len() {
-        if io::write_all(STDOUT_FILENO, &out[..put]) {
-            return true;
-        }
-    }
-    os::fail(b"standard output");
-    false
-}
-
 // Steps over a block until no line feed is left in it, and writes what each put. There is room for the longest answer, so that each step that
 // stops for room took a line, and only a write that fails ends this early.
 fn steps(block: &[u8], long: bool, out: &mut [u8]) -> Done
@@ -52,7 +40,7 @@ fn steps(block: &[u8], long: bool, out: &mut [u8]) -> Done
         let t = lines::step(&block[at..], l, out);
         at += t.bytes;
         l = t.long;
-        let good = flush(out, t.put);
+        let good = blocks::flush(out, t.put);
         if t.full & good {
             continue;
         }
@@ -61,18 +49,6 @@ fn steps(block: &[u8], long: bool, out: &mut [u8]) -> Done
             long: l,
             good,
         };
-    }
-}
-
-// Moves the bytes from a place to another down to the front.
-fn move_down(buf: &mut [u8], from: usize, to: usize)
-    requires { ⌜ (from ≤ to) × (to ≤ length (now buf)) ⌝ }
-    ensures { λ r. ⌜ take (to - from) (now (buf .exit)) ≡ take (to - from) (drop from (now (buf .entry))) ⌝ }
-{
-    let mut i = 0;
-    while i < to - from {
-        buf[i] = buf[from + i];
-        i += 1;
     }
 }
 
@@ -86,23 +62,12 @@ fn answer_read(buf: &mut [u8], have: usize, count: usize, long: bool, out: &mut 
     let n = have + count;
     let d = steps(&buf[..n], long, out);
     let from = d.from;
-    move_down(buf, from, n);
+    blocks::move_down(buf, from, n);
     State {
         have: n - from,
         long: d.long,
         more: d.good,
     }
-}
-
-// Reads, and again if a signal interrupted it; not more than a million times, so that it ends.
-fn read_on(buf: &mut [u8]) -> isize {
-    let mut got = libc::read(STDIN_FILENO, buf);
-    let mut tries: u32 = 1000000;
-    while tries > 0 && got < 0 && os::errno() == libc::EINTR {
-        got = libc::read(STDIN_FILENO, buf);
-        tries -= 1;
-    }
-    got
 }
 
 // One read, and the lines that it completes: their answers are out before the next.
@@ -116,14 +81,14 @@ fn turn(buf: &mut [u8], out: &mut [u8], st: State) -> State
         long: false,
         more: false,
     };
-    let got = read_on(&mut buf[have..]);
+    let got = blocks::read_on(STDIN_FILENO, &mut buf[have..]);
     if got < 0 {
         os::fail(b"standard input");
         return stop;
     }
     if got == 0 {
         let k = lines::finish(&buf[..have], st.long, out);
-        flush(out, k);
+        blocks::flush(out, k);
         return stop;
     }
     let count = io::count(got, &buf[have..]);

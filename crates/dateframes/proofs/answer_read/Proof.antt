@@ -11,9 +11,6 @@ use Rattle.dateframes.proofs.answer_read.Tie as tie
 slice-aggregate-steps : tie.Need-slice-aggregate-steps
 slice-aggregate-steps c = sym (length-take-le _ _ (omega arith))
 
-move-down-requires : tie.Need-move-down-requires
-move-down-requires c κs = let b = c .before .before .before in omega (arith, simp length-take at (b .steps .ensures .0))
-
 sub-t16 : tie.Need-sub-t16
 sub-t16 c = let b = c .before .before .before .before .before .before in omega (arith, simp length-take at (b .steps .ensures .0))
 
@@ -37,7 +34,7 @@ answer-read-spec =
     (λ c. search needs)
     slice-aggregate-steps
     (λ c κs. search needs)
-    move-down-requires
+    (λ c κs. search needs)
     sub-t16
     (λ c. search needs)
     (λ c. search needs)

@@ -9,7 +9,7 @@ use Rattle.frames.specs.Frame.{lineAnswer}
 use Rattle.lines.proofs.Unique.{goes-on}
 use Rattle.lines.proofs.Ways.{frames-way}
 use Rattle.lines.proofs.Onwards.{onward-none, onward-step, onward-over, stays-in}
-use Rattle.dateframes.proofs.Moved.{went-on, no-stop}
+use Rattle.dateframes.proofs.Stops.{went-on, no-stop}
 use Rattle.dateframes.proofs.steps.Statement.{statement}
 use Rattle.dateframes.proofs.steps.Tie as tie
 
