@@ -4,7 +4,7 @@ use mathlib.Core.Bool.{Bool, true, false, false≢true}
 use mathlib.Core.List.{List, [], _∷_, _++_}
 use Prim.Native.Nat.{ℕ, _+_, _-_, _≤_, _<_}
 use native.Mathlib.Omega.{arith}
-use borrow.Author.Tests.{le-leb, le-ltb, ltb-false}
+use borrow.Author.Tests.{le-leb, le-ltb, ltb-false, leb-true, leb-false}
 use lib.Dec.{eqb, leb, ltb}
 use lib.ListN.{length, getD, take, drop, length-append, length-drop}
 use lib.Seq.{take-append-le, drop-append-le}
@@ -164,26 +164,51 @@ names-in-told (Endless f) cs h = many-told
 names-in-told More cs h = absurd (h refl)
 names-in-told Nothing cs h = many-told
 
-names-told : (sep : Separator) (s : List ℕ) → namesBy sep true s ≡ Undecided → ⊥
+names-told : (sep : Separator) (last : Bool) (s : List ℕ) → (answer (byteOf sep) last s ≡ More → ⊥) → namesBy sep last s ≡ Undecided → ⊥
 unfolding namesBy
-names-told sep s = names-in-told (answer (byteOf sep) true s) (rowCells sep true s) (no-more (byteOf sep) s)
+names-told sep last s = names-in-told (answer (byteOf sep) last s) (rowCells sep last s)
 
 on-told : (m : Names) (go : ℕ → Header) → (m ≡ Undecided → ⊥) → ((k : ℕ) → Told (go k)) → Told (onNames m go)
 unfolding onNames
 on-told (Many k) go h g = g k
 on-told Undecided go h g = absurd (h refl)
 
-row-told : (n : ℕ) (s : List ℕ) → Told (headerRow n true s)
+-- a header is told where by each separator a row is
+row-told : (n : ℕ) (last : Bool) (s : List ℕ) → ((sep : ℕ) → answer sep last s ≡ More → ⊥) → Told (headerRow n last s)
 unfolding headerRow headerBy
-row-told n s =
-    on-told (namesBy Comma true s) _ (names-told Comma s)
-    (λ comma. on-told (namesBy Semicolon true s) _ (names-told Semicolon s)
-    (λ semicolon. on-told (namesBy Tab true s) _ (names-told Tab s)
+row-told n last s m =
+    on-told (namesBy Comma last s) _ (names-told Comma last s (m (byteOf Comma)))
+    (λ comma. on-told (namesBy Semicolon last s) _ (names-told Semicolon last s (m (byteOf Semicolon)))
+    (λ semicolon. on-told (namesBy Tab last s) _ (names-told Tab last s (m (byteOf Tab)))
     (λ tab.
     let sep = chosen comma semicolon tab in
-    in-told n sep s (answer (byteOf sep) true s) (rowCells sep true s) (no-more (byteOf sep) s))))
+    in-told n sep s (answer (byteOf sep) last s) (rowCells sep last s) (m (byteOf sep)))))
 
 -- no header is waited for at the file's end
 pub header-decides : (s : List ℕ) → header true s ≡ Wait → ⊥
 unfolding header headerBehind pick
-header-decides s = row-told (markLen s) (drop (markLen s) s)
+header-decides s = row-told (markLen s) true (drop (markLen s) s) (λ sep. no-more sep (drop (markLen s) s))
+
+-- nor of a block that is longer than a row behind a byte order mark
+mark-most : (s : List ℕ) → markLen s ≤ 3
+unfolding markLen
+mark-most s =
+    by-test Few (leb 3 (length s))
+    (λ _. by-test Few (eqb (getD s 0 0) 0xEF) (λ _. by-test Few (eqb (getD s 1 0) 0xBB) (λ _. by-test Few (eqb (getD s 2 0) 0xBF) (λ _. omega arith) (λ _. omega arith)) (λ _. omega arith)) (λ _. omega arith))
+    (λ _. omega arith)
+  where
+    Few : ℕ → Type 0
+    Few n = n ≤ 3
+
+long-told : (s : List ℕ) → 65539 < length s → header false s ≡ Wait → ⊥
+unfolding headerBehind
+long-told s h e =
+    let rest = drop (markLen s) s in
+    let m = mark-most s in
+    let l = length-drop (markLen s) s in
+    row-told (markLen s) false rest (λ sep q. let k = more-short sep false rest q .1 in omega arith) (sym (header-full false s (omega arith)) ∙ e)
+
+-- so one is waited for only before the file's end, and of a short block
+pub header-waits : (last : Bool) (s : List ℕ) → header last s ≡ Wait → (last ≡ false) × (length s ≤ 65539)
+header-waits true s e = absurd (header-decides s e)
+header-waits false s e = (refl, of-test (leb (length s) 65539) (λ q. leb-true (length s) 65539 q) (λ q. absurd (long-told s (leb-false (length s) 65539 q) e)))

@@ -7,6 +7,7 @@ pub mod Bounds
 pub mod Stepping
 pub mod Skips
 pub mod Steady
+pub mod Waits
 pub mod Theorems
 pub mod Counts
 pub mod Safe

@@ -22,7 +22,7 @@ use Rattle.headers.specs.declared.Header.{Header}
 use Rattle.headers.specs.declared.Header.the-variants.{Wait, Without, With}
 use Rattle.headers.specs.Header.{header, rowCells}
 use Rattle.headers.proofs.Moves.{header-advances}
-use Rattle.headers.proofs.Stays.{cells-stay, header-stays, header-decides}
+use Rattle.headers.proofs.Stays.{cells-stay, header-stays, header-waits}
 use Rattle.sheets.specs.declared.Phase.{Phase}
 use Rattle.sheets.specs.declared.Phase.the-variants.{Start, Rows, Skipping}
 use Rattle.sheets.specs.declared.State.{State}
@@ -79,14 +79,10 @@ data Moving (size : ℕ) (last : Bool) : Outcome State → Type 0 where
   takes : {n : ℕ} {text : List ℕ} {kept : State} → 0 < n → n ≤ size → Moving size last (took n text kept)
   ends : {text : List ℕ} → Moving size last (over text)
 
-waits-before : (last : Bool) (s : List ℕ) → header last s ≡ Wait → last ≡ false
-waits-before true s e = absurd (header-decides s e)
-waits-before false s e = refl
-
 module _ (st : State) (last : Bool) (s : List ℕ) where
   start-moving : (h : Header) → header last s ≡ h → Moving (length s) last (startStep st s h)
   unfolding startStep
-  start-moving Wait e = waits (waits-before last s e)
+  start-moving Wait e = waits (header-waits last s e .0)
   start-moving (Without why) e = ends
   start-moving (With bytes sep columns cells) e = let a = header-advances last s e in takes (a .0) (a .1)
 
