@@ -1,11 +1,10 @@
 -- What is so of a part that was moved down to the front of its block. Assumes nothing.
-use mathlib.Core.Path.{_≡_, refl, sym, ap, _∙_}
+use mathlib.Core.Path.{_≡_, sym, ap, _∙_}
 use mathlib.Core.List.{List, [], _∷_, _++_, append-assoc}
 use Prim.Native.Nat.{ℕ, suc, _+_, _-_, _≤_, _<_}
 use native.Mathlib.Numerals.{add-one}
 use native.Mathlib.Omega.{arith}
 use borrow.Author.Tests.{le-leb, lt-leb}
-use lib.Dec.{leb}
 use lib.ListN.{length, getD, take, drop, set, length-drop}
 use lib.Seq.{getD-drop, getD-append-add, take-suc, drop-cons, set-at, length-take-le, take-add, take-at, drop-at}
 use Rattle.chars.specs.Pick.{pick}
@@ -21,12 +20,15 @@ pub moved-front : (from to : ℕ) (s : List ℕ) → from ≤ to → to ≤ leng
 moved-front from to s h g =
     ap (take (to - from)) (moved-in from to s h g) ∙ take-at (take (to - from) (drop from s)) (drop (to - from) s) (to - from) (length-take-le (to - from) (drop from s) (omega (arith, length-drop from s)))
 
--- so what is kept of the first bytes stands there
-pub moved-kept : (from to : ℕ) (s : List ℕ) → from ≤ to → to ≤ length s → take (to - from) (movedDown from to s) ≡ drop from (take to s)
-moved-kept from to s h g =
+-- the bytes from a place to another are what lies from the one on of those before the other
+pub part-is : (from to : ℕ) (s : List ℕ) → from ≤ to → to ≤ length s → take (to - from) (drop from s) ≡ drop from (take to s)
+part-is from to s h g =
     let e : from + (to - from) ≡ to = omega arith in
-    moved-front from to s h g
-    ∙ sym (ap (drop from) (rw e at (take-add from (to - from) s)) ∙ drop-at (take from s) (take (to - from) (drop from s)) from (length-take-le from s (omega arith)))
+    sym (ap (drop from) (rw e at (take-add from (to - from) s)) ∙ drop-at (take from s) (take (to - from) (drop from s)) from (length-take-le from s (omega arith)))
+
+-- so what is kept of the first bytes stands at the front
+pub moved-kept : (from to : ℕ) (s : List ℕ) → from ≤ to → to ≤ length s → take (to - from) (movedDown from to s) ≡ drop from (take to s)
+moved-kept from to s h g = moved-front from to s h g ∙ part-is from to s h g
 
 -- one byte more
 module _ (s : List ℕ) (from i : ℕ) (h : from + i < length s) where

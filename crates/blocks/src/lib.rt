@@ -3,8 +3,8 @@ ghost use mathlib.Core.Path.{_≡_};
 ghost use mathlib.Core.Bool.{true};
 ghost use Prim.Native.Nat.{_≤_};
 ghost use lib.ListN.{length};
-ghost use Rattle.libc.specs.Io.{Moved};
 ghost use Rattle.blocks.specs.Moves.{movedDown};
+ghost use Rattle.blocks.specs.Reads.{MayRead};
 use libc::STDOUT_FILENO;
 
 // Moves the bytes from a place to another down to the front; places that are not in the block in this order move nothing.
@@ -38,7 +38,7 @@ pub fn flush(out: &[u8], put: usize) -> bool
 // Reads, and again if a signal interrupted it; not more than a million times, so that it ends. The answer is -1, or how many bytes were read,
 // which are no more than were lent.
 pub fn read_on(fd: i32, buf: &mut [u8]) -> isize
-    ensures { λ r. ⌜ Moved (length (now (buf .entry))) r ⌝ }
+    ensures { λ r. ⌜ MayRead (length (now (buf .entry))) r ⌝ }
 {
     let mut got = libc::read(fd, buf);
     let mut tries: u32 = 1000000;

@@ -1,2 +1,3 @@
-pub mod Moved
+pub mod Filled
 pub mod Taking
+pub mod Turning

@@ -7,7 +7,7 @@ use native.Mathlib.Omega.{arith}
 use borrow.Rule.Slice.PartMut.{putMid, take-put}
 use lib.Dec.{ltb}
 use lib.ListN.{length, take, drop, length-append, length-drop}
-use lib.Seq.{take-all, take-add, take-at, take-append-le, drop-at, drop-drop, length-take-le}
+use lib.Seq.{take-all, take-at, drop-drop}
 use Rattle.chars.specs.Pick.{pick}
 use Rattle.runs.specs.Steps.{Outcome}
 use Rattle.runs.specs.Steps.Outcome.{wait, took, over}
@@ -22,6 +22,7 @@ use Rattle.sheets.proofs.Steady.{steady}
 use Rattle.datecheck.specs.Goes.{Went}
 use Rattle.datecheck.specs.Goes.Went.{waits, full, ends}
 use Rattle.datecheck.specs.declared.Stop.the-variants.{Waits, Full, Over as Ends}
+use Rattle.datecheck.proofs.Filled.{filled}
 
 -- a text of so many bytes stands at the front of the output
 record Says (o : Outcome State) (whole : List ℕ → Outcome State) (k : ℕ) (s s' : List ℕ) : Type 0 where
@@ -77,11 +78,7 @@ module _ (block out : List ℕ) (at put : ℕ) (ha : at ≤ length block) (hp : 
   same = take-put put (length out - put) out s' hp
 
   more : (n : ℕ) → n ≤ length s' → take (put + n) (putMid put (length out - put) out s') ≡ take put out ++ take n s'
-  more n h =
-      take-add put n (putMid put (length out - put) out s')
-      ∙ ap (λ (x : List ℕ). x ++ take n (drop put (putMid put (length out - put) out s'))) same
-      ∙ ap (λ (x : List ℕ). take put out ++ take n x) (drop-at (take put out) _ put (length-take-le put out hp))
-      ∙ ap (λ (x : List ℕ). take put out ++ x) (take-append-le n s' _ h)
+  more n h = filled out s' put n hp h
 
   sized : length s' ≡ length out - put
   sized = l ∙ ap length (part-is out put) ∙ length-drop put out

@@ -3,12 +3,11 @@
 // sheets; here is only the reading and the writing.
 ghost use mathlib.Core.Path.{_≡_};
 ghost use mathlib.Core.Bool.{true};
-ghost use Prim.Native.Nat.{_-_, _≤_};
+ghost use Prim.Native.Nat.{_-_, _≤_, _<_};
 ghost use lib.ListN.{length, take, drop};
-ghost use Rattle.datecheck.specs.Goes.{Went};
+ghost use Rattle.datecheck.specs.Goes.{Went, Refilled, Turned};
 use libc::STDERR_FILENO;
 use libc::STDIN_FILENO;
-use libc::STDOUT_FILENO;
 use sheets::State;
 use sheets::Taken;
 
@@ -35,17 +34,6 @@ struct Progress {
     last: bool,
     more: bool,
     state: State,
-}
-
-// Writes all that was put, or says why it cannot.
-fn flush(out: &[u8], put: usize) -> bool
-    requires { ⌜ put ≤ length (now out) ⌝ }
-{
-    if io::write_all(STDOUT_FILENO, &out[..put]) {
-        return true;
-    }
-    os::fail(b"standard output");
-    false
 }
 
 // Steps over a block, from the front of the output on: a run goes on by just what is put there.
@@ -86,37 +74,15 @@ fn stopped(from: usize, put: usize, stop: Stop, state: State) -> Done
     }
 }
 
-// Moves the bytes from a place to another down to the front.
-fn move_down(buf: &mut [u8], from: usize, to: usize)
-    requires { ⌜ (from ≤ to) × (to ≤ length (now buf)) ⌝ }
-    ensures { λ r. ⌜ take (to - from) (now (buf .exit)) ≡ take (to - from) (drop from (now (buf .entry))) ⌝ }
-{
-    let mut i = 0;
-    while i < to - from {
-        buf[i] = buf[from + i];
-        i += 1;
-    }
-}
-
-// Reads, and again if a signal interrupted it; not more than a million times, so that it ends.
-fn read_on(fd: i32, buf: &mut [u8]) -> isize {
-    let mut got = libc::read(fd, buf);
-    let mut tries: u32 = 1000000;
-    while tries > 0 && got < 0 && os::errno() == libc::EINTR {
-        got = libc::read(fd, buf);
-        tries -= 1;
-    }
-    got
-}
-
-// Moves what was not taken to the front of the block, and reads behind it; nothing read is the file's end.
+// Moves what was not taken to the front of the block, and reads behind it, where there is room; nothing read is the file's end.
 fn refill(fd: i32, buf: &mut [u8], from: usize, have: usize, state: State) -> Progress
-    requires { ⌜ (from ≤ have) × (have ≤ length (now buf)) ⌝ }
+    requires { ⌜ (from ≤ have) × ((have ≤ length (now buf)) × (have - from < length (now buf))) ⌝ }
     ensures { λ r. ⌜ (r .from ≤ r .have) × (r .have ≤ length (now (buf .exit))) ⌝ }
+    ensures { λ r. ⌜ (r .state ≡ state) × (r .more ≡ true → Refilled (drop from (take have (now (buf .entry)))) (r .last) (drop (r .from) (take (r .have) (now (buf .exit))))) ⌝ }
 {
     let n = have - from;
-    move_down(buf, from, have);
-    let got = read_on(fd, &mut buf[n..]);
+    blocks::move_down(buf, from, have);
+    let got = blocks::read_on(fd, &mut buf[n..]);
     if got < 0 {
         os::fail(b"the file");
         return Progress {
@@ -137,10 +103,12 @@ fn refill(fd: i32, buf: &mut [u8], from: usize, have: usize, state: State) -> Pr
     }
 }
 
-// The steps over what stands in the block. What they put is out before the next turn, and before the next read.
+// The steps over what stands in the block. What they put is out before the next turn, and before the next read. Steps that wait have left so
+// little that there is room to read.
 fn turn(fd: i32, buf: &mut [u8], table: &mut [usize; 512], out: &mut [u8], p: Progress) -> Progress
-    requires { ⌜ (p .from ≤ p .have) × (p .have ≤ length (now buf)) ⌝ }
+    requires { ⌜ (p .from ≤ p .have) × ((p .have ≤ length (now buf)) × (65539 < length (now buf))) ⌝ }
     ensures { λ r. ⌜ (r .from ≤ r .have) × (r .have ≤ length (now (buf .exit))) ⌝ }
+    ensures { λ r. ⌜ (r .more ≡ true → Turned (p .last) (drop (p .from) (take (p .have) (now (buf .entry)))) (p .state) (now (out .exit)) (r .last) (drop (r .from) (take (r .have) (now (buf .exit)))) (r .state)) ⌝ }
 {
     let from = p.from;
     let have = p.have;
@@ -148,7 +116,7 @@ fn turn(fd: i32, buf: &mut [u8], table: &mut [usize; 512], out: &mut [u8], p: Pr
     let d = steps(&buf[from..have], p.last, st, table, out);
     let at = from + d.from;
     let kept = d.state;
-    let good = flush(out, d.put);
+    let good = blocks::flush(out, d.put);
     let stop = d.stop;
     match stop {
         Stop::Waits => {
@@ -177,7 +145,9 @@ fn turn(fd: i32, buf: &mut [u8], table: &mut [usize; 512], out: &mut [u8], p: Pr
 }
 
 // The loop: a count of turns that no run uses up falls.
-fn run(fd: i32, buf: &mut [u8], table: &mut [usize; 512], out: &mut [u8]) {
+fn run(fd: i32, buf: &mut [u8], table: &mut [usize; 512], out: &mut [u8])
+    requires { ⌜ 65539 < length (now buf) ⌝ }
+{
     let mut turns = u64::MAX;
     let mut p = Progress {
         from: 0,

@@ -7,18 +7,18 @@ use mir.Syntax.{w64}
 use mir.Val.{SFits, ofZ, toZ}
 use mir.ValLaws.{toZ-ofZ}
 use borrow.Author.Needs.{needs}
-use Rattle.libc.specs.Io.{Moved}
+use Rattle.blocks.specs.Reads.{MayRead}
 use Rattle.blocks.proofs.read_on.Statement.{statement}
 use Rattle.blocks.proofs.read_on.Tie as tie
 
 abbrev Inv-loop : tie.InvT-loop
-Inv-loop fd buf₀ got₀ tries₀ buf got tries = (length buf ≡ length buf₀) × Moved (length buf₀) (toZ w64 got)
+Inv-loop fd buf₀ got₀ tries₀ buf got tries = (length buf ≡ length buf₀) × MayRead (length buf₀) (toZ w64 got)
 
 abbrev μ-loop : tie.MeasureT-loop
 μ-loop fd buf₀ got₀ tries₀ buf got tries = tries
 
 -- what one read answers, of a buffer that is as long
-told : (n n′ : ℕ) (z : ℤ) → n ≡ n′ → SFits w64 z → Moved n z → Moved n′ (toZ w64 (ofZ w64 z))
+told : (n n′ : ℕ) (z : ℤ) → n ≡ n′ → SFits w64 z → MayRead n z → MayRead n′ (toZ w64 (ofZ w64 z))
 told n n′ z e f m = rw (toZ-ofZ w64 z f, ← e) m
 
 loop-holds : tie.Need-loop-holds Inv-loop μ-loop
@@ -35,10 +35,10 @@ loop-again c =
     (omega arith, told (length (m .loop .buf)) (length (y .read .last .1 .0)) (x .read2 .result) (omega arith) (record { sfits = x .read2 .ok }) (x .read2 .ensures))
 
 -- the answer is that of the last
-answered : (n n′ : ℕ) (z : ℤ) → n ≡ n′ → Moved n z → Moved n′ z
+answered : (n n′ : ℕ) (z : ℤ) → n ≡ n′ → MayRead n z → MayRead n′ z
 answered n n′ z e m = rw (← e) m
 
-returns-at : (m : tie.At-loop Inv-loop μ-loop) → Moved (length (m .before .before .before .before .before .before .args .buf .now)) (toZ w64 (m .loop .got))
+returns-at : (m : tie.At-loop Inv-loop μ-loop) → MayRead (length (m .before .before .before .before .before .before .args .buf .now)) (toZ w64 (m .loop .got))
 returns-at m =
     let y = m .before .before .before in
     answered (length (y .read .last .1 .0)) (length (y .before .before .before .args .buf .now)) (toZ w64 (m .loop .got)) (omega arith) (m .loop .inv .1)
