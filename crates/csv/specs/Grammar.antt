@@ -54,7 +54,9 @@ pub record Limited (sep : ℕ) (s : List ℕ) (end count : ℕ) : Type 0 where
   pub some : 0 < length s
   -- the number of cells
   pub counted : length places ≡ count
+  -- the limit of cells
   pub few : count ≤ 256
   -- the number of bytes
   pub measured : end + length rest ≡ length s
+  -- the limit of bytes
   pub short : end ≤ 65536

@@ -9,9 +9,13 @@ use Rattle.runs.specs.Steps.Outcome.{took, over}
 
 -- a piece of a file: its bytes, what is said of it, and what was kept before it and behind it
 pub record Piece (State : Type 0) : Type 0 where
+  -- its bytes
   pub bytes : List ℕ
+  -- what is said of it
   pub text : List ℕ
+  -- what was kept before it
   pub before : State
+  -- what is kept behind it
   pub behind : State
 
 -- the bytes of pieces, one behind the other

@@ -44,16 +44,27 @@ pub record Told (t : List ℕ) (count : Tally → Tally) (before : List ℕ) (s 
 
 -- the cells that are looked at are short
 pub record Short (c : Columns) (cs : List (List ℕ)) : Type 0 where
+  -- that of the key
   pub key : length (ownAt cs (keyColumn c)) ≤ 4096
+  -- of `date`
   pub date : length (ownAt cs (c .date)) ≤ 4096
+  -- of `origdate`
   pub origdate : length (ownAt cs (c .origdate)) ≤ 4096
+  -- of `eventdate`
   pub eventdate : length (ownAt cs (c .eventdate)) ≤ 4096
+  -- of `urldate`
   pub urldate : length (ownAt cs (c .urldate)) ≤ 4096
+  -- of `year`
   pub year : length (ownAt cs (c .year)) ≤ 4096
+  -- of `month`
   pub month : length (ownAt cs (c .month)) ≤ 4096
+  -- of `day`
   pub day : length (ownAt cs (c .day)) ≤ 4096
+  -- of `endyear`
   pub endyear : length (ownAt cs (c .endyear)) ≤ 4096
+  -- of `endmonth`
   pub endmonth : length (ownAt cs (c .endmonth)) ≤ 4096
+  -- of `endday`
   pub endday : length (ownAt cs (c .endday)) ≤ 4096
 
 -- the place behind what a writer wrote
@@ -77,11 +88,17 @@ SixTold line key year month day endYear endMonth endDay before s after r =
 
 -- the own bytes of six cells are their texts
 pub record NoQuotes (year month day endYear endMonth endDay : List ℕ) : Type 0 where
+  -- those of `year`
   pub year-is : undoubled year ≡ year
+  -- of `month`
   pub month-is : undoubled month ≡ month
+  -- of `day`
   pub day-is : undoubled day ≡ day
+  -- of `endyear`
   pub endyear-is : undoubled endYear ≡ endYear
+  -- of `endmonth`
   pub endmonth-is : undoubled endMonth ≡ endMonth
+  -- of `endday`
   pub endday-is : undoubled endDay ≡ endDay
 
 -- nothing is put yet, and this is counted
