@@ -277,8 +277,8 @@ fn put_short(d: Date, out: &mut [u8], at: usize) -> usize
     put_written(d, out, k)
 }
 
-// Whether a verdict says anything.
-fn is_said(v: Verdict) -> bool
+// Whether a verdict says anything: of no date, and of a full one, nothing is said.
+pub fn is_said(v: Verdict) -> bool
     ensures { λ r. ⌜ r ≡ words.isSaid v ⌝ }
 {
     match v {

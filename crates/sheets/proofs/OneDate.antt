@@ -2,52 +2,26 @@
 use Rattle.verdicts.specs.Fields.{cells, sixVerdict}
 use Prim.Native.Nat.{ℕ, _≤_}
 use Rattle.csv.specs.Texts.{undoubled}
-use Rattle.chars.specs.Pick.{pick}
 use Rattle.sheets.specs.Tallies.{oneDate}
 use lib.ListN.{length}
-use Rattle.verdicts.specs.Windows.{isWindowed}
 use Rattle.findings.specs.Words.{isSaid}
 use Rattle.sheets.proofs.Goings.{going-none}
 use Rattle.verdicts.specs.Dates.{dateVerdict}
 use Rattle.sheets.specs.Rows.{dateSaid, windowedIf}
-use Rattle.findings.specs.Lines.{dateLine, verdictLine, sixLine}
+use Rattle.findings.specs.Lines.{dateLine, sixLine}
+use Rattle.findings.proofs.Shape.{date-unsaid, six-unsaid}
 use mathlib.Core.Path.{ap, subst, _∙_, _≡_}
 use Rattle.sheets.specs.declared.Said.{Said}
 use mathlib.Core.List.{List}
 use Rattle.sheets.specs.Inside.{Going, Told, counting, SixTold}
 use mathlib.Core.Bool.{Bool, false}
-use Rattle.verdicts.specs.declared.Verdict.the-variants.{NoDate, Full, NotStrict, ShortYear, Unread, Refused}
-use Rattle.dates.specs.declared.Date.{Date}
-use Rattle.refusals.specs.declared.Refusal.{Refusal}
 use Rattle.findings.specs.declared.Column.{Column}
 use Rattle.verdicts.specs.declared.Verdict.{Verdict}
 
--- where there is no date, or a strict one, nothing is said
-module _ (line : ℕ) (key : List ℕ) (column : Column) (cell out : List ℕ) (p : ℕ) (h : p ≤ length out) where
-  pub say-nothing : {v : Verdict} (w : Bool) → v ≡ NoDate → Going (dateLine line key column cell v w) out p out p
-  unfolding dateLine verdictLine isSaid pick
-  say-nothing w e = rw e (going-none out p h)
-
-  pub say-strict : {v : Verdict} (w : Bool) → v ≡ Full → Going (dateLine line key column cell v w) out p out p
-  unfolding dateLine verdictLine isSaid pick
-  say-strict w e = rw e (going-none out p h)
-
-module _ (cell : List ℕ) {v : Verdict} where
-  pub asks-window : {d : Date} → v ≡ NotStrict d → windowedIf v cell ≡ isWindowed cell
-  unfolding windowedIf
-  asks-window e = rw e
-
-  pub short-window : {d : Date} → v ≡ ShortYear d → windowedIf v cell ≡ false
-  unfolding windowedIf
-  short-window e = rw e
-
-  pub unread-window : v ≡ Unread → windowedIf v cell ≡ false
-  unfolding windowedIf
-  unread-window e = rw e
-
-  pub refused-window : {x : Refusal} → v ≡ Refused x → windowedIf v cell ≡ false
-  unfolding windowedIf
-  refused-window e = rw e
+-- where the verdict says nothing, nothing is put
+pub date-nothing : (line : ℕ) (key : List ℕ) (column : Column) (cell out : List ℕ) (p : ℕ) → p ≤ length out → (v : Verdict) (w : Bool) → isSaid v ≡ false
+    → Going (dateLine line key column cell v w) out p out p
+date-nothing line key column cell out p h v w e = rw (date-unsaid line key column cell v w e) (going-none out p h)
 
 -- what is said of a cell, by another name of its own bytes
 pub own-told : (line : ℕ) (key : List ℕ) (column : Column) {own own' out out' : List ℕ} {s r : Said} → own ≡ own'
@@ -72,14 +46,10 @@ date-told line key column cell e g t = record { text = rw (← e) g; tally = t �
 
 -- ---- six cells
 
-module _ (line : ℕ) (key y m d ey em ed out : List ℕ) (p : ℕ) (h : p ≤ length out) where
-  pub six-nothing : {v : Verdict} → v ≡ NoDate → Going (sixLine line key y m d ey em ed v) out p out p
-  unfolding sixLine verdictLine isSaid pick
-  six-nothing e = rw e (going-none out p h)
-
-  pub six-strict : {v : Verdict} → v ≡ Full → Going (sixLine line key y m d ey em ed v) out p out p
-  unfolding sixLine verdictLine isSaid pick
-  six-strict e = rw e (going-none out p h)
+-- where the verdict says nothing, nothing is put
+pub six-nothing : (line : ℕ) (key y m d ey em ed out : List ℕ) (p : ℕ) → p ≤ length out → (v : Verdict) → isSaid v ≡ false
+    → Going (sixLine line key y m d ey em ed v) out p out p
+six-nothing line key y m d ey em ed out p h v e = rw (six-unsaid line key y m d ey em ed v e) (going-none out p h)
 
 -- by its verdict
 pub six-told : (line : ℕ) (key y m d ey em ed : List ℕ) {out out' : List ℕ} {s r : Said} {v : Verdict} → v ≡ sixVerdict (cells y m d) (cells ey em ed)

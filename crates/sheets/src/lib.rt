@@ -363,7 +363,21 @@ fn put_unread(why: Unusable, out: &mut [u8], p: usize) -> usize
 
 // ---- a date in one cell
 
-// The line of a verdict, if it says anything; of a date that is not strict it is asked whether its year was windowed.
+// Of a date that is not strict it is asked whether its year was windowed.
+fn windowed_if(v: Verdict, cell: &[u8]) -> bool
+    ensures { λ r. ⌜ r ≡ rows_.windowedIf v (now (cell .entry)) ⌝ }
+{
+    match v {
+        Verdict::NoDate => false,
+        Verdict::Full => false,
+        Verdict::NotStrict(_) => verdicts::is_windowed(cell),
+        Verdict::ShortYear(_) => false,
+        Verdict::Unread => false,
+        Verdict::Refused(_) => false,
+    }
+}
+
+// The line of a verdict, if it says anything.
 fn say_date(
     line: u32,
     key: &[u8],
@@ -376,17 +390,11 @@ fn say_date(
     requires { ⌜ p ≤ length (now out) ⌝ }
     ensures { λ r. ⌜ Going (lines_.dateLine line (now (key .entry)) column (now (cell .entry)) v (rows_.windowedIf v (now (cell .entry)))) (now (out .entry)) p (now (out .exit)) r ⌝ }
 {
-    match v {
-        Verdict::NoDate => p,
-        Verdict::Full => p,
-        Verdict::NotStrict(_) => {
-            let windowed = verdicts::is_windowed(cell);
-            put_date(line, key, column, cell, v, windowed, out, p)
-        }
-        Verdict::ShortYear(_) => put_date(line, key, column, cell, v, false, out, p),
-        Verdict::Unread => put_date(line, key, column, cell, v, false, out, p),
-        Verdict::Refused(_) => put_date(line, key, column, cell, v, false, out, p),
+    if findings::is_said(v) {
+        let windowed = windowed_if(v, cell);
+        return put_date(line, key, column, cell, v, windowed, out, p);
     }
+    p
 }
 
 // A date by its text: its line, and its count.
@@ -523,10 +531,8 @@ fn say_six(
     requires { ⌜ p ≤ length (now out) ⌝ }
     ensures { λ r. ⌜ Going (lines_.sixLine line (now (key .entry)) (now (year .entry)) (now (month .entry)) (now (day .entry)) (now (endyear .entry)) (now (endmonth .entry)) (now (endday .entry)) v) (now (out .entry)) p (now (out .exit)) r ⌝ }
 {
-    match v {
-        Verdict::NoDate => p,
-        Verdict::Full => p,
-        Verdict::NotStrict(_) => put_six(
+    if findings::is_said(v) {
+        return put_six(
             line,
             key,
             year,
@@ -538,47 +544,9 @@ fn say_six(
             v,
             out,
             p,
-        ),
-        Verdict::ShortYear(_) => put_six(
-            line,
-            key,
-            year,
-            month,
-            day,
-            endyear,
-            endmonth,
-            endday,
-            v,
-            out,
-            p,
-        ),
-        Verdict::Unread => put_six(
-            line,
-            key,
-            year,
-            month,
-            day,
-            endyear,
-            endmonth,
-            endday,
-            v,
-            out,
-            p,
-        ),
-        Verdict::Refused(_) => put_six(
-            line,
-            key,
-            year,
-            month,
-            day,
-            endyear,
-            endmonth,
-            endday,
-            v,
-            out,
-            p,
-        ),
+        );
     }
+    p
 }
 
 // A date by the texts of six cells: its line, and its count.
