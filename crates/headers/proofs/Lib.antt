@@ -4,3 +4,4 @@ pub mod Rows
 pub mod Csv
 pub mod Moves
 pub mod Stays
+pub mod Examples

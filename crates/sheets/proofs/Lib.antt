@@ -11,3 +11,4 @@ pub mod Waits
 pub mod Theorems
 pub mod Counts
 pub mod Safe
+pub mod Examples
