@@ -31,6 +31,7 @@ pub record Turned (last : Bool) (b : List ℕ) (st : State) (out : List ℕ) (la
   pub new : List ℕ
   -- so many of the output were written
   pub put : ℕ
+  -- no more than there are
   pub fits : put ≤ length out
   -- a run goes on by just these, whatever was read and written before
   pub run : {first : State} {s w : List ℕ} → Run next first last s b st w → Run next first last' (s ++ new) b' st' (w ++ take put out)
