@@ -1,4 +1,5 @@
 pub mod Counts
 pub mod Puts
 pub mod Answered
+pub mod Lent
 pub mod Examples

@@ -3,26 +3,26 @@ use Rattle.chars.specs.Classes.{within}
 use mathlib.Core.Path.{_≡_, refl, ap, _∙_}
 use mathlib.Core.Bool.{false}
 use mathlib.Core.List.{List, [], _++_}
-use Prim.Native.Nat.{ℕ, _+_, _-_, _≤_}
+use Prim.Native.Nat.{ℕ, _+_, _-_, _≤_, _<_}
 use native.Mathlib.Nat.{zero-add}
 use native.Mathlib.Omega.{arith}
 use borrow.Rule.Slice.PartMut.{putMid}
 use lib.ListN.{length, take, drop}
 use Rattle.puts.specs.declared.Written.{Written}
 use Rattle.puts.specs.declared.Written.the-variants.{Done, Refused}
-use Rattle.puts.specs.Answers.{answer, afterwards}
+use Rattle.puts.specs.Answers.{answer, afterwards, Put}
 use Rattle.puts.proofs.Puts.{nothing, first-fits, kept, room, both, at-front}
-use Rattle.lines.specs.Steps.{Replied}
-use Rattle.lines.specs.Steps.Replied.{was-put, no-room}
-use Rattle.lines.proofs.Replies.{in-range, put-done, put-none}
+use Rattle.puts.proofs.Lent.{in-range, put-done, put-none}
 use Rattle.sheets.specs.declared.Tally.{Tally}
 use Rattle.sheets.specs.declared.Said.{Said}
 use Rattle.sheets.specs.Inside.{Going, Told, advancedBy, InRange}
 
-replied-going : {t out out' : List ℕ} {p r : ℕ} → p ≤ length out → Replied t out p out' r → Going t out p out' r
-replied-going h (was-put k q) =
-    record { put = λ _. q; within = let e = kept q in omega (arith, q .behind); same = kept q }
-replied-going h (no-room k) = record { put = λ g. absurd (omega (arith, g, k)); within = h; same = refl }
+-- a text was put, and one for which there was no room was not
+put-going : {t out out' : List ℕ} {p r : ℕ} → r ≤ length out → Put t out p out' r → Going t out p out' r
+put-going h q = record { put = λ _. q; within = let e = kept q in omega arith; same = kept q }
+
+none-going : {t out out' : List ℕ} {p : ℕ} → p ≤ length out → length out < p + length t → out' ≡ out → Going t out p out' p
+none-going h k e = record { put = λ g. absurd (omega (arith, g, k)); within = rw e h; same = ap length e }
 
 -- what a writer put into the output from a place on
 module _ (t out : List ℕ) (p : ℕ) (h : p ≤ length out) {l' : List ℕ} {w : Written}
@@ -34,8 +34,8 @@ module _ (t out : List ℕ) (p : ℕ) (h : p ≤ length out) {l' : List ℕ} {w 
   unfolding advancedBy
   going {r} e = by-writer w refl where
     by-writer : (x : Written) → w ≡ x → Going t out p (putMid p (length out - p) out l') r
-    by-writer (Done n) q = let k : r ≡ p + n = e ∙ ap (advancedBy p) q in rw k (replied-going h (put-done t out p h ew el q))
-    by-writer (Refused x) q = let k : r ≡ p = e ∙ ap (advancedBy p) q in rw k (replied-going h (put-none t out p h ew el q))
+    by-writer (Done n) q = let k : r ≡ p + n = e ∙ ap (advancedBy p) q in rw k (put-going (in-range t out p h ew el q) (put-done t out p h ew el q))
+    by-writer (Refused x) q = let k : r ≡ p = e ∙ ap (advancedBy p) q in let z = put-none t out p h ew el q in rw k (none-going h (z .0) (z .1))
 
 -- nothing is put
 pub going-none : (out : List ℕ) (p : ℕ) → p ≤ length out → Going [] out p out p
