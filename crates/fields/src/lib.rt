@@ -313,7 +313,7 @@ pub fn day_field(s: &[u8], span: FileSpan) -> ReadDayField
 // ---- the English names of the months, and their abbreviations, in any mixture of cases
 
 // A letter in lower case; any other byte as it is.
-fn lower(b: u8) -> u8
+pub fn lower(b: u8) -> u8
     ensures { λ r. ⌜ r ≡ names.lower b ⌝ }
 {
     if b < b'A' {

@@ -3,7 +3,6 @@ ghost use mathlib.Core.Path.{_≡_};
 ghost use Prim.Native.Nat.{_+_, _-_, _*_, _≤_, _<_};
 ghost use lib.ListN.{length, drop, take};
 ghost use Rattle.chars.specs.Ascii.{ascii};
-ghost use Rattle.fields.specs.Names.{lower as lowered};
 ghost use Rattle.headers.specs.Names as names;
 ghost use Rattle.headers.specs.Columns as columns;
 ghost use Rattle.headers.specs.Tables as tables;
@@ -56,19 +55,6 @@ fn is_space(b: u8) -> bool
     (b == 32) | (b == 9)
 }
 
-// A letter in lower case; any other byte as it is.
-fn lower(b: u8) -> u8
-    ensures { λ r. ⌜ r ≡ lowered b ⌝ }
-{
-    if b < b'A' {
-        return b;
-    }
-    if b'Z' < b {
-        return b;
-    }
-    b + 32
-}
-
 // The place behind the spaces and tabs that stand at a place.
 fn behind_spaces(s: &[u8], at: usize) -> usize
     requires { ⌜ at ≤ length (now s) ⌝ }
@@ -95,7 +81,7 @@ fn is_name(s: &[u8], name: &[u8]) -> bool
         if i == s.len() {
             return false;
         }
-        let b = lower(s[i]);
+        let b = fields::lower(s[i]);
         if name[k] != b {
             return false;
         }
