@@ -10,5 +10,6 @@ pub mod Steady
 pub mod Waits
 pub mod Theorems
 pub mod Counts
+pub mod Parts
 pub mod Safe
 pub mod Examples

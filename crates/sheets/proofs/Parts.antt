@@ -1,0 +1,672 @@
+-- A file that is cut at row ends counts what its parts count together, each part with the header again. Assumes nothing.
+use mathlib.Core.Path.{_≡_, refl, sym, ap, _∙_, subst}
+use mathlib.Core.Bool.{Bool, true, false}
+use mathlib.Core.List.{List, [], _∷_, _++_, append-assoc, append-nil}
+use Prim.Native.Nat.{ℕ, _+_, _-_, _≤_, _<_}
+use native.Mathlib.Omega.{arith}
+use borrow.Author.Tests.{leb-true, leb-false}
+use lib.Dec.{leb}
+use lib.ListN.{length, take, drop, take-append-drop}
+use lib.Seq.{drop-append-le, drop-append-seam}
+use Rattle.chars.specs.Pick.{pick}
+use Rattle.chars.proofs.Cases.{of-test}
+use Rattle.runs.specs.Steps.{Outcome}
+use Rattle.runs.specs.Steps.Outcome.{wait, took, over}
+use Rattle.runs.specs.Pieces.{Piece, allBytes, Reading}
+use Rattle.runs.specs.Pieces.Reading.{ends, piece}
+use Rattle.runs.proofs.Pieces.{is-read, no-others}
+use Rattle.csv.specs.declared.RowRead.{RowRead}
+use Rattle.csv.specs.declared.RowRead.the-variants.{Row, Faulty, Endless, More, Nothing}
+use Rattle.csv.specs.declared.Skipped.{Skipped}
+use Rattle.csv.specs.declared.Skipped.the-variants.{Ended, On, Wait as Unknown, Over as NoMore}
+use Rattle.csv.specs.Reader.{byteOf}
+use Rattle.csv.specs.Bytes.{feeds}
+use Rattle.csv.specs.Answers.{answer, skipped}
+use Rattle.verdicts.specs.declared.Verdict.{Verdict}
+use Rattle.verdicts.specs.declared.Verdict.the-variants.{NoDate, Full, NotStrict, ShortYear, Unread, Refused}
+use Rattle.verdicts.specs.Dates.{dateVerdict}
+use Rattle.findings.specs.Words.{capped}
+use Rattle.headers.specs.declared.Columns.{Columns}
+use Rattle.headers.specs.declared.Header.{Header}
+use Rattle.headers.specs.declared.Header.the-variants.{Wait, Without, With}
+use Rattle.headers.specs.Header.{header, rowCells}
+use Rattle.sheets.specs.declared.Phase.{Phase}
+use Rattle.sheets.specs.declared.Phase.the-variants.{Start, Rows, Skipping}
+use Rattle.sheets.specs.declared.Tally.{Tally}
+use Rattle.sheets.specs.declared.State.{State}
+use Rattle.sheets.specs.declared.Checked.{Checked}
+use Rattle.sheets.specs.declared.Checked.the-variants.{Good, Bad}
+use Rattle.sheets.specs.Tallies.{oneStrict, oneOtherwise, oneRefused, oneRow, oneBad, oneDate}
+use Rattle.sheets.specs.Rows.{textAt, checkedRow, datesCounted, sixOf, rowCounted, checkedCounted}
+use Rattle.sheets.specs.Steps.{behind, noTally, startStep, rowStep, skipStep, stepIn, next, fresh}
+use Rattle.sheets.proofs.Steady.{steady}
+
+capped-is : (n : ℕ) → capped n ≡ n - (n - 4294967295)
+unfolding capped pick
+capped-is n =
+    of-test (leb n 4294967295) (λ q. let h = leb-true n 4294967295 q in rw q (omega arith))
+    (λ q. let h = leb-false n 4294967295 q in rw q (omega arith))
+
+-- one number is another with so many added, up to the largest number
+pub record Raised (k n n' : ℕ) : Type 0 where
+  -- it is at most the largest, if the other is
+  pub within : n ≤ 4294967295 → n' ≤ 4294967295
+  -- up to the largest it is the sum
+  pub sum : capped n' ≡ capped (n + k)
+
+none-raised : (n : ℕ) → Raised 0 n n
+none-raised n = record { within = λ h. h; sum = omega (arith, capped-is n, capped-is (n + 0)) }
+
+one-raised : (n : ℕ) → Raised 1 n (capped (n + 1))
+one-raised n = record { within = λ h. omega (arith, capped-is (n + 1)); sum = omega (arith, capped-is (n + 1), capped-is (capped (n + 1))) }
+
+capped-high : (n : ℕ) → 4294967295 ≤ n → capped n ≡ 4294967295
+capped-high n h = omega (arith, capped-is n)
+
+-- what is the same up to the largest is so with as much added
+capped-more : (a b m : ℕ) → capped a ≡ capped b → capped (a + m) ≡ capped (b + m)
+capped-more a b m e =
+    of-test (leb 4294967295 a)
+    (λ q.
+    let h = leb-true 4294967295 a q in
+    let i : 4294967295 ≤ b = omega (arith, e, capped-is b, capped-high a h) in
+    capped-high (a + m) (omega arith) ∙ sym (capped-high (b + m) (omega arith)))
+    (λ q.
+    let h = leb-false 4294967295 a q in
+    let i : a ≡ b = omega (arith, e, capped-is a, capped-is b) in
+    ap (λ (x : ℕ). capped (x + m)) i)
+
+both-raised : {k m n n' n'' : ℕ} → Raised k n n' → Raised m n' n'' → Raised (k + m) n n''
+both-raised {k} {m} {n} {n'} a b =
+    let e : n + k + m ≡ n + (k + m) = omega arith in
+    record { within = λ h. b .within (a .within h); sum = b .sum ∙ capped-more n' (n + k) m (a .sum) ∙ ap capped e }
+
+-- a tally is another with five numbers added
+pub record Counts (k t t' : Tally) : Type 0 where
+  pub in-rows : Raised (k .rows) (t .rows) (t' .rows)
+  pub in-strict : Raised (k .strict) (t .strict) (t' .strict)
+  pub in-otherwise : Raised (k .otherwise) (t .otherwise) (t' .otherwise)
+  pub in-refused : Raised (k .refused) (t .refused) (t' .refused)
+  pub in-bad : Raised (k .bad) (t .bad) (t' .bad)
+
+-- five numbers and five others
+abbrev pub together : Tally → Tally → Tally
+together k m =
+    record { rows = k .rows + m .rows; strict = k .strict + m .strict; otherwise = k .otherwise + m .otherwise; refused = k .refused + m .refused; bad = k .bad + m .bad }
+
+none-counts : (t : Tally) → Counts noTally t t
+none-counts t =
+    record {
+      in-rows = none-raised (t .rows);
+      in-strict = none-raised (t .strict);
+      in-otherwise = none-raised (t .otherwise);
+      in-refused = none-raised (t .refused);
+      in-bad = none-raised (t .bad);
+    }
+
+both-counts : {k m t t' t'' : Tally} → Counts k t t' → Counts m t' t'' → Counts (together k m) t t''
+both-counts a b =
+    record {
+      in-rows = both-raised (a .in-rows) (b .in-rows);
+      in-strict = both-raised (a .in-strict) (b .in-strict);
+      in-otherwise = both-raised (a .in-otherwise) (b .in-otherwise);
+      in-refused = both-raised (a .in-refused) (b .in-refused);
+      in-bad = both-raised (a .in-bad) (b .in-bad);
+    }
+
+-- a change of a tally adds five numbers, whatever was counted before
+record Amount (f : Tally → Tally) : Type 0 where
+  much : Tally
+  counts : (t : Tally) → Counts much t (f t)
+
+no-amount : Amount (λ t. t)
+no-amount = record { much = noTally; counts = none-counts }
+
+then-amount : {f g : Tally → Tally} → Amount f → Amount g → Amount (λ t. g (f t))
+then-amount {f} a b = record { much = together (a .much) (b .much); counts = λ t. both-counts (a .counts t) (b .counts (f t)) }
+
+strict-amount : Amount oneStrict
+unfolding oneStrict
+strict-amount =
+    record {
+      much = record { rows = 0; strict = 1; otherwise = 0; refused = 0; bad = 0 };
+      counts = λ t.
+          record {
+            in-rows = none-raised (t .rows);
+            in-strict = one-raised (t .strict);
+            in-otherwise = none-raised (t .otherwise);
+            in-refused = none-raised (t .refused);
+            in-bad = none-raised (t .bad);
+          };
+    }
+
+otherwise-amount : Amount oneOtherwise
+unfolding oneOtherwise
+otherwise-amount =
+    record {
+      much = record { rows = 0; strict = 0; otherwise = 1; refused = 0; bad = 0 };
+      counts = λ t.
+          record {
+            in-rows = none-raised (t .rows);
+            in-strict = none-raised (t .strict);
+            in-otherwise = one-raised (t .otherwise);
+            in-refused = none-raised (t .refused);
+            in-bad = none-raised (t .bad);
+          };
+    }
+
+refused-amount : Amount oneRefused
+unfolding oneRefused
+refused-amount =
+    record {
+      much = record { rows = 0; strict = 0; otherwise = 0; refused = 1; bad = 0 };
+      counts = λ t.
+          record {
+            in-rows = none-raised (t .rows);
+            in-strict = none-raised (t .strict);
+            in-otherwise = none-raised (t .otherwise);
+            in-refused = one-raised (t .refused);
+            in-bad = none-raised (t .bad);
+          };
+    }
+
+row-amount : Amount oneRow
+unfolding oneRow
+row-amount =
+    record {
+      much = record { rows = 1; strict = 0; otherwise = 0; refused = 0; bad = 0 };
+      counts = λ t.
+          record {
+            in-rows = one-raised (t .rows);
+            in-strict = none-raised (t .strict);
+            in-otherwise = none-raised (t .otherwise);
+            in-refused = none-raised (t .refused);
+            in-bad = none-raised (t .bad);
+          };
+    }
+
+bad-amount : Amount oneBad
+unfolding oneBad
+bad-amount =
+    record {
+      much = record { rows = 1; strict = 0; otherwise = 0; refused = 0; bad = 1 };
+      counts = λ t.
+          record {
+            in-rows = one-raised (t .rows);
+            in-strict = none-raised (t .strict);
+            in-otherwise = none-raised (t .otherwise);
+            in-refused = none-raised (t .refused);
+            in-bad = one-raised (t .bad);
+          };
+    }
+
+date-amount : (v : Verdict) → Amount (λ t. oneDate t v)
+unfolding oneDate
+date-amount NoDate = no-amount
+date-amount Full = strict-amount
+date-amount (NotStrict d) = otherwise-amount
+date-amount (ShortYear d) = otherwise-amount
+date-amount Unread = refused-amount
+date-amount (Refused e) = refused-amount
+
+module _ (c : Columns) (cs : List (List ℕ)) where
+  dates-amount : Amount (datesCounted c cs)
+  unfolding datesCounted
+  dates-amount =
+      then-amount
+      (then-amount (then-amount (date-amount (dateVerdict (textAt cs (c .date)))) (date-amount (dateVerdict (textAt cs (c .origdate))))) (date-amount (dateVerdict (textAt cs (c .eventdate)))))
+      (date-amount (dateVerdict (textAt cs (c .urldate))))
+
+  checked-amount : (k : Checked) → Amount (checkedCounted c cs k)
+  unfolding checkedCounted rowCounted
+  checked-amount Good = then-amount row-amount (then-amount dates-amount (date-amount (sixOf c cs)))
+  checked-amount (Bad f) = bad-amount
+
+-- a state, on another line and with another tally
+abbrev pub moved : State → ℕ → Tally → State
+moved st l u = record { phase = st .phase; separator = st .separator; columns = st .columns; cells = st .cells; line = l; tally = u }
+
+-- two outcomes of a step: the same bytes are taken, the same is counted, and what is kept differs by line and tally at most
+data Alike (t u : Tally) : Outcome State → Outcome State → Type 0 where
+  waits : Alike t u wait wait
+  takes : {n : ℕ} {text text' : List ℕ} {kept : State} (k : Tally) (l : ℕ) (u' : Tally) → Counts k t (kept .tally) → Counts k u u'
+      → Alike t u (took n text kept) (took n text' (moved kept l u'))
+  is-over : {text text' : List ℕ} → Alike t u (over text) (over text')
+
+module _ (st : State) (l : ℕ) (u : Tally) (s : List ℕ) where
+  start-alike : (h : Header) → Alike (st .tally) u (startStep st s h) (startStep (moved st l u) s h)
+  unfolding startStep
+  start-alike Wait = waits
+  start-alike (Without why) = is-over
+  start-alike (With bytes sep columns cells) = takes noTally (capped (l + feeds (take bytes s))) u (none-counts (st .tally)) (none-counts u)
+
+  row-alike : (r : RowRead) (cs : List (List ℕ)) → Alike (st .tally) u (rowStep st s r cs) (rowStep (moved st l u) s r cs)
+  unfolding rowStep behind
+  row-alike (Row end count) cs =
+      let a = checked-amount (st .columns) cs (checkedRow (st .columns) (st .cells) s end count cs) in
+      takes (a .much) (capped (l + feeds (take end s))) _ (a .counts (st .tally)) (a .counts u)
+  row-alike (Faulty end f) cs = takes (bad-amount .much) (capped (l + feeds (take end s))) _ (bad-amount .counts (st .tally)) (bad-amount .counts u)
+  row-alike (Endless f) cs = takes (bad-amount .much) (capped (l + feeds (take 65536 s))) _ (bad-amount .counts (st .tally)) (bad-amount .counts u)
+  row-alike More cs = waits
+  row-alike Nothing cs = is-over
+
+  skip-alike : (r : Skipped) → Alike (st .tally) u (skipStep st s r) (skipStep (moved st l u) s r)
+  unfolding skipStep behind
+  skip-alike (Ended n) = takes noTally (capped (l + feeds (take n s))) u (none-counts (st .tally)) (none-counts u)
+  skip-alike On = takes noTally (capped (l + feeds (take 65536 s))) u (none-counts (st .tally)) (none-counts u)
+  skip-alike Unknown = waits
+  skip-alike NoMore = is-over
+
+  step-alike : (last : Bool) (p : Phase) → Alike (st .tally) u (stepIn p last s st) (stepIn p last s (moved st l u))
+  unfolding stepIn
+  step-alike last Start = start-alike (header last s)
+  step-alike last Rows = row-alike (answer (byteOf (st .separator)) last s) (rowCells (st .separator) last s)
+  step-alike last Skipping = skip-alike (skipped last s)
+
+  -- so are those of a step from a state and from one on another line, with another tally
+  next-alike : (last : Bool) → Alike (st .tally) u (next last s st) (next last s (moved st l u))
+  unfolding next
+  next-alike last = step-alike last (st .phase)
+
+-- the outcome from the other state, where bytes were taken
+record TookAlike (n : ℕ) (kept : State) (t u : Tally) (o : Outcome State) : Type 0 where
+  text : List ℕ
+  much : Tally
+  line' : ℕ
+  tally' : Tally
+  is : o ≡ took n text (moved kept line' tally')
+  counts : Counts much t (kept .tally)
+  counts-again : Counts much u tally'
+
+took-alike : {t u : Tally} {n : ℕ} {text : List ℕ} {kept : State} {o : Outcome State} → Alike t u (took n text kept) o → TookAlike n kept t u o
+took-alike (takes {text' = text'} k l u' a b) = record { text = text'; much = k; line' = l; tally' = u'; is = refl; counts = a; counts-again = b }
+
+-- and where the report ended
+record OverAlike (o : Outcome State) : Type 0 where
+  text : List ℕ
+  is : o ≡ over text
+
+over-alike : {t u : Tally} {text : List ℕ} {o : Outcome State} → Alike t u (over text) o → OverAlike o
+over-alike (is-over {text' = text'}) = record { text = text'; is = refl }
+
+-- the bytes of each piece
+abbrev pub eachBytes : List (Piece State) → List (List ℕ)
+eachBytes [] = []
+eachBytes (p ∷ ps) = p .bytes ∷ eachBytes ps
+
+-- what was read from one state is read from another: piece by piece the same bytes, and the same is counted
+pub record Again (s : List ℕ) (ps : List (Piece State)) (st at : State) (left : List ℕ) (st' : State) : Type 0 where
+  -- the pieces
+  pub pieces : List (Piece State)
+  -- the line behind them
+  pub line' : ℕ
+  -- the tally behind them
+  pub tally' : Tally
+  -- what the report ends with
+  pub lastly : List ℕ
+  -- what is counted, from either state
+  pub much : Tally
+  pub reading : Reading next st' s pieces (moved at line' tally') left lastly
+  pub same-bytes : eachBytes pieces ≡ eachBytes ps
+  pub counts : Counts much (st .tally) (at .tally)
+  pub counts-again : Counts much (st' .tally) tally'
+
+again : {st at : State} {s left lastly : List ℕ} {ps : List (Piece State)} (l : ℕ) (u : Tally) → Reading next st s ps at left lastly → Again s ps st at left (moved st l u)
+again l u (ends {st} {s} e) =
+    let o = over-alike (rw e at (next-alike st l u s true)) in
+    record {
+      pieces = [];
+      line' = l;
+      tally' = u;
+      lastly = o .text;
+      much = noTally;
+      reading = ends (o .is);
+      same-bytes = refl;
+      counts = none-counts (st .tally);
+      counts-again = none-counts u;
+    }
+again l u (piece {st} {s} {n} e r) =
+    let o = took-alike (rw e at (next-alike st l u s true)) in
+    let a = again (o .line') (o .tally') r in
+    record {
+      pieces = _;
+      line' = a .line';
+      tally' = a .tally';
+      lastly = a .lastly;
+      much = together (o .much) (a .much);
+      reading = piece (o .is) (a .reading);
+      same-bytes = ap (λ (x : List (List ℕ)). take n s ∷ x) (a .same-bytes);
+      counts = both-counts (o .counts) (a .counts);
+      counts-again = both-counts (o .counts-again) (a .counts-again);
+    }
+
+-- two states that differ by line and tally at most
+pub record SameRows (st st' : State) : Type 0 where
+  pub same-phase : st .phase ≡ st' .phase
+  pub same-separator : st .separator ≡ st' .separator
+  pub same-columns : st .columns ≡ st' .columns
+  pub same-cells : st .cells ≡ st' .cells
+
+moved-to : {st st' : State} → SameRows st st' → moved st (st' .line) (st' .tally) ≡ st'
+moved-to e = rw (e .same-phase, e .same-separator, e .same-columns, e .same-cells)
+
+-- rows depend neither on the line they stand on nor on what was counted before
+pub rows-alike : {st st' at : State} {s left lastly : List ℕ} {ps : List (Piece State)} → SameRows st st' → Reading next st s ps at left lastly → Again s ps st at left st'
+rows-alike {st} {st'} {at} {s} {left} {ps} e r = subst (λ (x : State). Again s ps st at left x) (moved-to e) (again (st' .line) (st' .tally) r)
+
+-- the five numbers are below the largest
+pub record Under (t : Tally) : Type 0 where
+  pub few-rows : t .rows < 4294967295
+  pub few-strict : t .strict < 4294967295
+  pub few-otherwise : t .otherwise < 4294967295
+  pub few-refused : t .refused < 4294967295
+  pub few-bad : t .bad < 4294967295
+
+-- from t to at as much is counted as from t' to at'
+pub record SameCounts (t at t' at' : Tally) : Type 0 where
+  pub same-rows : at .rows + t' .rows ≡ at' .rows + t .rows
+  pub same-strict : at .strict + t' .strict ≡ at' .strict + t .strict
+  pub same-otherwise : at .otherwise + t' .otherwise ≡ at' .otherwise + t .otherwise
+  pub same-refused : at .refused + t' .refused ≡ at' .refused + t .refused
+  pub same-bad : at .bad + t' .bad ≡ at' .bad + t .bad
+
+raised-by : {k n n' : ℕ} → Raised k n n' → n' < 4294967295 → n' ≡ n + k
+raised-by {k} {n} {n'} r h = omega (arith, r .sum, capped-is n', capped-is (n + k))
+
+same-raised : {k n n' m m' : ℕ} → Raised k n n' → Raised k m m' → n' < 4294967295 → m' < 4294967295 → n' + m ≡ m' + n
+same-raised r q h i = omega (arith, raised-by r h, raised-by q i)
+
+-- so, as long as no number is at the largest, the same is counted in both readings
+pub counted-alike : {s left : List ℕ} {ps : List (Piece State)} {st at st' : State} (a : Again s ps st at left st') → Under (at .tally) → Under (a .tally')
+    → SameCounts (st .tally) (at .tally) (st' .tally) (a .tally')
+counted-alike a u v =
+    record {
+      same-rows = same-raised (a .counts .in-rows) (a .counts-again .in-rows) (u .few-rows) (v .few-rows);
+      same-strict = same-raised (a .counts .in-strict) (a .counts-again .in-strict) (u .few-strict) (v .few-strict);
+      same-otherwise = same-raised (a .counts .in-otherwise) (a .counts-again .in-otherwise) (u .few-otherwise) (v .few-otherwise);
+      same-refused = same-raised (a .counts .in-refused) (a .counts-again .in-refused) (u .few-refused) (v .few-refused);
+      same-bad = same-raised (a .counts .in-bad) (a .counts-again .in-bad) (u .few-bad) (v .few-bad);
+    }
+
+-- from one block of a file to another, by steps that each took bytes; `last` says that the file ends behind the blocks
+pub data Upto (last : Bool) : State → List ℕ → State → List ℕ → Type 0 where
+  -- where one is
+  here : {st : State} {s : List ℕ} → Upto last st s st s
+  -- a step, then others
+  on : {st kept mid : State} {s text rest : List ℕ} {n : ℕ} → next last s st ≡ took n text kept → Upto last kept (drop n s) mid rest → Upto last st s mid rest
+
+took-waits : {n : ℕ} {text : List ℕ} {kept : State} → took n text kept ≡ wait → ⊥
+took-waits e = let z : _≡_ {A = ℕ} 0 1 = cc in omega arith
+
+same-kept : {n n' : ℕ} {text text' : List ℕ} {kept kept' : State} → took n text kept ≡ took n' text' kept' → kept ≡ kept'
+same-kept e = cc
+
+-- steps before the file's end are taken whatever follows
+pub upto-more : {last : Bool} {st mid : State} {s rest : List ℕ} (t : List ℕ) → Upto false st s mid rest → Upto last st (s ++ t) mid (rest ++ t)
+upto-more t here = here
+upto-more {last} t (on {st} {kept} {mid} {s} {rest = rest} {n} e r) =
+    let d = drop-append-le n s t (steady .moves false s st e .1) in
+    on (steady .stable s t st last (λ w. took-waits (sym e ∙ w)) ∙ e) (subst (λ (x : List ℕ). Upto last kept x mid (rest ++ t)) (sym d) (upto-more t r))
+
+-- the header was read
+data Begun : Phase → Type 0 where
+  in-rows : Begun Rows
+  in-skip : Begun Skipping
+
+-- what the header says is kept
+record Kept (st kept : State) : Type 0 where
+  begun : Begun (kept .phase)
+  kept-separator : st .separator ≡ kept .separator
+  kept-columns : st .columns ≡ kept .columns
+  kept-cells : st .cells ≡ kept .cells
+
+data Keeps (st : State) : Outcome State → Type 0 where
+  waits : Keeps st wait
+  takes : {n : ℕ} {text : List ℕ} {kept : State} → Kept st kept → Keeps st (took n text kept)
+  is-over : {text : List ℕ} → Keeps st (over text)
+
+module _ (st : State) (s : List ℕ) where
+  rows-kept : (n : ℕ) (t : Tally) → Kept st (behind st s n Rows t)
+  unfolding behind
+  rows-kept n t = record { begun = in-rows; kept-separator = refl; kept-columns = refl; kept-cells = refl }
+
+  skips-kept : (n : ℕ) (t : Tally) → Kept st (behind st s n Skipping t)
+  unfolding behind
+  skips-kept n t = record { begun = in-skip; kept-separator = refl; kept-columns = refl; kept-cells = refl }
+
+  row-keeps : (r : RowRead) (cs : List (List ℕ)) → Keeps st (rowStep st s r cs)
+  unfolding rowStep
+  row-keeps (Row end count) cs = takes (rows-kept end _)
+  row-keeps (Faulty end f) cs = takes (rows-kept end _)
+  row-keeps (Endless f) cs = takes (skips-kept 65536 _)
+  row-keeps More cs = waits
+  row-keeps Nothing cs = is-over
+
+  skip-keeps : (r : Skipped) → Keeps st (skipStep st s r)
+  unfolding skipStep
+  skip-keeps (Ended n) = takes (rows-kept n _)
+  skip-keeps On = takes (skips-kept 65536 _)
+  skip-keeps Unknown = waits
+  skip-keeps NoMore = is-over
+
+  step-keeps : (last : Bool) {p : Phase} → Begun p → Keeps st (stepIn p last s st)
+  unfolding stepIn
+  step-keeps last in-rows = row-keeps (answer (byteOf (st .separator)) last s) (rowCells (st .separator) last s)
+  step-keeps last in-skip = skip-keeps (skipped last s)
+
+  next-keeps : (last : Bool) → Begun (st .phase) → Keeps st (next last s st)
+  unfolding next
+  next-keeps last b = step-keeps last b
+
+took-keeps : {st kept : State} {n : ℕ} {text : List ℕ} → Keeps st (took n text kept) → Kept st kept
+took-keeps (takes k) = k
+
+both-kept : {st kept mid : State} → Kept st kept → Kept kept mid → Kept st mid
+both-kept a b =
+    record {
+      begun = b .begun;
+      kept-separator = a .kept-separator ∙ b .kept-separator;
+      kept-columns = a .kept-columns ∙ b .kept-columns;
+      kept-cells = a .kept-cells ∙ b .kept-cells;
+    }
+
+upto-kept : {last : Bool} {st mid : State} {s rest : List ℕ} → Begun (st .phase) → Upto last st s mid rest → Kept st mid
+upto-kept b here = record { begun = b; kept-separator = refl; kept-columns = refl; kept-cells = refl }
+upto-kept {last} b (on {st} {s = s} e r) =
+    let k = took-keeps (rw e at (next-keeps st s last b)) in
+    both-kept k (upto-kept (k .begun) r)
+
+-- numbers of 32 bits
+record Within (t : Tally) : Type 0 where
+  low-rows : t .rows ≤ 4294967295
+  low-strict : t .strict ≤ 4294967295
+  low-otherwise : t .otherwise ≤ 4294967295
+  low-refused : t .refused ≤ 4294967295
+  low-bad : t .bad ≤ 4294967295
+
+counts-within : {k t t' : Tally} → Counts k t t' → Within t → Within t'
+counts-within c w =
+    record {
+      low-rows = c .in-rows .within (w .low-rows);
+      low-strict = c .in-strict .within (w .low-strict);
+      low-otherwise = c .in-otherwise .within (w .low-otherwise);
+      low-refused = c .in-refused .within (w .low-refused);
+      low-bad = c .in-bad .within (w .low-bad);
+    }
+
+upto-within : {last : Bool} {st mid : State} {s rest : List ℕ} → Upto last st s mid rest → Within (st .tally) → Within (mid .tally)
+upto-within here w = w
+upto-within {last} (on {st} {s = s} e r) w =
+    let o = took-alike (rw e at (next-alike st 0 (st .tally) s last)) in
+    upto-within r (counts-within (o .counts) w)
+
+none-within : Within noTally
+none-within = record { low-rows = omega arith; low-strict = omega arith; low-otherwise = omega arith; low-refused = omega arith; low-bad = omega arith }
+
+-- behind the header rows are read, and nothing is counted yet
+data Headed : Outcome State → Type 0 where
+  waits : Headed wait
+  takes : {n : ℕ} {text : List ℕ} {kept : State} → kept .phase ≡ Rows → kept .tally ≡ noTally → Headed (took n text kept)
+  is-over : {text : List ℕ} → Headed (over text)
+
+start-headed : (s : List ℕ) (h : Header) → Headed (startStep fresh s h)
+unfolding startStep fresh
+start-headed s Wait = waits
+start-headed s (Without why) = is-over
+start-headed s (With bytes sep columns cells) = takes refl refl
+
+next-headed : (last : Bool) (s : List ℕ) → Headed (next last s fresh)
+unfolding next stepIn fresh
+next-headed last s = start-headed s (header last s)
+
+took-headed : {n : ℕ} {text : List ℕ} {kept : State} → Headed (took n text kept) → (kept .phase ≡ Rows) × (kept .tally ≡ noTally)
+took-headed (takes a b) = (a, b)
+
+fresh-start : fresh .phase ≡ Start
+unfolding fresh
+fresh-start = refl
+
+fresh-none : fresh .tally ≡ noTally
+unfolding fresh
+fresh-none = refl
+
+start-rows : Start ≡ Rows → ⊥
+start-rows e = let z : _≡_ {A = ℕ} 0 1 = cc in omega arith
+
+-- what is read from a place on ends the reading of the whole
+record Joined (st : State) (s : List ℕ) (at : State) (left lastly : List ℕ) : Type 0 where
+  pieces : List (Piece State)
+  reading : Reading next st s pieces at left lastly
+
+joined : {st mid at : State} {s rest left lastly : List ℕ} {ps : List (Piece State)} → Upto true st s mid rest → Reading next mid rest ps at left lastly → Joined st s at left lastly
+joined here r = record { pieces = _; reading = r }
+joined (on e u) r = let j = joined u r in record { pieces = _; reading = piece e (j .reading) }
+
+same-end : {st mid at at' : State} {s rest left left' lastly lastly' : List ℕ} {ps ps' : List (Piece State)} → Upto true st s mid rest
+    → Reading next mid rest ps at left lastly → Reading next st s ps' at' left' lastly' → at ≡ at'
+same-end u r q = no-others (joined u r .reading) q .1
+
+-- where nothing is behind, the reading ends there
+nothing-behind : {st at : State} {left lastly : List ℕ} {ps : List (Piece State)} → Reading next st [] ps at left lastly → at ≡ st
+nothing-behind (ends e) = refl
+nothing-behind (piece {st} e r) = absurd (none-taken (steady .moves true [] st e))
+  where
+    none-taken : {n : ℕ} → (0 < n) × (n ≤ 0) → ⊥
+    none-taken m = omega (arith, m .0, m .1)
+
+then-upto : {last : Bool} {st mid mid' : State} {s t rest : List ℕ} → Upto last st s mid t → Upto last mid t mid' rest → Upto last st s mid' rest
+then-upto here v = v
+then-upto (on e u) v = on e (then-upto u v)
+
+-- each of the five numbers of the whole is the sum of those of its parts, up to the largest number
+pub record Sums (t t' whole : Tally) : Type 0 where
+  pub sum-rows : whole .rows ≡ capped (t .rows + t' .rows)
+  pub sum-strict : whole .strict ≡ capped (t .strict + t' .strict)
+  pub sum-otherwise : whole .otherwise ≡ capped (t .otherwise + t' .otherwise)
+  pub sum-refused : whole .refused ≡ capped (t .refused + t' .refused)
+  pub sum-bad : whole .bad ≡ capped (t .bad + t' .bad)
+
+one-sum : {k m n w : ℕ} → Raised k 0 n → Raised k m w → m ≤ 4294967295 → w ≡ capped (m + n)
+one-sum {k} {m} {n} {w} a b h =
+    let i = b .within h in
+    let e : capped w ≡ w = omega (arith, capped-is w) in
+    let f : m + k ≡ k + m = omega arith in
+    let g : n + m ≡ m + n = omega arith in
+    let z : 0 + k ≡ k = omega arith in
+    sym e ∙ b .sum ∙ ap capped f ∙ sym (capped-more n k m (a .sum ∙ ap capped z)) ∙ ap capped g
+
+-- below the largest it is the sum
+pub sum-below : {n w : ℕ} → w ≡ capped n → w < 4294967295 → w ≡ n
+sum-below {n} e h = omega (arith, e, capped-is n)
+
+all-sums : {k t t' whole : Tally} → Counts k noTally t' → Counts k t whole → Within t → Sums t t' whole
+all-sums a b w =
+    record {
+      sum-rows = one-sum (a .in-rows) (b .in-rows) (w .low-rows);
+      sum-strict = one-sum (a .in-strict) (b .in-strict) (w .low-strict);
+      sum-otherwise = one-sum (a .in-otherwise) (b .in-otherwise) (w .low-otherwise);
+      sum-refused = one-sum (a .in-refused) (b .in-refused) (w .low-refused);
+      sum-bad = one-sum (a .in-bad) (b .in-bad) (w .low-bad);
+    }
+
+-- a header that is known before anything follows
+module _ (h : List ℕ) {st : State} (head : next false h fresh ≡ took (length h) [] st) where
+  -- it is read first, whatever follows
+  header-first : {last : Bool} (s : List ℕ) → Upto last fresh (h ++ s) st s
+  header-first {last} s =
+      on (steady .stable h s fresh last (λ w. took-waits (sym head ∙ w)) ∙ head) (subst (λ (x : List ℕ). Upto last st x st s) (sym (drop-append-seam h s)) here)
+
+  rows-next : (st .phase ≡ Rows) × (st .tally ≡ noTally)
+  rows-next = took-headed (rw head at (next-headed false h))
+
+  -- a place behind it, in rows
+  cut-kept : (s : List ℕ) {mid : State} {b : List ℕ} → Upto true fresh (h ++ s) mid b → mid .phase ≡ Rows → SameRows st mid
+  cut-kept s here p = absurd (start-rows (sym fresh-start ∙ p))
+  cut-kept s (on {kept = kept} e r) p =
+      let f = steady .stable h s fresh true (λ w. took-waits (sym head ∙ w)) ∙ head in
+      let k : kept ≡ st = same-kept (sym e ∙ f) in
+      let z : Begun (kept .phase) = rw (k, rows-next .0) in-rows in
+      let y = upto-kept z r in
+      record {
+        same-phase = rows-next .0 ∙ sym p;
+        same-separator = rw (← k) (y .kept-separator);
+        same-columns = rw (← k) (y .kept-columns);
+        same-cells = rw (← k) (y .kept-cells);
+      }
+
+  -- a file is cut where a step took a row to its end: it counts what was counted there, and what the rest with the header counts
+  pub cut-adds : (s b : List ℕ) {mid at at' : State} {left left' lastly lastly' : List ℕ} {ps ps' : List (Piece State)} → Upto true fresh (h ++ s) mid b → mid .phase ≡ Rows
+      → Reading next fresh (h ++ s) ps at left lastly → Reading next fresh (h ++ b) ps' at' left' lastly' → Sums (mid .tally) (at' .tally) (at .tally)
+  cut-adds s b {mid} {at} {at'} u p r q =
+      let x = is-read steady st b in
+      let a = rows-alike (cut-kept s u p) (x .reading) in
+      let e : x .at ≡ at' = same-end (header-first b) (x .reading) q in
+      let f : moved (x .at) (a .line') (a .tally') ≡ at = same-end u (a .reading) r in
+      let w = upto-within u (rw fresh-none none-within) in
+      let c : Counts (a .much) noTally (at' .tally) = rw (← rows-next .1, ← e) (a .counts) in
+      let d : Counts (a .much) (mid .tally) (at .tally) = rw (← f) (a .counts-again) in
+      all-sums c d w
+
+  -- where a part has whole rows, each known before anything follows, the file counts what this part and the rest count, each with the header
+  pub parts-add : (a b : List ℕ) {mid at at' whole : State} {left left' left'' lastly lastly' lastly'' : List ℕ} {ps ps' ps'' : List (Piece State)}
+      → Upto false st a mid [] → mid .phase ≡ Rows
+      → Reading next fresh (h ++ a) ps at left lastly → Reading next fresh (h ++ b) ps' at' left' lastly' → Reading next fresh (h ++ (a ++ b)) ps'' whole left'' lastly''
+      → Sums (at .tally) (at' .tally) (whole .tally)
+  parts-add a b {mid} {at} {at'} {whole} u p r q w =
+      let v : Upto true st (a ++ b) mid b = upto-more b u in
+      let x = is-read steady mid [] in
+      let y : Upto true st a mid [] = subst (λ (s : List ℕ). Upto true st s mid []) (append-nil a) (upto-more [] u) in
+      let e : mid ≡ at = sym (nothing-behind (x .reading)) ∙ same-end (then-upto (header-first a) y) (x .reading) r in
+      let c = cut-adds (a ++ b) b (then-upto (header-first (a ++ b)) v) p w q in
+      rw (← e) c
+
+-- what is kept behind pieces
+abbrev pub keptBehind : State → List (Piece State) → State
+keptBehind st [] = st
+keptBehind st (p ∷ ps) = keptBehind (p .behind) ps
+
+-- what is left of a file behind some of its pieces
+record Cut (st : State) (s : List ℕ) (ps : List (Piece State)) : Type 0 where
+  rest : List ℕ
+  bytes : s ≡ allBytes ps ++ rest
+  upto : Upto true st s (keptBehind st ps) rest
+
+cut-at : {st at : State} {s left lastly : List ℕ} (ps qs : List (Piece State)) → Reading next st s (ps ++ qs) at left lastly → Cut st s ps
+cut-at {s = s} [] qs r = record { rest = s; bytes = refl; upto = here }
+cut-at (p ∷ ps) qs (piece {s} {n} e r) =
+    let c = cut-at ps qs r in
+    record {
+      rest = c .rest;
+      bytes = sym (take-append-drop n s) ∙ ap (λ (x : List ℕ). take n s ++ x) (c .bytes) ∙ sym (append-assoc (take n s) (allBytes ps) (c .rest));
+      upto = on e (c .upto);
+    }
+
+-- a file is cut behind some of its pieces, before a row: it counts what was counted there, and what the rest with the header counts
+pub pieces-add : (h : List ℕ) {st : State} → next false h fresh ≡ took (length h) [] st → (a b : List ℕ) {at at' : State} {left left' lastly lastly' : List ℕ}
+    (ps qs : List (Piece State)) {ps' : List (Piece State)} → Reading next fresh (h ++ (a ++ b)) (ps ++ qs) at left lastly → allBytes ps ≡ h ++ a
+    → keptBehind fresh ps .phase ≡ Rows → Reading next fresh (h ++ b) ps' at' left' lastly' → Sums (keptBehind fresh ps .tally) (at' .tally) (at .tally)
+pieces-add h head a b ps qs r e p q =
+    let c = cut-at ps qs r in
+    let f : (h ++ a) ++ c .rest ≡ (h ++ a) ++ b = ap (λ (x : List ℕ). x ++ c .rest) (sym e) ∙ sym (c .bytes) ∙ sym (append-assoc h a b) in
+    let g : c .rest ≡ b = sym (drop-append-seam (h ++ a) (c .rest)) ∙ ap (λ (x : List ℕ). drop (length (h ++ a)) x) f ∙ drop-append-seam (h ++ a) b in
+    cut-adds h head (a ++ b) b (subst (λ (x : List ℕ). Upto true fresh (h ++ (a ++ b)) (keptBehind fresh ps) x) g (c .upto)) p r q
