@@ -4,6 +4,7 @@ use mathlib.Core.Path.{_≡_, refl, subst}
 use mathlib.Core.Bool.{Bool, true, false}
 use mathlib.Core.List.{List, [], _∷_, _++_, map}
 use Prim.Native.Nat.{ℕ, zero, suc, _+_}
+use native.Mathlib.Omega.{arith}
 use lib.IntN.{pos}
 use lib.ListN.{length, take, drop}
 use lib.Seq.{take-append-seam}
@@ -35,6 +36,7 @@ use Rattle.csv.specs.Reader.{isStop, isSpecial, is, upTo, innerLen, returnOf, s
 use Rattle.csv.specs.Answers.{window, isCut, isOver, placeOf, endLen, counted, rowBy, refused, answerBy, answerOf, lineOf, answer, numbers, listed, tableAfter, skipped}
 use Rattle.csv.specs.Texts.{ownBytes, undoubled}
 use Rattle.csv.specs.Bytes.{oneIf, feeds, utf8From, utf8End}
+use Rattle.csv.proofs.Whole.{accepted}
 use Rattle.verdicts.specs.declared.Verdict.{Verdict}
 use Rattle.verdicts.specs.declared.Verdict.the-variants.{NoDate, Full, NotStrict, ShortYear, Unread, Refused}
 use Rattle.verdicts.specs.Dates.{otherwise, byReaders, dateVerdict}
@@ -59,6 +61,8 @@ use Rattle.sheets.specs.Tallies.{oneStrict, oneOtherwise, oneRefused, on
 use Rattle.sheets.specs.Rows.{keyColumn, longSix, anyLong, checkedRow, windowedIf, dateSaid, datesSaid, datesCounted, sixOf, sixSaid, linesBy, rowSaid, rowCounted, checkedSaid, checkedCounted}
 use Rattle.sheets.specs.Steps.{behind, startStep, rowStep, skipStep, stepIn, next, fresh}
 use Rattle.sheets.specs.Reports.{said, answered, answerWith, outAfter, tableIn, tableWith, report}
+use Rattle.sheets.proofs.Parts.{RowsOf, Together, reports-add}
+use Rattle.sheets.proofs.Parts.RowsOf.{no-row, a-row, a-bad}
 
 -- ---- counts
 
@@ -267,3 +271,24 @@ report-empty = refl
 pub report-two : report (ascii "key,year,day\na,,\nb,1749,4\n") ≡ ascii "3\tb\tyear\tyear \"1749\", day \"4\"\trefused\ta part is not read: a day needs its month, an end its year\nrows 2, dates 1, strict 0, read otherwise 0, refused 1, bad rows 0\ndo not sign: 1 finding\n"
 unfolding report reportOn reportBy told next stepIn fresh startStep rowStep behind checkedRow checkedSaid checkedCounted anyLong longSix rowSaid linesBy datesSaid dateSaid windowedIf sixSaid sixOf keyColumn undoubled rowCounted datesCounted dateVerdict sixVerdict givenVerdict isUnread dayAlone someGiven dateLine sixLine sixText namedCell stillFirst verdictLine columnName finding sort message isSaid oneDate oneRow oneRefused summary signing quoted escaped shownByte isHidden isMarked decimal width digitCount count feeds oneIf capped header headerBehind headerRow onNames headerBy headerIn withRow withCells namesBy namesIn rowCells ownOf markLen twice twiceDate twiceSix again known checked sixColumns one chosen columnsOf columnOf columnFrom isName startsSo spaces isSpace lower ownBytes utf8End utf8From first decode decode2 decode3 decode4 lenOf isCont isSurrogate lenD isStop isSpecial is upTo innerLen returnOf stopOf closed plainBy quotedBy cellOf lineBy lineFrom line window isCut isOver placeOf endLen counted rowBy refused answerBy answerOf lineOf answer pick
 report-two = refl
+
+-- ---- parts
+
+abbrev keyed : State
+keyed = record { phase = Rows; separator = Comma; columns = record { date = 1; origdate = 256; eventdate = 256; urldate = 256; year = 256; month = 256; day = 256; endyear = 256; endmonth = 256; endday = 256; key = 0; id = 256 }; cells = 2; line = 2; tally = tally 0 0 0 0 0 }
+
+-- a header is known before anything follows
+pub header-known : next false (ascii "key,date\n") fresh ≡ took 9 [] keyed
+unfolding next stepIn fresh startStep feeds oneIf capped header headerBehind headerRow onNames headerBy headerIn withRow withCells namesBy namesIn rowCells ownOf markLen twice twiceDate twiceSix again known checked sixColumns one chosen columnsOf columnOf columnFrom isName startsSo spaces isSpace lower undoubled ownBytes utf8End utf8From first decode decode2 decode3 decode4 lenOf isCont isSurrogate lenD isStop isSpecial is upTo innerLen returnOf stopOf closed plainBy quotedBy cellOf lineBy lineFrom line window isCut isOver placeOf endLen counted rowBy refused answerBy answerOf lineOf answer pick
+header-known = refl
+
+-- a row on two lines, and a bad row
+pub rows-known : RowsOf Comma (ascii "c,\n") (ascii "a,\"x\ny\"\nb\"\n")
+unfolding isStop isSpecial is upTo innerLen returnOf stopOf closed plainBy quotedBy cellOf lineBy lineFrom line window isCut isOver placeOf endLen counted rowBy refused answerBy answerOf lineOf answer pick
+rows-known =
+    a-row (ascii "a,\"x\ny\"\n") (ascii "b\"\n") (accepted Comma (ascii "a,\"x\ny\"\nb\"\nc,\n") 8 2 .0 refl)
+    (a-bad (ascii "b\"\n") [] {f = QuoteInside 1} refl no-row)
+
+-- so a file is cut behind them
+pub cut-behind : Together (ascii "key,date\na,\"x\ny\"\nb\"\n") (ascii "key,date\nc,\n") (ascii "key,date\na,\"x\ny\"\nb\"\nc,\n")
+cut-behind = reports-add (ascii "key,date\n") header-known (ascii "a,\"x\ny\"\nb\"\n") (ascii "c,\n") (omega arith) rows-known

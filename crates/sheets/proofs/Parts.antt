@@ -5,27 +5,38 @@ use mathlib.Core.List.{List, [], _∷_, _++_, append-assoc, append-nil}
 use Prim.Native.Nat.{ℕ, _+_, _-_, _≤_, _<_}
 use native.Mathlib.Omega.{arith}
 use borrow.Author.Tests.{leb-true, leb-false}
-use lib.Dec.{leb}
-use lib.ListN.{length, take, drop, take-append-drop}
-use lib.Seq.{drop-append-le, drop-append-seam}
+use lib.Dec.{eqb, leb}
+use lib.ListN.{length, take, drop, length-append, take-append-drop}
+use lib.Seq.{drop-append-le, drop-append-seam, take-append-seam}
 use Rattle.chars.specs.Pick.{pick}
 use Rattle.chars.proofs.Cases.{of-test}
 use Rattle.runs.specs.Steps.{Outcome}
 use Rattle.runs.specs.Steps.Outcome.{wait, took, over}
-use Rattle.runs.specs.Pieces.{Piece, allBytes, Reading}
+use Rattle.runs.specs.Pieces.{Piece, allBytes, allTexts, Reading}
 use Rattle.runs.specs.Pieces.Reading.{ends, piece}
 use Rattle.runs.proofs.Pieces.{is-read, no-others}
+use Rattle.csv.specs.declared.Separator.{Separator}
+use Rattle.csv.specs.declared.Fault.{Fault}
 use Rattle.csv.specs.declared.RowRead.{RowRead}
 use Rattle.csv.specs.declared.RowRead.the-variants.{Row, Faulty, Endless, More, Nothing}
 use Rattle.csv.specs.declared.Skipped.{Skipped}
 use Rattle.csv.specs.declared.Skipped.the-variants.{Ended, On, Wait as Unknown, Over as NoMore}
-use Rattle.csv.specs.Reader.{byteOf}
+use Rattle.csv.specs.Reader.{byteOf, Place, line}
 use Rattle.csv.specs.Bytes.{feeds}
-use Rattle.csv.specs.Answers.{answer, skipped}
+use Rattle.csv.specs.Answers.{counted, rowBy, answerBy, answerOf, isOver, answer, skipped}
+use Rattle.csv.specs.Grammar.{Cells, LineEnd, RowAt, Limited}
+use Rattle.csv.specs.Grammar.LineEnd.{feed, return-feed, file-end}
+use Rattle.csv.specs.Grammar.RowAt.{row}
+use Rattle.csv.proofs.Pieces.{Apart, apart}
+use Rattle.csv.proofs.Stable.{stays, answer-whole}
+use Rattle.csv.proofs.Exact.{cells-read, feed-ends, return-ends, end-no-sep}
+use Rattle.csv.proofs.Whole.{accepted}
 use Rattle.verdicts.specs.declared.Verdict.{Verdict}
 use Rattle.verdicts.specs.declared.Verdict.the-variants.{NoDate, Full, NotStrict, ShortYear, Unread, Refused}
 use Rattle.verdicts.specs.Dates.{dateVerdict}
+use Rattle.findings.specs.declared.RowFault.the-variants.{Broken}
 use Rattle.findings.specs.Words.{capped}
+use Rattle.findings.specs.Lines.{badRowLine}
 use Rattle.headers.specs.declared.Columns.{Columns}
 use Rattle.headers.specs.declared.Header.{Header}
 use Rattle.headers.specs.declared.Header.the-variants.{Wait, Without, With}
@@ -37,9 +48,11 @@ use Rattle.sheets.specs.declared.State.{State}
 use Rattle.sheets.specs.declared.Checked.{Checked}
 use Rattle.sheets.specs.declared.Checked.the-variants.{Good, Bad}
 use Rattle.sheets.specs.Tallies.{oneStrict, oneOtherwise, oneRefused, oneRow, oneBad, oneDate}
-use Rattle.sheets.specs.Rows.{textAt, checkedRow, datesCounted, sixOf, rowCounted, checkedCounted}
-use Rattle.sheets.specs.Steps.{behind, noTally, startStep, rowStep, skipStep, stepIn, next, fresh}
+use Rattle.sheets.specs.Rows.{textAt, checkedRow, datesCounted, sixOf, rowCounted, checkedSaid, checkedCounted}
+use Rattle.sheets.specs.Steps.{behind, lastLines, noTally, startStep, rowStep, skipStep, stepIn, next, fresh}
+use Rattle.sheets.specs.Reports.{report}
 use Rattle.sheets.proofs.Steady.{steady}
+use Rattle.sheets.proofs.Theorems.{pieces-of, report-pieces}
 
 capped-is : (n : ℕ) → capped n ≡ n - (n - 4294967295)
 unfolding capped pick
@@ -423,7 +436,7 @@ record Kept (st kept : State) : Type 0 where
 data Keeps (st : State) : Outcome State → Type 0 where
   waits : Keeps st wait
   takes : {n : ℕ} {text : List ℕ} {kept : State} → Kept st kept → Keeps st (took n text kept)
-  is-over : {text : List ℕ} → Keeps st (over text)
+  is-over : {text : List ℕ} → text ≡ lastLines (st .tally) → Keeps st (over text)
 
 module _ (st : State) (s : List ℕ) where
   rows-kept : (n : ℕ) (t : Tally) → Kept st (behind st s n Rows t)
@@ -440,14 +453,14 @@ module _ (st : State) (s : List ℕ) where
   row-keeps (Faulty end f) cs = takes (rows-kept end _)
   row-keeps (Endless f) cs = takes (skips-kept 65536 _)
   row-keeps More cs = waits
-  row-keeps Nothing cs = is-over
+  row-keeps Nothing cs = is-over refl
 
   skip-keeps : (r : Skipped) → Keeps st (skipStep st s r)
   unfolding skipStep
   skip-keeps (Ended n) = takes (rows-kept n _)
   skip-keeps On = takes (skips-kept 65536 _)
   skip-keeps Unknown = waits
-  skip-keeps NoMore = is-over
+  skip-keeps NoMore = is-over refl
 
   step-keeps : (last : Bool) {p : Phase} → Begun p → Keeps st (stepIn p last s st)
   unfolding stepIn
@@ -460,6 +473,14 @@ module _ (st : State) (s : List ℕ) where
 
 took-keeps : {st kept : State} {n : ℕ} {text : List ℕ} → Keeps st (took n text kept) → Kept st kept
 took-keeps (takes k) = k
+
+over-keeps : {st : State} {text : List ℕ} → Keeps st (over text) → text ≡ lastLines (st .tally)
+over-keeps (is-over e) = e
+
+-- behind the header a report ends with the numbers
+reading-ends : {st at : State} {s left lastly : List ℕ} {ps : List (Piece State)} → Begun (st .phase) → Reading next st s ps at left lastly → lastly ≡ lastLines (at .tally)
+reading-ends b (ends {st} {s} e) = over-keeps (rw e at (next-keeps st s true b))
+reading-ends b (piece {st} {s = s} e r) = reading-ends (took-keeps (rw e at (next-keeps st s true b)) .begun) r
 
 both-kept : {st kept mid : State} → Kept st kept → Kept kept mid → Kept st mid
 both-kept a b =
@@ -599,6 +620,14 @@ module _ (h : List ℕ) {st : State} (head : next false h fresh ≡ took (length
   rows-next : (st .phase ≡ Rows) × (st .tally ≡ noTally)
   rows-next = took-headed (rw head at (next-headed false h))
 
+  -- a report on a file with it ends with the numbers
+  pub ends-counted : (s : List ℕ) {at : State} {left lastly : List ℕ} {ps : List (Piece State)} → Reading next fresh (h ++ s) ps at left lastly → lastly ≡ lastLines (at .tally)
+  ends-counted s {at} r =
+      let x = is-read steady st s in
+      let z = no-others (joined (header-first s) (x .reading) .reading) r in
+      let b : Begun (st .phase) = rw (rows-next .0) in-rows in
+      sym (z .3) ∙ reading-ends b (x .reading) ∙ ap (λ (y : State). lastLines (y .tally)) (z .1)
+
   -- a place behind it, in rows
   cut-kept : (s : List ℕ) {mid : State} {b : List ℕ} → Upto true fresh (h ++ s) mid b → mid .phase ≡ Rows → SameRows st mid
   cut-kept s here p = absurd (start-rows (sym fresh-start ∙ p))
@@ -670,3 +699,171 @@ pieces-add h head a b ps qs r e p q =
     let f : (h ++ a) ++ c .rest ≡ (h ++ a) ++ b = ap (λ (x : List ℕ). x ++ c .rest) (sym e) ∙ sym (c .bytes) ∙ sym (append-assoc h a b) in
     let g : c .rest ≡ b = sym (drop-append-seam (h ++ a) (c .rest)) ∙ ap (λ (x : List ℕ). drop (length (h ++ a)) x) f ∙ drop-append-seam (h ++ a) b in
     cut-adds h head (a ++ b) b (subst (λ (x : List ℕ). Upto true fresh (h ++ (a ++ b)) (keptBehind fresh ps) x) g (c .upto)) p r q
+
+-- a row that is read to its end is answered
+counted-some : (count end : ℕ) → counted count end ≡ More → ⊥
+unfolding counted pick
+counted-some count end =
+    of-test (leb count 256) (λ q. rw q (λ e. let z : _≡_ {A = ℕ} 0 1 = cc in omega arith)) (λ q. rw q (λ e. let z : _≡_ {A = ℕ} 0 1 = cc in omega arith))
+
+through-some : (w : List ℕ) (count n : ℕ) → rowBy w count n ≡ More → ⊥
+unfolding rowBy pick
+through-some w count n =
+    of-test (eqb (length w) 0) (λ q. rw q (λ e. let z : _≡_ {A = ℕ} 0 1 = cc in omega arith)) (λ q. rw q (λ e. counted-some count _ e))
+
+cells-some : {sep : ℕ} → Apart sep → {text e : List ℕ} {cs : List Place} {ts : List (List ℕ)} → Cells sep 0 text cs ts → LineEnd e [] → 0 < length e
+    → length (text ++ e) ≤ 65536 → answer sep false (text ++ e) ≡ More → ⊥
+unfolding line answerOf answerBy isOver
+cells-some {sep} p {text} {cs = cs} c feed h l =
+    rw (answer-whole sep false (text ++ 10 ∷ []) l, cells-read p false c (10 ∷ []) (feed-ends false sep []) (end-no-sep p (feed {r = []})))
+    (λ z. through-some (text ++ 10 ∷ []) (length cs) (0 + length text) z)
+cells-some {sep} p {text} {cs = cs} c return-feed h l =
+    rw (answer-whole sep false (text ++ 13 ∷ 10 ∷ []) l, cells-read p false c (13 ∷ 10 ∷ []) (return-ends false sep []) (end-no-sep p (return-feed {r = []})))
+    (λ z. through-some (text ++ 13 ∷ 10 ∷ []) (length cs) (0 + length text) z)
+cells-some p c file-end h l = absurd (omega arith)
+
+same-front : (x y z w : List ℕ) → x ++ y ≡ z ++ w → length x ≡ length z → x ≡ z
+same-front x y z w e l = sym (take-append-seam x y) ∙ ap (λ (v : List ℕ). take (length x) v) e ∙ ap (λ (n : ℕ). take n (z ++ w)) l ∙ take-append-seam z w
+
+record Ending (sep : ℕ) (s rest : List ℕ) (cs : List Place) (ts : List (List ℕ)) : Type 0 where
+  text : List ℕ
+  end : List ℕ
+  split : s ≡ text ++ end
+  cells : Cells sep 0 text cs ts
+  behind-it : LineEnd end rest
+
+ending-of : {sep : ℕ} {s rest : List ℕ} {cs : List Place} {ts : List (List ℕ)} → RowAt sep s rest cs ts → Ending sep s rest cs ts
+ending-of (row {s} {e} c l) = record { text = s; end = e; split = refl; cells = c; behind-it = l }
+
+module _ (k : Separator) (r u : List ℕ) (some : 0 < length u) where
+  by-end : {rest text end : List ℕ} {cs : List Place} {ts : List (List ℕ)} → length r + length rest ≡ length (r ++ u) → length r ≤ 65536 → r ++ u ≡ text ++ end
+      → Cells (byteOf k) 0 text cs ts → LineEnd end rest → answer (byteOf k) false r ≡ More → ⊥
+  by-end {rest} {text} m l e c feed =
+      let v = length-append text (10 ∷ rest) in
+      let w = length-append text (10 ∷ []) in
+      let n : length (r ++ u) ≡ length (text ++ 10 ∷ rest) = ap length e in
+      let f : r ≡ text ++ 10 ∷ [] = same-front r u (text ++ 10 ∷ []) rest (e ∙ sym (append-assoc text (10 ∷ []) rest)) (omega arith) in
+      rw f (cells-some (apart k) c (feed {r = []}) (omega arith) (rw (← f) l))
+  by-end {rest} {text} m l e c return-feed =
+      let v = length-append text (13 ∷ 10 ∷ rest) in
+      let w = length-append text (13 ∷ 10 ∷ []) in
+      let n : length (r ++ u) ≡ length (text ++ 13 ∷ 10 ∷ rest) = ap length e in
+      let f : r ≡ text ++ 13 ∷ 10 ∷ [] = same-front r u (text ++ 13 ∷ 10 ∷ []) rest (e ∙ sym (append-assoc text (13 ∷ 10 ∷ []) rest)) (omega arith) in
+      rw f (cells-some (apart k) c (return-feed {r = []}) (omega arith) (rw (← f) l))
+  by-end m l e c file-end = absurd (let v = length-append r u in omega (arith, m, some))
+
+  -- a row that something follows is known by its own bytes
+  pub row-known : {count : ℕ} → Limited (byteOf k) (r ++ u) (length r) count → answer (byteOf k) false r ≡ Row (length r) count
+  row-known {count} l =
+      let o = ending-of (l .is-row) in
+      let n = by-end (l .measured) (l .short) (o .split) (o .cells) (o .behind-it) in
+      sym (stays (byteOf k) r n true u .same-answer) ∙ accepted k (r ++ u) (length r) count .1 l
+
+-- rows one behind the other, and b behind them: each is a row by the grammar, or a bad row that is known by its own bytes
+pub data RowsOf (k : Separator) (b : List ℕ) : List ℕ → Type 0 where
+  -- none
+  no-row : RowsOf k b []
+  -- a row, of at most 65,536 bytes and 256 cells
+  a-row : (r a : List ℕ) {count : ℕ} → Limited (byteOf k) (r ++ (a ++ b)) (length r) count → RowsOf k b a → RowsOf k b (r ++ a)
+  -- a bad row
+  a-bad : (r a : List ℕ) {f : Fault} → answer (byteOf k) false r ≡ Faulty (length r) f → RowsOf k b a → RowsOf k b (r ++ a)
+
+-- a step over a row that is known by its own bytes
+record Over (k : Separator) (st : State) (r : List ℕ) : Type 0 where
+  text : List ℕ
+  kept : State
+  steps : next false r st ≡ took (length r) text kept
+  in-rows : kept .phase ≡ Rows
+  by-separator : kept .separator ≡ k
+
+module _ {k : Separator} {st : State} (p : st .phase ≡ Rows) (q : st .separator ≡ k) (r : List ℕ) where
+  over-row : {count : ℕ} → answer (byteOf k) false r ≡ Row (length r) count → Over k st r
+  unfolding next stepIn rowStep behind
+  over-row {count} e =
+      let cs = rowCells k false r in
+      let c = checkedRow (st .columns) (st .cells) r (length r) count cs in
+      record {
+        text = checkedSaid (st .line) (st .columns) cs c;
+        kept = behind st r (length r) Rows (checkedCounted (st .columns) cs c (st .tally));
+        steps = rw (p, q, e);
+        in-rows = refl;
+        by-separator = q;
+      }
+
+  over-bad : {f : Fault} → answer (byteOf k) false r ≡ Faulty (length r) f → Over k st r
+  unfolding next stepIn rowStep behind
+  over-bad {f} e =
+      record { text = badRowLine (st .line) (Broken f); kept = behind st r (length r) Rows (oneBad (st .tally)); steps = rw (p, q, e); in-rows = refl; by-separator = q }
+
+-- the state behind rows
+record Past (st : State) (a : List ℕ) : Type 0 where
+  mid : State
+  upto : Upto false st a mid []
+  in-rows : mid .phase ≡ Rows
+
+one-past : {k : Separator} {st : State} (r a : List ℕ) (o : Over k st r) → Past (o .kept) a → Past st (r ++ a)
+one-past {st = st} r a o x =
+    let e = steady .stable r a st false (λ w. took-waits (sym (o .steps) ∙ w)) ∙ o .steps in
+    record {
+      mid = x .mid;
+      upto = on e (subst (λ (v : List ℕ). Upto false (o .kept) v (x .mid) []) (sym (drop-append-seam r a)) (x .upto));
+      in-rows = x .in-rows;
+    }
+
+more-some : (a b : List ℕ) → 0 < length b → 0 < length (a ++ b)
+more-some a b h = let l = length-append a b in omega arith
+
+rows-past : {k : Separator} {st : State} {a : List ℕ} (b : List ℕ) → 0 < length b → st .phase ≡ Rows → st .separator ≡ k → RowsOf k b a → Past st a
+rows-past {st = st} b h p q no-row = record { mid = st; upto = here; in-rows = p }
+rows-past {k} b h p q (a-row r a l m) =
+    let o = over-row p q r (row-known k r (a ++ b) (more-some a b h) l) in
+    one-past r a o (rows-past b h (o .in-rows) (o .by-separator) m)
+rows-past b h p q (a-bad r a e m) =
+    let o = over-bad p q r e in
+    one-past r a o (rows-past b h (o .in-rows) (o .by-separator) m)
+
+-- a file has a header, then rows, then more: it counts what the header with the rows and the header with the rest count
+pub rows-add : (h : List ℕ) {st : State} → next false h fresh ≡ took (length h) [] st → (a b : List ℕ) → 0 < length b → RowsOf (st .separator) b a
+    → {at at' whole : State} {left left' left'' lastly lastly' lastly'' : List ℕ} {ps ps' ps'' : List (Piece State)}
+    → Reading next fresh (h ++ a) ps at left lastly → Reading next fresh (h ++ b) ps' at' left' lastly' → Reading next fresh (h ++ (a ++ b)) ps'' whole left'' lastly''
+    → Sums (at .tally) (at' .tally) (whole .tally)
+rows-add h head a b some m x y z =
+    let p = rows-past b some (rows-next h head .0) refl m in
+    parts-add h head a b (p .upto) (p .in-rows) x y z
+
+-- the report on a file ends with these five numbers
+pub record EndsWith (s : List ℕ) (t : Tally) : Type 0 where
+  -- the lines before
+  pub lines : List ℕ
+  pub is : report s ≡ lines ++ lastLines t
+
+ends-with : (h : List ℕ) {st : State} → next false h fresh ≡ took (length h) [] st → (s : List ℕ) {at : State} {left lastly : List ℕ} {ps : List (Piece State)}
+    → Reading next fresh (h ++ s) ps at left lastly → EndsWith (h ++ s) (at .tally)
+ends-with h head s {ps = ps} r = record { lines = allTexts ps; is = report-pieces r ∙ ap (λ (x : List ℕ). allTexts ps ++ x) (ends-counted h head s r) }
+
+-- the numbers at the end of one report are the sums of those at the ends of two
+pub record Together (s s' whole : List ℕ) : Type 0 where
+  pub numbers : Tally
+  pub numbers' : Tally
+  pub all-numbers : Tally
+  pub ends-so : EndsWith s numbers
+  pub ends-so' : EndsWith s' numbers'
+  pub all-ends-so : EndsWith whole all-numbers
+  pub sums : Sums numbers numbers' all-numbers
+
+-- so the numbers at the ends of the reports on the parts of a file add up to those at the end of the report on it
+pub reports-add : (h : List ℕ) {st : State} → next false h fresh ≡ took (length h) [] st → (a b : List ℕ) → 0 < length b → RowsOf (st .separator) b a
+    → Together (h ++ a) (h ++ b) (h ++ (a ++ b))
+reports-add h head a b some m =
+    let x = pieces-of (h ++ a) in
+    let y = pieces-of (h ++ b) in
+    let z = pieces-of (h ++ (a ++ b)) in
+    record {
+      numbers = x .at .tally;
+      numbers' = y .at .tally;
+      all-numbers = z .at .tally;
+      ends-so = ends-with h head a (x .reading);
+      ends-so' = ends-with h head b (y .reading);
+      all-ends-so = ends-with h head (a ++ b) (z .reading);
+      sums = rows-add h head a b some m (x .reading) (y .reading) (z .reading);
+    }
