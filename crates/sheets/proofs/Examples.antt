@@ -61,8 +61,9 @@ use Rattle.sheets.specs.Tallies.{oneStrict, oneOtherwise, oneRefused, on
 use Rattle.sheets.specs.Rows.{keyColumn, longSix, anyLong, checkedRow, windowedIf, dateSaid, datesSaid, datesCounted, sixOf, sixSaid, linesBy, rowSaid, rowCounted, checkedSaid, checkedCounted}
 use Rattle.sheets.specs.Steps.{behind, startStep, rowStep, skipStep, stepIn, next, fresh}
 use Rattle.sheets.specs.Reports.{said, answered, answerWith, outAfter, tableIn, tableWith, report}
-use Rattle.sheets.proofs.Parts.{RowsOf, Together, reports-add}
-use Rattle.sheets.proofs.Parts.RowsOf.{no-row, a-row, a-bad}
+use Rattle.sheets.specs.Parts.{RowsOf, Together}
+use Rattle.sheets.specs.Parts.RowsOf.{no-row, a-row, a-bad}
+use Rattle.sheets.proofs.Parts.{reports-add}
 
 -- ---- counts
 

@@ -51,6 +51,8 @@ use Rattle.sheets.specs.Tallies.{oneStrict, oneOtherwise, oneRefused, on
 use Rattle.sheets.specs.Rows.{textAt, checkedRow, datesCounted, sixOf, rowCounted, checkedSaid, checkedCounted}
 use Rattle.sheets.specs.Steps.{behind, lastLines, noTally, startStep, rowStep, skipStep, stepIn, next, fresh}
 use Rattle.sheets.specs.Reports.{report}
+use Rattle.sheets.specs.Parts.{RowsOf, Sums, EndsWith, Together}
+use Rattle.sheets.specs.Parts.RowsOf.{no-row, a-row, a-bad}
 use Rattle.sheets.proofs.Steady.{steady}
 use Rattle.sheets.proofs.Theorems.{pieces-of, report-pieces}
 
@@ -579,14 +581,6 @@ then-upto : {last : Bool} {st mid mid' : State} {s t rest : List ℕ} → Upto l
 then-upto here v = v
 then-upto (on e u) v = on e (then-upto u v)
 
--- each of the five numbers of the whole is the sum of those of its parts, up to the largest number
-pub record Sums (t t' whole : Tally) : Type 0 where
-  pub sum-rows : whole .rows ≡ capped (t .rows + t' .rows)
-  pub sum-strict : whole .strict ≡ capped (t .strict + t' .strict)
-  pub sum-otherwise : whole .otherwise ≡ capped (t .otherwise + t' .otherwise)
-  pub sum-refused : whole .refused ≡ capped (t .refused + t' .refused)
-  pub sum-bad : whole .bad ≡ capped (t .bad + t' .bad)
-
 one-sum : {k m n w : ℕ} → Raised k 0 n → Raised k m w → m ≤ 4294967295 → w ≡ capped (m + n)
 one-sum {k} {m} {n} {w} a b h =
     let i = b .within h in
@@ -759,15 +753,6 @@ module _ (k : Separator) (r u : List ℕ) (some : 0 < length u) where
       let n = by-end (l .measured) (l .short) (o .split) (o .cells) (o .behind-it) in
       sym (stays (byteOf k) r n true u .same-answer) ∙ accepted k (r ++ u) (length r) count .1 l
 
--- rows one behind the other, and b behind them: each is a row by the grammar, or a bad row that is known by its own bytes
-pub data RowsOf (k : Separator) (b : List ℕ) : List ℕ → Type 0 where
-  -- none
-  no-row : RowsOf k b []
-  -- a row, of at most 65,536 bytes and 256 cells
-  a-row : (r a : List ℕ) {count : ℕ} → Limited (byteOf k) (r ++ (a ++ b)) (length r) count → RowsOf k b a → RowsOf k b (r ++ a)
-  -- a bad row
-  a-bad : (r a : List ℕ) {f : Fault} → answer (byteOf k) false r ≡ Faulty (length r) f → RowsOf k b a → RowsOf k b (r ++ a)
-
 -- a step over a row that is known by its own bytes
 record Over (k : Separator) (st : State) (r : List ℕ) : Type 0 where
   text : List ℕ
@@ -831,25 +816,9 @@ rows-add h head a b some m x y z =
     let p = rows-past b some (rows-next h head .0) refl m in
     parts-add h head a b (p .upto) (p .in-rows) x y z
 
--- the report on a file ends with these five numbers
-pub record EndsWith (s : List ℕ) (t : Tally) : Type 0 where
-  -- the lines before
-  pub lines : List ℕ
-  pub is : report s ≡ lines ++ lastLines t
-
 ends-with : (h : List ℕ) {st : State} → next false h fresh ≡ took (length h) [] st → (s : List ℕ) {at : State} {left lastly : List ℕ} {ps : List (Piece State)}
     → Reading next fresh (h ++ s) ps at left lastly → EndsWith (h ++ s) (at .tally)
 ends-with h head s {ps = ps} r = record { lines = allTexts ps; is = report-pieces r ∙ ap (λ (x : List ℕ). allTexts ps ++ x) (ends-counted h head s r) }
-
--- the numbers at the end of one report are the sums of those at the ends of two
-pub record Together (s s' whole : List ℕ) : Type 0 where
-  pub numbers : Tally
-  pub numbers' : Tally
-  pub all-numbers : Tally
-  pub ends-so : EndsWith s numbers
-  pub ends-so' : EndsWith s' numbers'
-  pub all-ends-so : EndsWith whole all-numbers
-  pub sums : Sums numbers numbers' all-numbers
 
 -- so the numbers at the ends of the reports on the parts of a file add up to those at the end of the report on it
 pub reports-add : (h : List ℕ) {st : State} → next false h fresh ≡ took (length h) [] st → (a b : List ℕ) → 0 < length b → RowsOf (st .separator) b a

@@ -3,3 +3,4 @@ pub mod Rows
 pub mod Steps
 pub mod Reports
 pub mod Inside
+pub mod Parts

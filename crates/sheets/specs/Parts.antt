@@ -1,0 +1,62 @@
+-- A file that is cut behind a row, each part with the header again: which rows it is cut behind, and what its parts count together.
+use mathlib.Core.Path.{_≡_}
+use mathlib.Core.Bool.{false}
+use mathlib.Core.List.{List, [], _++_}
+use Prim.Native.Nat.{ℕ, _+_}
+use lib.ListN.{length}
+use Rattle.csv.specs.declared.Separator.{Separator}
+use Rattle.csv.specs.declared.Fault.{Fault}
+use Rattle.csv.specs.declared.RowRead.the-variants.{Faulty}
+use Rattle.csv.specs.Reader.{byteOf}
+use Rattle.csv.specs.Answers.{answer}
+use Rattle.csv.specs.Grammar.{Limited}
+use Rattle.findings.specs.Words.{capped}
+use Rattle.sheets.specs.declared.Tally.{Tally}
+use Rattle.sheets.specs.Steps.{lastLines}
+use Rattle.sheets.specs.Reports.{report}
+
+-- rows one behind the other, and b behind them: each is a row by the grammar, or a bad row that is known by its own bytes
+pub data RowsOf (k : Separator) (b : List ℕ) : List ℕ → Type 0 where
+  -- none
+  no-row : RowsOf k b []
+  -- a row, of at most 65,536 bytes and 256 cells
+  a-row : (r a : List ℕ) {count : ℕ} → Limited (byteOf k) (r ++ (a ++ b)) (length r) count → RowsOf k b a → RowsOf k b (r ++ a)
+  -- a bad row
+  a-bad : (r a : List ℕ) {f : Fault} → answer (byteOf k) false r ≡ Faulty (length r) f → RowsOf k b a → RowsOf k b (r ++ a)
+
+-- each of the five numbers of the whole is the sum of those of its parts, up to the largest number
+pub record Sums (t t' whole : Tally) : Type 0 where
+  -- of rows
+  pub sum-rows : whole .rows ≡ capped (t .rows + t' .rows)
+  -- of strict dates
+  pub sum-strict : whole .strict ≡ capped (t .strict + t' .strict)
+  -- of those that are read otherwise
+  pub sum-otherwise : whole .otherwise ≡ capped (t .otherwise + t' .otherwise)
+  -- of those that are refused
+  pub sum-refused : whole .refused ≡ capped (t .refused + t' .refused)
+  -- of bad rows
+  pub sum-bad : whole .bad ≡ capped (t .bad + t' .bad)
+
+-- the report on a file ends with these five numbers
+pub record EndsWith (s : List ℕ) (t : Tally) : Type 0 where
+  -- the lines before
+  pub lines : List ℕ
+  -- and the two behind them
+  pub is : report s ≡ lines ++ lastLines t
+
+-- the numbers at the end of one report are the sums of those at the ends of two
+pub record Together (s s' whole : List ℕ) : Type 0 where
+  -- those of the first
+  pub numbers : Tally
+  -- of the second
+  pub numbers' : Tally
+  -- of the whole
+  pub all-numbers : Tally
+  -- the first report ends so
+  pub ends-so : EndsWith s numbers
+  -- the second, too
+  pub ends-so' : EndsWith s' numbers'
+  -- and that on the whole
+  pub all-ends-so : EndsWith whole all-numbers
+  -- they add up
+  pub sums : Sums numbers numbers' all-numbers
