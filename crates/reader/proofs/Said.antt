@@ -1,12 +1,11 @@
 -- What is said at once is what a reader answers, in words. Assumes nothing.
 use mathlib.Core.Path.{_≡_, refl, sym, ap, subst, _∙_}
-use mathlib.Core.Bool.{true, _&&_, _||_}
+use mathlib.Core.Bool.{true, false, _&&_, _||_}
 use mathlib.Core.List.{List}
 use Prim.Native.Nat.{ℕ}
 use lib.Dec.{ltb}
 use lib.ListN.{getD}
 use Rattle.chars.specs.Pick.{pick}
-use Rattle.chars.proofs.Cases.{of-test}
 use Rattle.codes.specs.Points.{onSome}
 use Rattle.codes.specs.Texts.{written}
 use Rattle.codes.specs.Ported.{ported, movedBy}
@@ -35,14 +34,18 @@ at-once x {w} y e h same typed =
 
 -- of which lists something is said at once
 module _ (b table : List ℕ) where
-  pub normal-written : oneNormal b table ≡ true → written b ≡ listWritten b table
+  pub whole-written : (oneNormal b table || isJoined b table) ≡ true → written b ≡ listWritten b table
   unfolding listWritten pick
-  normal-written e = rw e
+  whole-written e = rw e
 
-  pub joined-written : isJoined b table ≡ true → written b ≡ listWritten b table
+  pub none-written : (oneNormal b table || isJoined b table) ≡ false → none ≡ listWritten b table
   unfolding listWritten pick
-  joined-written e = of-test (oneNormal b table) (λ x. rw x) (λ x. rw (x, e))
+  none-written e = rw e
 
   pub normal-ported : oneNormal b table ≡ true → pick (ltb (getD table 2 0) 0x8000000000000000) (onSome (ported b) λ r. some (movedBy (getD table 2 0) r)) none ≡ listPorted b table
   unfolding listPorted pick
   normal-ported e = rw e
+
+  pub none-ported : oneNormal b table ≡ false → none ≡ listPorted b table
+  unfolding listPorted pick
+  none-ported e = rw e

@@ -3,7 +3,7 @@
 // all. The same answers as a Date are for who wants one.
 // No call keeps anything, and no refusal changes a lent byte: the lists are lent for reading only.
 ghost use mathlib.Core.Path.{_≡_};
-ghost use mathlib.Core.Bool.{true, false, _&&_};
+ghost use mathlib.Core.Bool.{true, false, _&&_, _||_};
 ghost use mathlib.Core.List.{[]};
 ghost use mathlib.Core.Option.{none, some};
 ghost use lib.Dec.{eqb, ltb};
@@ -227,64 +227,34 @@ fn again(w: Words) -> Words
     }
 }
 
-// A date field that is one Normal chunk.
-fn normal_words(bytes: &[u8], table: &[u64]) -> Words
-    requires { ⌜ lists.oneNormal (now bytes) (now table) ≡ true ⌝ }
-    ensures { λ r. ⌜ r ≡ wordsOf (field.parsed (now (bytes .entry)) (now (table .entry))) ⌝ }
-    ensures { λ r. ⌜ Typed (field.parsed (now (bytes .entry)) (now (table .entry))) ⌝ }
+// Whether the text of a list may be usual where it stands: that of one Normal chunk, or of several chunks.
+fn is_whole(bytes: &[u8], table: &[u64]) -> bool
+    ensures { λ r. ⌜ r ≡ (lists.oneNormal (now (bytes .entry)) (now (table .entry)) || lists.isJoined (now (bytes .entry)) (now (table .entry))) ⌝ }
 {
-    let w = codes::text(bytes);
-    if w.last != NOTHING {
-        return again(w);
+    if is_one_normal(bytes, table) {
+        return true;
     }
-    let p = ported_from(bytes, table[2]);
-    if p.last != NOTHING {
-        return again(p);
-    }
-    any_words(bytes, table)
+    is_joined(bytes, table)
 }
 
-// Any other. The text of several chunks may be usual where it stands, too.
-fn joined_words(bytes: &[u8], table: &[u64]) -> Words
-    ensures { λ r. ⌜ r ≡ wordsOf (field.parsed (now (bytes .entry)) (now (table .entry))) ⌝ }
-    ensures { λ r. ⌜ Typed (field.parsed (now (bytes .entry)) (now (table .entry))) ⌝ }
+// What both readers say of a list at once.
+fn written_words(bytes: &[u8], table: &[u64]) -> Words
+    ensures { λ r. ⌜ r ≡ wordsOr (lists.listWritten (now (bytes .entry)) (now (table .entry))) ⌝ }
 {
-    if is_joined(bytes, table) {
-        let w = codes::text(bytes);
-        if w.last != NOTHING {
-            return again(w);
-        }
-        return any_words(bytes, table);
+    if is_whole(bytes, table) {
+        return codes::text(bytes);
     }
-    any_words(bytes, table)
+    codes::no_words()
 }
 
-// A date field that is one Normal chunk, by the strict grammar.
-fn normal_strict(bytes: &[u8], table: &[u64]) -> Words
-    requires { ⌜ lists.oneNormal (now bytes) (now table) ≡ true ⌝ }
-    ensures { λ r. ⌜ r ≡ wordsOf (field.parsedStrict (now (bytes .entry)) (now (table .entry))) ⌝ }
-    ensures { λ r. ⌜ Typed (field.parsedStrict (now (bytes .entry)) (now (table .entry))) ⌝ }
+// What the ported reader alone says of one at once.
+fn ported_words(bytes: &[u8], table: &[u64]) -> Words
+    ensures { λ r. ⌜ r ≡ wordsOr (lists.listPorted (now (bytes .entry)) (now (table .entry))) ⌝ }
 {
-    let w = codes::text(bytes);
-    if w.last != NOTHING {
-        return again(w);
+    if is_one_normal(bytes, table) {
+        return ported_from(bytes, table[2]);
     }
-    any_strict(bytes, table)
-}
-
-// Any other, by the strict grammar.
-fn joined_strict(bytes: &[u8], table: &[u64]) -> Words
-    ensures { λ r. ⌜ r ≡ wordsOf (field.parsedStrict (now (bytes .entry)) (now (table .entry))) ⌝ }
-    ensures { λ r. ⌜ Typed (field.parsedStrict (now (bytes .entry)) (now (table .entry))) ⌝ }
-{
-    if is_joined(bytes, table) {
-        let w = codes::text(bytes);
-        if w.last != NOTHING {
-            return again(w);
-        }
-        return any_strict(bytes, table);
-    }
-    any_strict(bytes, table)
+    codes::no_words()
 }
 
 // ---- the calls for a date field
@@ -294,10 +264,15 @@ pub fn parse_words(bytes: &[u8], table: &[u64]) -> Words
     ensures { λ r. ⌜ r ≡ wordsOf (field.parsed (now (bytes .entry)) (now (table .entry))) ⌝ }
     ensures { λ r. ⌜ Typed (field.parsed (now (bytes .entry)) (now (table .entry))) ⌝ }
 {
-    if is_one_normal(bytes, table) {
-        return normal_words(bytes, table);
+    let w = written_words(bytes, table);
+    if w.last != NOTHING {
+        return again(w);
     }
-    joined_words(bytes, table)
+    let p = ported_words(bytes, table);
+    if p.last != NOTHING {
+        return again(p);
+    }
+    any_words(bytes, table)
 }
 
 // A date field by the strict grammar alone: neither trimmed nor in upper case.
@@ -305,10 +280,11 @@ pub fn parse_strict_words(bytes: &[u8], table: &[u64]) -> Words
     ensures { λ r. ⌜ r ≡ wordsOf (field.parsedStrict (now (bytes .entry)) (now (table .entry))) ⌝ }
     ensures { λ r. ⌜ Typed (field.parsedStrict (now (bytes .entry)) (now (table .entry))) ⌝ }
 {
-    if is_one_normal(bytes, table) {
-        return normal_strict(bytes, table);
+    let w = written_words(bytes, table);
+    if w.last != NOTHING {
+        return again(w);
     }
-    joined_strict(bytes, table)
+    any_strict(bytes, table)
 }
 
 // A date field by the grammar of level one.
