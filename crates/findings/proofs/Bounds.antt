@@ -20,10 +20,10 @@ use Rattle.csv.specs.declared.Fault.{Fault}
 use Rattle.csv.specs.declared.Fault.the-variants.{QuoteInside, TextBehind, LoneReturn, NeverClosed, TooLong, TooMany}
 use Rattle.findings.specs.declared.Column.{Column}
 use Rattle.findings.specs.declared.Column.the-variants.{Date, Origdate, Eventdate, Urldate}
-use Rattle.findings.specs.declared.RowFault.{RowFault}
-use Rattle.findings.specs.declared.RowFault.the-variants.{Broken, Cells, BadUtf8, LongCell}
-use Rattle.findings.specs.declared.Unusable.{Unusable}
-use Rattle.findings.specs.declared.Unusable.the-variants.{Empty, NoColumn, Twice, Returns, NoRow}
+use Rattle.headers.specs.declared.RowFault.{RowFault}
+use Rattle.headers.specs.declared.RowFault.the-variants.{Broken, Cells, BadUtf8, LongCell}
+use Rattle.headers.specs.declared.Unusable.{Unusable}
+use Rattle.headers.specs.declared.Unusable.the-variants.{Empty, NoColumn, Twice, Returns, NoRow}
 use Rattle.findings.specs.Escapes.{isHidden, isMarked, shownByte, escaped, quoted}
 use Rattle.verdicts.specs.Plain.{writtenText}
 use Rattle.findings.specs.Words.{capped, placed, kindWords, placeWords, refusalWords, windowWords, isSaid, sort, message, faultWords, rowWords}

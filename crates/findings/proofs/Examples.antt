@@ -27,10 +27,10 @@ use Rattle.verdicts.specs.declared.Verdict.the-variants.{NoDate, Full, NotStric
 use Rattle.csv.specs.declared.Fault.the-variants.{QuoteInside, TextBehind, LoneReturn, NeverClosed, TooLong as TooLongRow, TooMany}
 use Rattle.findings.specs.declared.Column.{Column}
 use Rattle.findings.specs.declared.Column.the-variants.{Date as DateColumn, Origdate, Eventdate, Urldate}
-use Rattle.findings.specs.declared.RowFault.{RowFault}
-use Rattle.findings.specs.declared.RowFault.the-variants.{Broken, Cells, BadUtf8 as BadRowUtf8, LongCell}
-use Rattle.findings.specs.declared.Unusable.{Unusable}
-use Rattle.findings.specs.declared.Unusable.the-variants.{Empty, NoColumn, Twice, Returns, NoRow}
+use Rattle.headers.specs.declared.RowFault.{RowFault}
+use Rattle.headers.specs.declared.RowFault.the-variants.{Broken, Cells, BadUtf8 as BadRowUtf8, LongCell}
+use Rattle.headers.specs.declared.Unusable.{Unusable}
+use Rattle.headers.specs.declared.Unusable.the-variants.{Empty, NoColumn, Twice, Returns, NoRow}
 use Rattle.findings.specs.Escapes.{isHidden, isMarked, shownByte, escaped, quoted}
 use Rattle.verdicts.specs.Plain.{textIf, writtenText}
 use Rattle.findings.specs.Words.{capped, kindWords, placeWords, refusalWords, windowWords, isSaid, sort, message, faultWords, rowWords}

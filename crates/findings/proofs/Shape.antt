@@ -34,8 +34,8 @@ use Rattle.csv.specs.declared.Fault.{Fault}
 use Rattle.csv.specs.declared.Fault.the-variants.{QuoteInside, TextBehind, LoneReturn, NeverClosed, TooLong, TooMany}
 use Rattle.findings.specs.declared.Column.{Column}
 use Rattle.findings.specs.declared.Column.the-variants.{Date as DateColumn, Origdate, Eventdate, Urldate}
-use Rattle.findings.specs.declared.RowFault.{RowFault}
-use Rattle.findings.specs.declared.RowFault.the-variants.{Broken, Cells, BadUtf8, LongCell}
+use Rattle.headers.specs.declared.RowFault.{RowFault}
+use Rattle.headers.specs.declared.RowFault.the-variants.{Broken, Cells, BadUtf8, LongCell}
 use Rattle.findings.specs.Escapes.{isHidden, isMarked, shownByte, escaped, quoted}
 use Rattle.verdicts.specs.Plain.{textIf, writtenText}
 use Rattle.findings.specs.Words.{capped, placed, kindWords, placeWords, refusalWords, windowWords, isSaid, sort, message, faultWords, rowWords}

@@ -10,9 +10,9 @@ use Rattle.puts.specs.Numbers.{decimal}
 use Rattle.verdicts.specs.declared.Verdict.{Verdict}
 use Rattle.findings.specs.declared.Column.{Column}
 use Rattle.findings.specs.declared.Column.the-variants.{Date, Origdate, Eventdate, Urldate}
-use Rattle.findings.specs.declared.RowFault.{RowFault}
-use Rattle.findings.specs.declared.Unusable.{Unusable}
-use Rattle.findings.specs.declared.Unusable.the-variants.{Empty, NoColumn, Twice, Returns, NoRow}
+use Rattle.headers.specs.declared.RowFault.{RowFault}
+use Rattle.headers.specs.declared.Unusable.{Unusable}
+use Rattle.headers.specs.declared.Unusable.the-variants.{Empty, NoColumn, Twice, Returns, NoRow}
 use Rattle.findings.specs.Escapes.{escaped, quoted}
 use Rattle.findings.specs.Words.{counted, isSaid, sort, message, rowWords}
 

@@ -13,8 +13,8 @@ use Rattle.verdicts.specs.declared.Verdict.the-variants.{NoDate, Full, NotStric
 use Rattle.verdicts.specs.Plain.{writtenText}
 use Rattle.csv.specs.declared.Fault.{Fault}
 use Rattle.csv.specs.declared.Fault.the-variants.{QuoteInside, TextBehind, LoneReturn, NeverClosed, TooLong, TooMany}
-use Rattle.findings.specs.declared.RowFault.{RowFault}
-use Rattle.findings.specs.declared.RowFault.the-variants.{Broken, Cells, BadUtf8, LongCell}
+use Rattle.headers.specs.declared.RowFault.{RowFault}
+use Rattle.headers.specs.declared.RowFault.the-variants.{Broken, Cells, BadUtf8, LongCell}
 
 -- words, and a number behind them
 abbrev pub counted : List ℕ → ℕ → List ℕ

@@ -17,6 +17,8 @@ ghost use Rattle.chars.specs.Pick.{pick};
 ghost use Rattle.findings.specs.Runs.{Moved, Ran, head, tail};
 use csv::Fault;
 use dates::Date;
+use headers::RowFault;
+use headers::Unusable;
 use puts::Measured;
 use puts::Written;
 use puts::decide;
@@ -32,32 +34,6 @@ pub enum Column {
     Origdate,
     Eventdate,
     Urldate,
-}
-
-// Why a row can not be used.
-pub enum RowFault {
-    // It is none.
-    Broken(Fault),
-    // It has so many cells, and the header so many.
-    Cells(usize, usize),
-    // It is not UTF-8 from this byte on.
-    BadUtf8(usize),
-    // A cell of it is too long.
-    LongCell,
-}
-
-// Why a header can not be used.
-pub enum Unusable {
-    // There is none.
-    Empty,
-    // It names no column that is looked at.
-    NoColumn,
-    // It names one twice.
-    Twice,
-    // The file's lines end in carriage returns.
-    Returns,
-    // It is no row.
-    NoRow(RowFault),
 }
 
 // ---- bytes and numbers

@@ -15,9 +15,9 @@ use Rattle.csv.specs.Reader.{isStop, isSpecial, is, upTo, innerLen, returnOf, s
 use Rattle.csv.specs.Answers.{window, isCut, isOver, placeOf, endLen, counted, rowBy, refused, answerBy, answerOf, lineOf, answer}
 use Rattle.csv.specs.Texts.{ownBytes}
 use Rattle.csv.specs.Bytes.{utf8From, utf8End}
-use Rattle.findings.specs.declared.RowFault.the-variants.{Broken, BadUtf8}
-use Rattle.findings.specs.declared.Unusable.{Unusable}
-use Rattle.findings.specs.declared.Unusable.the-variants.{Empty, NoColumn, Twice, Returns, NoRow}
+use Rattle.headers.specs.declared.RowFault.the-variants.{Broken, BadUtf8}
+use Rattle.headers.specs.declared.Unusable.{Unusable}
+use Rattle.headers.specs.declared.Unusable.the-variants.{Empty, NoColumn, Twice, Returns, NoRow}
 use Rattle.headers.specs.declared.Columns.{Columns}
 use Rattle.headers.specs.declared.Header.{Header}
 use Rattle.headers.specs.declared.Header.the-variants.{Wait, Without, With}

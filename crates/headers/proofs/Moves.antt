@@ -23,7 +23,7 @@ use Rattle.headers.specs.declared.Names.{Names}
 use Rattle.headers.specs.declared.Names.the-variants.{Undecided, Many}
 use Rattle.headers.specs.declared.Header.{Header}
 use Rattle.headers.specs.declared.Header.the-variants.{Wait, Without, With}
-use Rattle.findings.specs.declared.Unusable.{Unusable}
+use Rattle.headers.specs.declared.Unusable.{Unusable}
 
 -- a header that has at least one byte, and at most so many
 data Moving (size : ℕ) : Header → Type 0 where

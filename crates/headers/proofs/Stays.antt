@@ -21,7 +21,7 @@ use Rattle.csv.specs.Bytes.{utf8End}
 use Rattle.csv.specs.Texts.{ownBytes}
 use Rattle.csv.proofs.Stable.{stays}
 use Rattle.csv.proofs.Moves.{row-advances, more-short, cells-inside}
-use Rattle.findings.specs.declared.Unusable.{Unusable}
+use Rattle.headers.specs.declared.Unusable.{Unusable}
 use Rattle.headers.specs.declared.Columns.{Columns}
 use Rattle.headers.specs.declared.Names.{Names}
 use Rattle.headers.specs.declared.Names.the-variants.{Undecided, Many}

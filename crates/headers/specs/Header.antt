@@ -15,9 +15,9 @@ use Rattle.csv.specs.Reader.{byteOf, Place}
 use Rattle.csv.specs.Answers.{answer, lineOf}
 use Rattle.csv.specs.Bytes.{utf8End}
 use Rattle.csv.specs.Texts.{ownBytes}
-use Rattle.findings.specs.declared.RowFault.the-variants.{Broken, BadUtf8}
-use Rattle.findings.specs.declared.Unusable.{Unusable}
-use Rattle.findings.specs.declared.Unusable.the-variants.{Empty, NoColumn, Twice, Returns, NoRow}
+use Rattle.headers.specs.declared.RowFault.the-variants.{Broken, BadUtf8}
+use Rattle.headers.specs.declared.Unusable.{Unusable}
+use Rattle.headers.specs.declared.Unusable.the-variants.{Empty, NoColumn, Twice, Returns, NoRow}
 use Rattle.headers.specs.declared.Names.{Names}
 use Rattle.headers.specs.declared.Names.the-variants.{Undecided, Many}
 use Rattle.headers.specs.declared.Header.{Header}

@@ -10,8 +10,6 @@ ghost use Rattle.headers.specs.Header as spec;
 use csv::Fault;
 use csv::RowRead;
 use csv::Separator;
-use findings::RowFault;
-use findings::Unusable;
 
 // The columns that are looked at: the number of each, or 256 if there is none.
 pub struct Columns {
@@ -33,6 +31,32 @@ pub struct Columns {
 enum Names {
     Many(usize),
     Undecided,
+}
+
+// Why a row can not be used.
+pub enum RowFault {
+    // It is none.
+    Broken(Fault),
+    // It has so many cells, and the header so many.
+    Cells(usize, usize),
+    // It is not UTF-8 from this byte on.
+    BadUtf8(usize),
+    // A cell of it is too long.
+    LongCell,
+}
+
+// Why a header can not be used.
+pub enum Unusable {
+    // There is none.
+    Empty,
+    // It names no column that is looked at.
+    NoColumn,
+    // It names one twice.
+    Twice,
+    // The file's lines end in carriage returns.
+    Returns,
+    // It is no row.
+    NoRow(RowFault),
 }
 
 // The header: not told yet; none that can be used; or so many bytes, with the separator, the columns and the number of cells.

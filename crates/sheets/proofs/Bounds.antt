@@ -16,7 +16,7 @@ use Rattle.findings.specs.declared.Column.{Column}
 use Rattle.findings.specs.declared.Column.the-variants.{Date, Origdate, Eventdate, Urldate}
 use Rattle.sheets.specs.declared.Checked.{Checked}
 use Rattle.sheets.specs.declared.Checked.the-variants.{Good, Bad}
-use Rattle.findings.specs.declared.RowFault.{RowFault}
+use Rattle.headers.specs.declared.RowFault.{RowFault}
 
 module _ (line : ℕ) (small : line < 4294967296) (c : Columns) (cs : List (List ℕ)) (h : Short c cs) where
   -- a text is as short as its own bytes

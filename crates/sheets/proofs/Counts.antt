@@ -22,8 +22,8 @@ use Rattle.verdicts.specs.declared.Verdict.the-variants.{NoDate, Full, NotStric
 use Rattle.verdicts.specs.Dates.{dateVerdict}
 use Rattle.findings.specs.declared.Column.{Column}
 use Rattle.findings.specs.declared.Column.the-variants.{Date, Origdate, Eventdate, Urldate}
-use Rattle.findings.specs.declared.RowFault.{RowFault}
-use Rattle.findings.specs.declared.RowFault.the-variants.{Broken}
+use Rattle.headers.specs.declared.RowFault.{RowFault}
+use Rattle.headers.specs.declared.RowFault.the-variants.{Broken}
 use Rattle.findings.specs.Lines.{badRowLine}
 use Rattle.findings.specs.Words.{capped, isSaid}
 use Rattle.findings.proofs.Shape.{occurs, occurs-append, OneLine, date-one, date-unsaid, six-one, six-unsaid, bad-row-one}

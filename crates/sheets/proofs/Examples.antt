@@ -41,8 +41,8 @@ use Rattle.verdicts.specs.declared.Verdict.{Verdict}
 use Rattle.verdicts.specs.declared.Verdict.the-variants.{NoDate, Full, NotStrict, ShortYear, Unread, Refused}
 use Rattle.verdicts.specs.Dates.{otherwise, byReaders, dateVerdict}
 use Rattle.verdicts.specs.Fields.{someGiven, dayAlone, isUnread, givenVerdict, sixVerdict}
-use Rattle.findings.specs.declared.RowFault.the-variants.{Cells, BadUtf8, LongCell}
-use Rattle.findings.specs.declared.Unusable.the-variants.{Empty}
+use Rattle.headers.specs.declared.RowFault.the-variants.{Cells, BadUtf8, LongCell}
+use Rattle.headers.specs.declared.Unusable.the-variants.{Empty}
 use Rattle.findings.specs.Escapes.{isHidden, isMarked, shownByte, escaped, quoted}
 use Rattle.findings.specs.Words.{capped, kindWords, placeWords, refusalWords, isSaid, sort, message, faultWords, rowWords}
 use Rattle.findings.specs.Lines.{finding, verdictLine, columnName, dateLine, namedCell, stillFirst, sixText, sixLine, badRowLine, signing, summary, unusableWords, unreadLine}

@@ -34,7 +34,7 @@ use Rattle.csv.proofs.Whole.{accepted}
 use Rattle.verdicts.specs.declared.Verdict.{Verdict}
 use Rattle.verdicts.specs.declared.Verdict.the-variants.{NoDate, Full, NotStrict, ShortYear, Unread, Refused}
 use Rattle.verdicts.specs.Dates.{dateVerdict}
-use Rattle.findings.specs.declared.RowFault.the-variants.{Broken}
+use Rattle.headers.specs.declared.RowFault.the-variants.{Broken}
 use Rattle.findings.specs.Words.{capped}
 use Rattle.findings.specs.Lines.{badRowLine}
 use Rattle.headers.specs.declared.Columns.{Columns}

@@ -19,7 +19,7 @@ use mathlib.Core.List.{List}
 use Rattle.headers.specs.declared.Columns.{Columns}
 use mathlib.Core.Bool.{Bool, false, false≢true, true, _||_}
 use Rattle.sheets.specs.declared.Checked.the-variants.{Good, Bad}
-use Rattle.findings.specs.declared.RowFault.{RowFault}
+use Rattle.headers.specs.declared.RowFault.{RowFault}
 
 or-false : (p q : Bool) → p || q ≡ false → (p ≡ false) × (q ≡ false)
 or-false true q e = absurd (false≢true (sym e))

@@ -23,7 +23,7 @@ use Rattle.csv.specs.Answers.{answer}
 use Rattle.csv.proofs.Moves.{nothing-over}
 use Rattle.csv.proofs.Lines.{skip-moves, Skips}
 use Rattle.csv.proofs.Lines.Skips.{skips-to, skips-on, skips-wait, skips-over}
-use Rattle.findings.specs.declared.Unusable.{Unusable}
+use Rattle.headers.specs.declared.Unusable.{Unusable}
 use Rattle.findings.specs.Words.{counted}
 use Rattle.findings.specs.Lines.{signing, summary, unreadLine}
 use Rattle.findings.proofs.Shape.{occurs}

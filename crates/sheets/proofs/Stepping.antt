@@ -13,7 +13,7 @@ use Rattle.csv.specs.declared.Fault.{Fault}
 use Rattle.csv.specs.declared.Separator.{Separator}
 use Rattle.headers.specs.declared.Columns.{Columns}
 use Rattle.headers.specs.declared.Header.the-variants.{Wait, Without, With}
-use Rattle.findings.specs.declared.Unusable.{Unusable}
+use Rattle.headers.specs.declared.Unusable.{Unusable}
 use Rattle.sheets.specs.declared.Phase.{Phase}
 use Rattle.sheets.specs.declared.Phase.the-variants.{Start, Rows, Skipping}
 use Rattle.sheets.specs.Steps.{behind, lastLines, next, rowStep, skipStep, startStep, stepIn}

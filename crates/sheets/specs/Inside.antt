@@ -3,7 +3,7 @@ use Rattle.runs.specs.Steps.{Outcome}
 use Rattle.runs.specs.Steps.Outcome.{took, over}
 use Rattle.csv.specs.declared.Fault.{Fault}
 use Rattle.csv.specs.declared.RowRead.the-variants.{Row}
-use Rattle.findings.specs.declared.RowFault.the-variants.{Broken}
+use Rattle.headers.specs.declared.RowFault.the-variants.{Broken}
 use Rattle.sheets.specs.declared.Phase.{Phase}
 use Rattle.sheets.specs.declared.State.{State}
 use Rattle.sheets.specs.declared.Taken.{Taken}

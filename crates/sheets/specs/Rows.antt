@@ -14,8 +14,8 @@ use Rattle.verdicts.specs.Windows.{isWindowed}
 use Rattle.verdicts.specs.Fields.{cells, sixVerdict}
 use Rattle.findings.specs.declared.Column.{Column}
 use Rattle.findings.specs.declared.Column.the-variants.{Date, Origdate, Eventdate, Urldate}
-use Rattle.findings.specs.declared.RowFault.{RowFault}
-use Rattle.findings.specs.declared.RowFault.the-variants.{Cells, BadUtf8, LongCell}
+use Rattle.headers.specs.declared.RowFault.{RowFault}
+use Rattle.headers.specs.declared.RowFault.the-variants.{Cells, BadUtf8, LongCell}
 use Rattle.findings.specs.Lines.{dateLine, sixLine, badRowLine}
 use Rattle.headers.specs.declared.Columns.{Columns}
 use Rattle.sheets.specs.declared.Tally.{Tally}

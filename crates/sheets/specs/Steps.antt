@@ -15,7 +15,7 @@ use Rattle.csv.specs.declared.Skipped.the-variants.{Ended, On, Wait as Unknown,
 use Rattle.csv.specs.Reader.{byteOf}
 use Rattle.csv.specs.Answers.{answer, skipped}
 use Rattle.csv.specs.Bytes.{feeds}
-use Rattle.findings.specs.declared.RowFault.the-variants.{Broken}
+use Rattle.headers.specs.declared.RowFault.the-variants.{Broken}
 use Rattle.findings.specs.Words.{capped}
 use Rattle.findings.specs.Lines.{badRowLine, summary, unreadLine}
 use Rattle.headers.specs.declared.Columns.{Columns}

@@ -28,10 +28,10 @@ use csv::RowRead;
 use csv::Separator;
 use csv::Skipped;
 use findings::Column;
-use findings::RowFault;
-use findings::Unusable;
 use headers::Columns;
 use headers::Header;
+use headers::RowFault;
+use headers::Unusable;
 use puts::Written;
 use verdicts::Verdict;
 

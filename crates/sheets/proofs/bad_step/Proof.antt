@@ -3,7 +3,7 @@ use Rattle.sheets.specs.Steps.{behind}
 use Rattle.findings.proofs.Bounds.{bad-row-most}
 use native.Mathlib.Omega.{arith}
 use mathlib.Core.Path.{ap, _∙_}
-use Rattle.findings.specs.declared.RowFault.the-variants.{Broken}
+use Rattle.headers.specs.declared.RowFault.the-variants.{Broken}
 use borrow.Author.Needs.{needs}
 use Rattle.sheets.proofs.bad_step.Statement.{statement}
 use Rattle.sheets.proofs.bad_step.Tie as tie
