@@ -1,8 +1,8 @@
 -- Usual texts, in the form that Dates are written in: a point, a range of two, or one that is open at a side, and a mark behind it.
 use Prim.Native.Char.{code}
 use Prim.Native.Nat.{ℕ, _+_}
-use mathlib.Core.Bool.{Bool}
-use mathlib.Core.List.{List}
+use mathlib.Core.Bool.{Bool, true, _&&_}
+use mathlib.Core.List.{List, [], _∷_}
 use lib.Dec.{eqb, ltb}
 use lib.ListN.{length, getD, take, drop}
 use mathlib.Core.Option.{Option, none, some}
@@ -43,3 +43,13 @@ valueOf s =
 -- what a usual text says
 unfoldable pub written : List ℕ → Option ReadDate
 written s = onSome (valueOf (unmarked s)) λ v. some (Accepted (date v (isUncertain (lastByte s)) (isApproximate (lastByte s))))
+
+-- whether each byte is a space
+unfoldable pub areSpaces : List ℕ → Bool
+areSpaces [] = true
+areSpaces (x ∷ s) = eqb x (code " ") && areSpaces s
+
+-- a text without the spaces at its end
+unfoldable pub unspaced : List ℕ → List ℕ
+unspaced [] = []
+unspaced (x ∷ s) = pick (areSpaces (x ∷ s)) [] (x ∷ unspaced s)

@@ -3,7 +3,7 @@
 ghost use mathlib.Core.Path.{_≡_};
 ghost use mathlib.Core.Option.{none};
 ghost use Prim.Native.Nat.{_+_, _*_, _%_, _≤_, _<_};
-ghost use lib.ListN.{length};
+ghost use lib.ListN.{length, take};
 ghost use lib.IntN.{pos};
 ghost use lib.Signed.{mag};
 ghost use Rattle.dates.specs.declared.OptionTime.the-variants.{NoTime};
@@ -474,6 +474,65 @@ pub fn text(s: &[u8]) -> Words
         return unmarked(s, 0);
     }
     unmarked(&s[..s.len() - 1], m)
+}
+
+// Whether sixteen bytes are spaces. None of them decides where the loop goes on: the compiler takes them all at once.
+fn are_spaces(s: &[u8], at: usize) -> bool
+    requires { ⌜ at + 16 ≤ length (now s) ⌝ }
+    ensures { λ r. ⌜ (r ≡ true → texts.unspaced (take (at + 16) (now (s .entry))) ≡ texts.unspaced (take at (now (s .entry)))) ⌝ }
+{
+    let mut ok = true;
+    let mut i = 0;
+    while i < 16 {
+        ok = ok & (s[at + i] == b' ');
+        i = i + 1;
+    }
+    ok
+}
+
+// A place with spaces alone behind it, by sixteen bytes at a time.
+fn shed_many(s: &[u8]) -> usize
+    ensures { λ r. ⌜ (texts.unspaced (take r (now (s .entry))) ≡ texts.unspaced (now (s .entry))) × (r ≤ length (now (s .entry))) ⌝ }
+{
+    let mut n = s.len();
+    while 16 <= n {
+        if are_spaces(s, n - 16) {
+            n = n - 16;
+        } else {
+            return n;
+        }
+    }
+    n
+}
+
+// Where the spaces before a place start.
+fn shed_each(s: &[u8], end: usize) -> usize
+    requires { ⌜ end ≤ length (now s) ⌝ }
+    ensures { λ r. ⌜ (take r (now (s .entry)) ≡ texts.unspaced (take end (now (s .entry)))) × (r ≤ end) ⌝ }
+{
+    let mut n = end;
+    while 0 < n {
+        if s[n - 1] == b' ' {
+            n = n - 1;
+        } else {
+            return n;
+        }
+    }
+    n
+}
+
+// Where the spaces at a text's end start. Mostly there are none: the last byte is looked at first.
+pub fn unspaced(s: &[u8]) -> usize
+    ensures { λ r. ⌜ (take r (now (s .entry)) ≡ texts.unspaced (now (s .entry))) × (r ≤ length (now (s .entry))) ⌝ }
+{
+    let n = s.len();
+    if n == 0 {
+        return 0;
+    }
+    if s[n - 1] == b' ' {
+        return shed_each(s, shed_many(s));
+    }
+    n
 }
 
 // ---- words
