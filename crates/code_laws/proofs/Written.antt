@@ -110,6 +110,10 @@ usual (text {s} {t} v m) =
 answer-usual : {s : List ℕ} {r : ReadDate} → Answer s r → Usual s
 answer-usual (answer t) = usual (t .by-grammar)
 
+-- each of its bytes is a printing ASCII character
+pub written-clear : (s : List ℕ) {r : ReadDate} → written s ≡ some r → Clear s
+written-clear s e = answer-usual (said e) .clear
+
 -- it is short enough for what a line holds
 pub written-short : (s : List ℕ) {r : ReadDate} → written s ≡ some r → length s ≤ 54
 written-short s e = answer-usual (said e) .short
