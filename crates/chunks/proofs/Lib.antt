@@ -7,6 +7,7 @@ pub mod Cased
 pub mod Faults
 pub mod Plains
 pub mod Whole
+pub mod Standing
 pub mod Latins
 pub mod Raises
 pub mod Lasts

@@ -61,7 +61,7 @@ ascii-clean p [] e = rw no-characters
 ascii-clean p (b ∷ t) e = rw (ascii-characters b t e, ascii-admitted b (front-low b t e)) (ascii-clean (p + 1) t (rest-ascii b t e))
 
 -- as it is
-normal-plain : (w : Bool) (t : List ℕ) → allAscii t ≡ true → normal w t ≡ plainText false w t
+pub normal-plain : (w : Bool) (t : List ℕ) → allAscii t ≡ true → normal w t ≡ plainText false w t
 unfolding normal plainText oneOut plainOut plainByte pick
 normal-plain w [] e = refl
 normal-plain w (b ∷ t) e = rw (encode-one b (front-low b t e), normal-plain (isWhitespace b) t (rest-ascii b t e))

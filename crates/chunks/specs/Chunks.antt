@@ -31,6 +31,11 @@ unfoldable pub kindsKnown : List Chunk → Bool
 kindsKnown [] = true
 kindsKnown (c ∷ cs) = leb (c .kind) 2 && kindsKnown cs
 
+-- whether no chunk is Math: each is Normal or Verbatim
+unfoldable pub noMath : List Chunk → Bool
+noMath [] = true
+noMath (c ∷ cs) = leb (c .kind) 1 && noMath cs
+
 -- the sum of the lengths: a sum of numbers, which does not wrap
 unfoldable pub lengths : List Chunk → ℕ
 lengths [] = 0

@@ -5,5 +5,6 @@ pub mod Format
 pub mod Upper
 pub mod Plain
 pub mod Latin
+pub mod Standing
 pub mod Answer
 pub mod Lent

@@ -17,6 +17,7 @@ ghost use Rattle.chunks.specs.Format as format_;
 ghost use Rattle.chunks.specs.Upper as upper_;
 ghost use Rattle.chunks.specs.Plain as plain_;
 ghost use Rattle.chunks.specs.Latin as latin_;
+ghost use Rattle.chunks.specs.Standing as standing_;
 ghost use Rattle.chunks.specs.Answer as answer_;
 use chars::Decoded;
 use chars::Upper;
@@ -743,4 +744,54 @@ pub fn format_uppercase(bytes: &[u8], table: &[u64], buf: &mut [u8]) -> Formatte
     ensures { λ r. ⌜ now (buf .exit) ≡ answer_.bufferAfter r (answer_.textOf true (now (bytes .entry)) (now (table .entry))) (now (buf .entry)) ⌝ }
 {
     format(bytes, table, true, buf)
+}
+
+// Whether no chunk of a table is Math: the kinds alone are looked at, many at once as well.
+fn no_math(table: &[u64]) -> bool
+    requires { ⌜ length (now table) % 4 ≡ 0 ⌝ }
+    ensures { λ r. ⌜ r ≡ chunks_.noMath (chunks_.chunksOf (now (table .entry))) ⌝ }
+{
+    let mut ok = true;
+    let mut k = 0;
+    while k < table.len() {
+        ok = ok & (table[k] <= 1);
+        k = k + 4;
+    }
+    ok
+}
+
+// Whether a byte is put as it is: above the line breaks, ASCII, and no lower-case letter where upper case is asked.
+fn is_standing(upper: bool, b: u8) -> bool
+    ensures { λ r. ⌜ r ≡ standing_.isStanding upper b ⌝ }
+{
+    let lower = (b'a' <= b) & (b <= b'z');
+    ((b'\r' < b) & (b < 0x80)) & !(upper & lower)
+}
+
+// Whether each byte is, many bytes at once as well.
+fn all_standing(upper: bool, t: &[u8]) -> bool
+    ensures { λ r. ⌜ r ≡ standing_.allStanding upper (now (t .entry)) ⌝ }
+{
+    let mut ok = true;
+    let mut i = 0;
+    while i < t.len() {
+        ok = ok & is_standing(upper, t[i]);
+        i = i + 1;
+    }
+    ok
+}
+
+// Whether the text of a list is its bytes as they stand: it is clean and within the limits, has no Math, and each byte is ASCII, no line break, and in
+// upper case where that is asked.
+pub fn stands(bytes: &[u8], table: &[u64], upper: bool) -> bool
+    ensures { λ r. ⌜ r ≡ standing_.listStands upper (now (bytes .entry)) (now (table .entry)) ⌝ }
+{
+    if fits(bytes, table) {
+        if is_short(bytes, table) {
+            if no_math(table) {
+                return all_standing(upper, bytes);
+            }
+        }
+    }
+    false
 }
