@@ -1,7 +1,7 @@
 -- Chunk lists as they are checked and formatted: each kind, each fault with its place, the order of the faults, and the limits.
 -- Assumes nothing.
 use mathlib.Core.Path.{_≡_, refl}
-use mathlib.Core.Bool.{true, false}
+use mathlib.Core.Bool.{Bool, true, false, not, _&&_}
 use mathlib.Core.List.{List, [], _∷_, _++_, map}
 use Prim.Native.Nat.{ℕ, zero, suc}
 use lib.Dec.{lit≤}
@@ -19,11 +19,12 @@ use Rattle.chunks.specs.declared.Checked.the-variants.{Clean, Faulty}
 use Rattle.chunks.specs.declared.Formatted.{Formatted}
 use Rattle.chunks.specs.declared.Formatted.the-variants.{Text, Refused}
 use Rattle.chunks.specs.Characters.{andThen, upTo, characters, codesOf, codes}
-use Rattle.chunks.specs.Chunks.{chunksOf, kindsKnown, lengths, fits, isShort, lastEnd, spanOf}
+use Rattle.chunks.specs.Chunks.{chunksOf, kindsKnown, noMath, lengths, fits, isShort, lastEnd, spanOf}
 use Rattle.chunks.specs.Check.{faultIn, orElse, faultOf, checked}
 use Rattle.chunks.specs.Format.{isBreak, oneOut, normal, lastWhite, chunkOut, chunkFlag, chunksOut, formatted}
 use Rattle.chunks.specs.Upper.{upperOut, uppers, uppercase}
 use Rattle.chunks.specs.Plain.{allAscii}
+use Rattle.chunks.specs.Standing.{isStanding, allStanding, listStands}
 use Rattle.chunks.specs.Answer.{textOf, roomOf, answered, formatAnswer, bufferAfter}
 use Rattle.chunks.proofs.Plains.{chunk-plain}
 
@@ -178,3 +179,47 @@ span-one = refl
 pub span-three : spanOf (chunksOf (0 ∷ 1 ∷ 5 ∷ 6 ∷ 1 ∷ 1 ∷ 20 ∷ 21 ∷ 2 ∷ 1 ∷ 9 ∷ 12 ∷ [])) ≡ fileSpan 5 12
 unfolding spanOf lastEnd chunksOf
 span-three = refl
+
+-- a list, and whether it stands: as it is, and in upper case
+pub record StandingExample : Type 0 where
+  pub bytes : List ℕ
+  pub table : List ℕ
+  pub as-is : Bool
+  pub upper : Bool
+
+abbrev pub standings : List StandingExample
+standings =
+    record { bytes = ascii "2020-01 ~"; table = 0 ∷ 9 ∷ 0 ∷ 9 ∷ []; as-is = true; upper = true }
+    ∷ record { bytes = []; table = []; as-is = true; upper = true }
+    -- Normal and Verbatim, and no Math, in whatever chunk
+    ∷ record { bytes = ascii "2020"; table = 0 ∷ 1 ∷ 0 ∷ 1 ∷ 1 ∷ 3 ∷ 1 ∷ 4 ∷ []; as-is = true; upper = true }
+    ∷ record { bytes = ascii "2020"; table = 2 ∷ 4 ∷ 0 ∷ 4 ∷ []; as-is = false; upper = false }
+    ∷ record { bytes = ascii "2020"; table = 0 ∷ 4 ∷ 0 ∷ 4 ∷ 2 ∷ 0 ∷ 4 ∷ 4 ∷ []; as-is = false; upper = false }
+    -- line breaks, and what stands behind them
+    ∷ record { bytes = 0x0A ∷ []; table = 0 ∷ 1 ∷ 0 ∷ 1 ∷ []; as-is = false; upper = false }
+    ∷ record { bytes = ascii "1" ++ (0x0D ∷ ascii "1"); table = 0 ∷ 3 ∷ 0 ∷ 3 ∷ []; as-is = false; upper = false }
+    ∷ record { bytes = 0x0E ∷ []; table = 0 ∷ 1 ∷ 0 ∷ 1 ∷ []; as-is = true; upper = true }
+    -- the lower-case letters, and what stands beside them
+    ∷ record { bytes = ascii "x"; table = 0 ∷ 1 ∷ 0 ∷ 1 ∷ []; as-is = true; upper = false }
+    ∷ record { bytes = ascii "X"; table = 0 ∷ 1 ∷ 0 ∷ 1 ∷ []; as-is = true; upper = true }
+    ∷ record { bytes = ascii "a"; table = 0 ∷ 1 ∷ 0 ∷ 1 ∷ []; as-is = true; upper = false }
+    ∷ record { bytes = ascii "z"; table = 0 ∷ 1 ∷ 0 ∷ 1 ∷ []; as-is = true; upper = false }
+    ∷ record { bytes = ascii "`{"; table = 0 ∷ 2 ∷ 0 ∷ 2 ∷ []; as-is = true; upper = true }
+    -- no character beyond ASCII
+    ∷ record { bytes = 0x7F ∷ []; table = 0 ∷ 1 ∷ 0 ∷ 1 ∷ []; as-is = true; upper = true }
+    ∷ record { bytes = 0x80 ∷ []; table = 0 ∷ 1 ∷ 0 ∷ 1 ∷ []; as-is = false; upper = false }
+    ∷ record { bytes = 0xC3 ∷ 0xA9 ∷ []; table = 0 ∷ 2 ∷ 0 ∷ 2 ∷ []; as-is = false; upper = false }
+    -- lengths that do not fit, an unknown kind, and a chunk too many
+    ∷ record { bytes = ascii "2020"; table = 0 ∷ 3 ∷ 0 ∷ 4 ∷ []; as-is = false; upper = false }
+    ∷ record { bytes = ascii "2020"; table = 3 ∷ 4 ∷ 0 ∷ 4 ∷ []; as-is = false; upper = false }
+    ∷ record { bytes = []; table = blanks 64; as-is = true; upper = true }
+    ∷ record { bytes = []; table = blanks 65; as-is = false; upper = false }
+    ∷ []
+
+pub standing-examples : map (λ (e : StandingExample). listStands false (e .bytes) (e .table)) standings ≡ map (λ (e : StandingExample). e .as-is) standings
+unfolding listStands fits isShort chunksOf kindsKnown lengths noMath allStanding isStanding
+standing-examples = refl
+
+pub standing-upper-examples : map (λ (e : StandingExample). listStands true (e .bytes) (e .table)) standings ≡ map (λ (e : StandingExample). e .upper) standings
+unfolding listStands fits isShort chunksOf kindsKnown lengths noMath allStanding isStanding
+standing-upper-examples = refl
