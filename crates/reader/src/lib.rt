@@ -70,11 +70,15 @@ fn words_in(bytes: &[u8], table: &[u64], buf: &mut [u8]) -> Words
     }
 }
 
-// A date field by the way for all. A short list is formatted into a small array, which costs less to clear.
+// A date field by the way for all. Most are read where they stand; of the others a short one is formatted into a small array, which costs less to
+// clear.
 fn any_words(bytes: &[u8], table: &[u64]) -> Words
     ensures { λ r. ⌜ r ≡ wordsOf (field.parsed (now (bytes .entry)) (now (table .entry))) ⌝ }
     ensures { λ r. ⌜ Typed (field.parsed (now (bytes .entry)) (now (table .entry))) ⌝ }
 {
+    if chunks::stands(bytes, table, true) {
+        return text_words(bytes, chunks::span(table));
+    }
     if bytes.len() <= 56 {
         if table.len() <= 16 {
             let mut small = [0u8; 64];
@@ -130,6 +134,9 @@ fn parse_by_in(level: bool, bytes: &[u8], table: &[u64], buf: &mut [u8]) -> Read
 fn parse_by(level: bool, bytes: &[u8], table: &[u64]) -> ReadDate
     ensures { λ r. ⌜ r ≡ field.parsedBy level (now (bytes .entry)) (now (table .entry)) ⌝ }
 {
+    if chunks::stands(bytes, table, false) {
+        return match_by(level, bytes);
+    }
     if bytes.len() <= 56 {
         if table.len() <= 16 {
             let mut small = [0u8; 64];
@@ -381,6 +388,9 @@ fn year_of(bytes: &[u8], table: &[u64], buf: &mut [u8]) -> FieldYear
     requires { ⌜ Readable (now bytes) (now table) (length (now buf)) ⌝ }
     ensures { λ r. ⌜ r ≡ fieldset.yearOf (lent (now (bytes .entry)) (now (table .entry))) ⌝ }
 {
+    if chunks::stands(bytes, table, false) {
+        return moved_year(fields::get_year(bytes), chunks::span(table));
+    }
     let n = text_of(bytes, table, buf);
     moved_year(fields::get_year(&buf[..n]), chunks::span(table))
 }
@@ -415,6 +425,9 @@ fn month_alone(bytes: &[u8], table: &[u64], buf: &mut [u8]) -> Parts
     requires { ⌜ Readable (now bytes) (now table) (length (now buf)) ⌝ }
     ensures { λ r. ⌜ r ≡ fieldset.monthAlone (lent (now (bytes .entry)) (now (table .entry))) ⌝ }
 {
+    if chunks::stands(bytes, table, false) {
+        return month_text(bytes);
+    }
     let n = text_of(bytes, table, buf);
     month_text(&buf[..n])
 }
@@ -424,6 +437,9 @@ fn month_of(bytes: &[u8], table: &[u64], buf: &mut [u8]) -> ReadMonth
     requires { ⌜ Readable (now bytes) (now table) (length (now buf)) ⌝ }
     ensures { λ r. ⌜ r ≡ monthField (formatted (now (bytes .entry)) (now (table .entry))) ⌝ }
 {
+    if chunks::stands(bytes, table, false) {
+        return fields::month_field(bytes);
+    }
     let n = text_of(bytes, table, buf);
     fields::month_field(&buf[..n])
 }
@@ -433,6 +449,9 @@ fn day_of(bytes: &[u8], table: &[u64], buf: &mut [u8]) -> ReadDayField
     requires { ⌜ Readable (now bytes) (now table) (length (now buf)) ⌝ }
     ensures { λ r. ⌜ r ≡ dayField (formatted (now (bytes .entry)) (now (table .entry))) (spanOf (chunksOf (now (table .entry)))) ⌝ }
 {
+    if chunks::stands(bytes, table, false) {
+        return fields::day_field(bytes, chunks::span(table));
+    }
     let n = text_of(bytes, table, buf);
     fields::day_field(&buf[..n], chunks::span(table))
 }

@@ -1,3 +1,5 @@
+use Rattle.chunks.proofs.Standing.{stands-formatted}
+use mathlib.Core.Bool.{false}
 use Rattle.reading_laws.specs.Fields.{yearOf}
 use native.Mathlib.Omega.{arith}
 use lib.Seq.{length-take-le}
@@ -6,19 +8,32 @@ use borrow.Author.Needs.{needs}
 use Rattle.reader.proofs.year_of.Statement.{statement}
 use Rattle.reader.proofs.year_of.Tie as tie
 
+returns : tie.Need-returns
+unfolding yearOf
+returns c =
+    let i = c .before .before .before in
+    let a = i .before .before .before .before .before .args in
+    let s = sym (i .before .stands .ensures) ∙ i .if1 .taken in
+    c .moved-year .ensures ∙ rw (c .before .span .ensures, c .before .before .get-year .ensures, stands-formatted false (a .bytes .now) (a .table .now) s)
+
 slice-aggregate-get-year : tie.Need-slice-aggregate-get-year
 slice-aggregate-get-year c =
     let t = c .before .before .before .text-of in
     sym (length-take-le _ (t .last .1 .1 .0) (omega (arith, t .ensures .0)))
 
-returns : tie.Need-returns
+returns-2 : tie.Need-returns-2
 unfolding yearOf
-returns c = c .moved-year .ensures ∙ rw (c .before .span .ensures, c .before .before .get-year .ensures, c .before .before .before .before .before .before .text-of .ensures .1)
+returns-2 c = c .moved-year2 .ensures ∙ rw (c .before .span2 .ensures, c .before .before .get-year2 .ensures, c .before .before .before .before .before .before .text-of .ensures .1)
 
 pub year-of-spec : {M : Type 1} → statement M
 year-of-spec =
     tie.close
     (tie.spec
+    (λ c κs. search needs)
+    (λ c κs. search needs)
+    (λ c κs. search needs)
+    (λ c κs. search needs)
+    returns
     (λ c κs. search needs)
     (λ c. search needs)
     slice-aggregate-get-year
@@ -26,4 +41,4 @@ year-of-spec =
     (λ c κs. search needs)
     (λ c κs. search needs)
     (λ c. search needs)
-    returns)
+    returns-2)
