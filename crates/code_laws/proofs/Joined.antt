@@ -13,14 +13,14 @@ use Rattle.chars.specs.Classes.{isWhitespace}
 use Rattle.chars.proofs.Cases.{and-true}
 use Rattle.chars.proofs.Encode.{encode-one}
 use Rattle.chunks.specs.declared.Checked.the-variants.{Clean}
-use Rattle.chunks.specs.Chunks.{Chunk, chunksOf, lengths, fits, isShort}
+use Rattle.chunks.specs.Chunks.{Chunk, chunksOf, noMath, lengths, fits, isShort}
 use Rattle.chunks.specs.Check.{checked}
 use Rattle.chunks.specs.Format.{isBreak, oneOut, normal, chunkOut, chunkFlag, chunksOut, formatted}
 use Rattle.chunks.specs.Answer.{textOf}
 use Rattle.chunks.proofs.Plains.{ascii-codes, plain-text}
 use Rattle.chunks.proofs.Tables.{of-fits}
 use Rattle.chunks.proofs.Whole.{ascii-checked}
-use Rattle.codes.specs.Lists.{noMath, isJoined}
+use Rattle.codes.specs.Lists.{isJoined}
 use Rattle.roundtrip_laws.proofs.Bytes.{Clear, none, more, clear-text, clear-ascii}
 
 -- a text cut in two

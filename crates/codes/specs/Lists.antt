@@ -1,12 +1,12 @@
 -- Which chunk lists are answered at once, and what is said of them. That this is what the readers say is proved in `code_laws`.
 use Prim.Native.Nat.{ℕ}
-use mathlib.Core.Bool.{Bool, true, _&&_, _||_}
-use mathlib.Core.List.{List, [], _∷_}
+use mathlib.Core.Bool.{Bool, _&&_, _||_}
+use mathlib.Core.List.{List}
 use mathlib.Core.Option.{Option, none, some}
 use lib.Dec.{eqb, leb, ltb}
 use lib.ListN.{length, getD}
 use Rattle.chars.specs.Pick.{pick}
-use Rattle.chunks.specs.Chunks.{Chunk, chunksOf, fits}
+use Rattle.chunks.specs.Chunks.{chunksOf, noMath, fits}
 use Rattle.chunks.specs.Lent.{Lent, Optional, Three}
 use Rattle.dates.specs.declared.OptionMonth.{OptionMonth}
 use Rattle.dates.specs.declared.OptionMonth.the-variants.{NoMonth}
@@ -25,12 +25,7 @@ use Rattle.codes.specs.Parts.{yearPart, monthPart, dayPart}
 unfoldable pub oneNormal : List ℕ → List ℕ → Bool
 oneNormal b table = eqb (length table) 4 && (eqb (getD table 0 0) 0 && eqb (getD table 1 0) (length b))
 
--- whether no chunk is Math: each is Normal or Verbatim
-unfoldable pub noMath : List Chunk → Bool
-noMath [] = true
-noMath (c ∷ cs) = leb (c .kind) 1 && noMath cs
-
--- a list of at most 64 such chunks, whose texts one behind the other are the bytes; no usual text is longer than 54
+-- a list of at most 64 chunks that are no Math, whose texts one behind the other are the bytes; no usual text is longer than 54
 unfoldable pub isJoined : List ℕ → List ℕ → Bool
 isJoined b table =
     leb (length b) 54 && (leb (length (chunksOf table)) 64 && (noMath (chunksOf table) && fits b table))

@@ -8,11 +8,11 @@ use native.Mathlib.Omega.{arith}
 use borrow.Author.Tests.{le-leb, lt-leb, eq-eqb, ne-eqb}
 use lib.Dec.{leb, eqb}
 use lib.ListN.{length, getD, drop}
-use Rattle.chunks.specs.Chunks.{Chunk, chunksOf, fits}
+use Rattle.chunks.specs.Chunks.{Chunk, chunksOf, noMath, fits}
 use Rattle.chunks.proofs.Lengths as all
 use Rattle.chunks.proofs.Lengths.{fitsIn}
 use Rattle.chunks.proofs.Tables.{chunks-at, chunks-over, count}
-use Rattle.codes.specs.Lists.{noMath, isJoined}
+use Rattle.codes.specs.Lists.{isJoined}
 
 -- no Math, known kinds, and lengths that sum to n
 abbrev pub joinsIn : ℕ → List Chunk → Bool

@@ -9,7 +9,7 @@ ghost use mathlib.Core.Option.{none, some};
 ghost use lib.Dec.{eqb, ltb};
 ghost use Prim.Native.Nat.{_%_, _≤_};
 ghost use lib.ListN.{length, take};
-ghost use Rattle.chunks.specs.Chunks.{isShort, chunksOf, kindsKnown, lengths, spanOf};
+ghost use Rattle.chunks.specs.Chunks.{isShort, chunksOf, kindsKnown, noMath, lengths, spanOf};
 ghost use Rattle.chunks.specs.Answer.{roomOf};
 ghost use Rattle.chunks.specs.declared.Checked.the-variants.{Clean};
 ghost use Rattle.chunks.specs.Check.{checked};
@@ -172,7 +172,7 @@ fn is_one_normal(bytes: &[u8], table: &[u64]) -> bool
 // Whether no kind of a table is Math and its lengths sum to a number of bytes. What is left of the bytes is counted down, so that no sum can wrap.
 fn lengths_join(table: &[u64], bytes: usize) -> bool
     requires { ⌜ length (now table) % 4 ≡ 0 ⌝ }
-    ensures { λ r. ⌜ r ≡ (lists.noMath (chunksOf (now (table .entry))) && (kindsKnown (chunksOf (now (table .entry))) && eqb (lengths (chunksOf (now (table .entry)))) bytes)) ⌝ }
+    ensures { λ r. ⌜ r ≡ (noMath (chunksOf (now (table .entry))) && (kindsKnown (chunksOf (now (table .entry))) && eqb (lengths (chunksOf (now (table .entry)))) bytes)) ⌝ }
 {
     let mut left = bytes as u64;
     let mut k = 0;
