@@ -32,11 +32,11 @@ use Rattle.datefield.specs.Value.{trimmedDate, parseText}
 use Rattle.reading_laws.specs.Field.{parsed}
 use Rattle.reading_laws.proofs.Entries.{parsed-clean}
 use Rattle.codes.specs.Texts.{written, areSpaces, unspaced}
-use Rattle.codes.specs.Lists.{oneNormal, listSpaced}
+use Rattle.codes.specs.Lists.{oneNormal, listSpaced, listWritten, listUsual}
 use Rattle.codes.specs.Typed.{Typed}
 use Rattle.roundtrip_laws.proofs.Bytes.{Each, none, more, each-of, IsClear, Clear, low-same, clear-trimmed}
 use Rattle.code_laws.proofs.Lists.{plain-list}
-use Rattle.code_laws.proofs.Written.{text-parsed, written-clear, written-typed}
+use Rattle.code_laws.proofs.Written.{text-parsed, written-clear, written-typed, written-parsed, list-typed}
 
 -- a text, and what is left of it: spaces alone are behind that
 data Cut : List ℕ → List ℕ → Type 0 where
@@ -161,3 +161,13 @@ module _ (b table : List ℕ) {r : ReadDate} where
   -- and its numbers are of their types
   pub spaced-typed : listSpaced b table ≡ some r → Typed r
   spaced-typed = of-spaced λ o h e. written-typed (unspaced b) e
+
+  -- the same of either list
+  pub usual-parsed : listUsual b table ≡ some r → parsed b table ≡ r
+  unfolding listUsual
+  usual-parsed =
+      by-test (λ (a : Option ReadDate). a ≡ some r → parsed b table ≡ r) (oneNormal b table) (λ _. spaced-parsed) (λ _ e. written-parsed b table e)
+
+  pub usual-typed : listUsual b table ≡ some r → Typed r
+  unfolding listUsual
+  usual-typed = by-test (λ (a : Option ReadDate). a ≡ some r → Typed r) (oneNormal b table) (λ _. spaced-typed) (λ _ e. list-typed b table e)

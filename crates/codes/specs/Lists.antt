@@ -38,6 +38,10 @@ listWritten b table = pick (oneNormal b table || isJoined b table) (written b) n
 unfoldable pub listSpaced : List ℕ → List ℕ → Option ReadDate
 listSpaced b table = pick (oneNormal b table && leb (length b) 4096) (written (unspaced b)) none
 
+-- what it says of either list, that of several chunks as it stands
+unfoldable pub listUsual : List ℕ → List ℕ → Option ReadDate
+listUsual b table = pick (oneNormal b table) (listSpaced b table) (listWritten b table)
+
 -- what the ported reader alone says, if the list's span starts where no place becomes too large
 unfoldable pub listPorted : List ℕ → List ℕ → Option ReadDate
 listPorted b table =
