@@ -3,13 +3,14 @@ use mathlib.Core.Path.{_≡_, refl, sym, ap, subst, _∙_}
 use mathlib.Core.Bool.{true, false, _&&_, _||_}
 use mathlib.Core.List.{List}
 use Prim.Native.Nat.{ℕ}
-use lib.Dec.{ltb}
-use lib.ListN.{getD}
+use lib.Dec.{ltb, leb}
+use lib.ListN.{getD, length, take}
 use Rattle.chars.specs.Pick.{pick}
-use Rattle.codes.specs.Points.{onSome}
-use Rattle.codes.specs.Texts.{written}
+use Rattle.datefield.specs.Text.{lastByte, unmarked, isUncertain, isApproximate}
+use Rattle.codes.specs.Points.{onSome, pointOf}
+use Rattle.codes.specs.Texts.{isSlash, slashOf, valueOf, written, unspaced}
 use Rattle.codes.specs.Ported.{ported, movedBy}
-use Rattle.codes.specs.Lists.{oneNormal, isJoined, listWritten, listPorted}
+use Rattle.codes.specs.Lists.{oneNormal, isJoined, listWritten, listSpaced, listUsual, listPorted}
 use mathlib.Core.Option.{Option, none, some}
 use Rattle.refusals.specs.declared.ReadDate.{ReadDate}
 use Rattle.codes.specs.declared.Words.{Words}
@@ -49,3 +50,24 @@ module _ (b table : List ℕ) where
   pub none-ported : oneNormal b table ≡ false → none ≡ listPorted b table
   unfolding listPorted pick
   none-ported e = rw e
+
+  pub spaced-usual : oneNormal b table ≡ true → leb (length b) 4096 ≡ true → written (unspaced b) ≡ listUsual b table
+  unfolding listUsual listSpaced pick
+  spaced-usual e h = rw (e, h)
+
+  pub long-usual : oneNormal b table ≡ true → leb (length b) 4096 ≡ false → none ≡ listUsual b table
+  unfolding listUsual listSpaced pick
+  long-usual e h = rw (e, h)
+
+  pub joined-usual : oneNormal b table ≡ false → isJoined b table ≡ true → written b ≡ listUsual b table
+  unfolding listUsual listWritten pick
+  joined-usual e h = rw (e, h)
+
+  pub none-usual : oneNormal b table ≡ false → isJoined b table ≡ false → none ≡ listUsual b table
+  unfolding listUsual listWritten pick
+  none-usual e h = rw (e, h)
+
+-- no text says nothing
+pub nothing-written : (s : List ℕ) → written (take 0 s) ≡ none
+unfolding pick pointOf onSome lastByte unmarked isUncertain isApproximate isSlash slashOf valueOf written
+nothing-written s = refl

@@ -17,6 +17,7 @@ ghost use Rattle.chunks.specs.Format.{formatted};
 ghost use Rattle.codes.specs.Words.{wordsOr, wordsOf, yearWord, monthWord, dayPartWord};
 ghost use Rattle.codes.specs.Typed.{Typed};
 ghost use Rattle.codes.specs.Parts.{yearPart};
+ghost use Rattle.codes.specs.Texts.{written};
 ghost use Rattle.chars.specs.Pick.{pick};
 ghost use Rattle.codes.specs.Points.{onSome};
 ghost use Rattle.codes.specs.Ported.{ported, movedBy};
@@ -254,7 +255,31 @@ fn written_words(bytes: &[u8], table: &[u64]) -> Words
     codes::no_words()
 }
 
-// What the ported reader alone says of one at once.
+// How many of the bytes may be a usual text: of one Normal chunk those before the spaces at its end, of several chunks all.
+fn usual_length(bytes: &[u8], table: &[u64]) -> usize
+    ensures { λ r. ⌜ (written (take r (now (bytes .entry))) ≡ lists.listUsual (now (bytes .entry)) (now (table .entry))) × (r ≤ length (now (bytes .entry))) ⌝ }
+{
+    if is_one_normal(bytes, table) {
+        if bytes.len() <= 4096 {
+            return codes::unspaced(bytes);
+        }
+        return 0;
+    }
+    if is_joined(bytes, table) {
+        return bytes.len();
+    }
+    0
+}
+
+// What the ported reader says of them at once.
+fn usual_words(bytes: &[u8], table: &[u64]) -> Words
+    ensures { λ r. ⌜ r ≡ wordsOr (lists.listUsual (now (bytes .entry)) (now (table .entry))) ⌝ }
+{
+    let n = usual_length(bytes, table);
+    codes::text(&bytes[..n])
+}
+
+// What the ported reader alone says of a list at once.
 fn ported_words(bytes: &[u8], table: &[u64]) -> Words
     ensures { λ r. ⌜ r ≡ wordsOr (lists.listPorted (now (bytes .entry)) (now (table .entry))) ⌝ }
 {
@@ -271,7 +296,7 @@ pub fn parse_words(bytes: &[u8], table: &[u64]) -> Words
     ensures { λ r. ⌜ r ≡ wordsOf (field.parsed (now (bytes .entry)) (now (table .entry))) ⌝ }
     ensures { λ r. ⌜ Typed (field.parsed (now (bytes .entry)) (now (table .entry))) ⌝ }
 {
-    let w = written_words(bytes, table);
+    let w = usual_words(bytes, table);
     if w.last != NOTHING {
         return again(w);
     }

@@ -1,7 +1,7 @@
 use mathlib.Core.Path.{_∙_}
 use Rattle.reading_laws.specs.Field.{parsed}
-use Rattle.codes.specs.Lists.{listWritten, listPorted}
-use Rattle.code_laws.proofs.Written.{written-parsed, list-typed}
+use Rattle.codes.specs.Lists.{listUsual, listPorted}
+use Rattle.code_laws.proofs.Spaced.{usual-parsed, usual-typed}
 use Rattle.code_laws.proofs.Ported.{ported-parsed, ported-typed}
 use Rattle.reader.proofs.Said.{at-once}
 use borrow.Author.Needs.{needs}
@@ -14,7 +14,7 @@ returns c =
     let a = b .before .before .before .args in
     let l = a .bytes .now in
     let t = a .table .now in
-    let p = at-once (listWritten l t) (parsed l t) (b .written-words .ensures) (c .before .if1 .taken) (λ r e. written-parsed l t e) (λ r e. list-typed l t e) in
+    let p = at-once (listUsual l t) (parsed l t) (b .usual-words .ensures) (c .before .if1 .taken) (λ r e. usual-parsed l t e) (λ r e. usual-typed l t e) in
     (c .again .ensures ∙ p .0, p .1)
 
 returns-2 : tie.Need-returns-2
