@@ -20,7 +20,8 @@ use Rattle.refusals.specs.declared.ReadDate.the-variants.{Accepted}
 use Rattle.datefield.specs.Text.{lastByte, isUncertain, isApproximate, unmarked}
 use Rattle.codes.specs.Points.{twoOf, fourOf, yearOf, countedFrom, partAt, yearPoint, monthPoint, onSome, pointOf}
 use Rattle.codes.specs.Texts.{isSlash, slashOf, valueOf, written, areSpaces, unspaced}
-use Rattle.codes.specs.Lists.{oneNormal, listSpaced}
+use Rattle.codes.specs.Lists.{oneNormal}
+use Rattle.codes.specs.Spaced.{listSpaced}
 
 -- a text, and what is left of it
 pub record Example : Type 0 where

@@ -4,6 +4,7 @@ pub mod Texts
 pub mod Ported
 pub mod Parts
 pub mod Lists
+pub mod Spaced
 pub mod Typed
 pub mod Back
 pub mod Unpacked

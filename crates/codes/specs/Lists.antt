@@ -17,7 +17,7 @@ use Rattle.dates.specs.Value.{datetime, fromDatetime}
 use Rattle.refusals.specs.declared.ReadDate.{ReadDate}
 use Rattle.refusals.specs.declared.ReadDate.the-variants.{Accepted}
 use Rattle.codes.specs.Points.{onSome}
-use Rattle.codes.specs.Texts.{written, unspaced}
+use Rattle.codes.specs.Texts.{written}
 use Rattle.codes.specs.Ported.{ported, movedBy}
 use Rattle.codes.specs.Parts.{yearPart, monthPart, dayPart}
 
@@ -33,14 +33,6 @@ isJoined b table =
 -- what both readers say of the text of either list
 unfoldable pub listWritten : List ℕ → List ℕ → Option ReadDate
 listWritten b table = pick (oneNormal b table || isJoined b table) (written b) none
-
--- what the ported reader says of one Normal chunk within the limit, without the spaces at its end
-unfoldable pub listSpaced : List ℕ → List ℕ → Option ReadDate
-listSpaced b table = pick (oneNormal b table && leb (length b) 4096) (written (unspaced b)) none
-
--- what it says of either list, that of several chunks as it stands
-unfoldable pub listUsual : List ℕ → List ℕ → Option ReadDate
-listUsual b table = pick (oneNormal b table) (listSpaced b table) (listWritten b table)
 
 -- what the ported reader alone says, if the list's span starts where no place becomes too large
 unfoldable pub listPorted : List ℕ → List ℕ → Option ReadDate

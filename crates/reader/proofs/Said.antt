@@ -10,7 +10,8 @@ use Rattle.datefield.specs.Text.{lastByte, unmarked, isUncertain, isApproximate
 use Rattle.codes.specs.Points.{onSome, pointOf}
 use Rattle.codes.specs.Texts.{isSlash, slashOf, valueOf, written, unspaced}
 use Rattle.codes.specs.Ported.{ported, movedBy}
-use Rattle.codes.specs.Lists.{oneNormal, isJoined, listWritten, listSpaced, listUsual, listPorted}
+use Rattle.codes.specs.Lists.{oneNormal, isJoined, listWritten, listPorted}
+use Rattle.codes.specs.Spaced.{listSpaced, listUsual}
 use mathlib.Core.Option.{Option, none, some}
 use Rattle.refusals.specs.declared.ReadDate.{ReadDate}
 use Rattle.codes.specs.declared.Words.{Words}

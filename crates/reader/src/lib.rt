@@ -22,6 +22,7 @@ ghost use Rattle.chars.specs.Pick.{pick};
 ghost use Rattle.codes.specs.Points.{onSome};
 ghost use Rattle.codes.specs.Ported.{ported, movedBy};
 ghost use Rattle.codes.specs.Lists as lists;
+ghost use Rattle.codes.specs.Spaced.{listUsual};
 ghost use Rattle.datefield.specs.Value.{parseText};
 ghost use Rattle.fields.specs.Month.{monthField};
 ghost use Rattle.fields.specs.Day.{dayField};
@@ -257,7 +258,7 @@ fn written_words(bytes: &[u8], table: &[u64]) -> Words
 
 // How many of the bytes may be a usual text: of one Normal chunk those before the spaces at its end, of several chunks all.
 fn usual_length(bytes: &[u8], table: &[u64]) -> usize
-    ensures { λ r. ⌜ (written (take r (now (bytes .entry))) ≡ lists.listUsual (now (bytes .entry)) (now (table .entry))) × (r ≤ length (now (bytes .entry))) ⌝ }
+    ensures { λ r. ⌜ (written (take r (now (bytes .entry))) ≡ listUsual (now (bytes .entry)) (now (table .entry))) × (r ≤ length (now (bytes .entry))) ⌝ }
 {
     if is_one_normal(bytes, table) {
         if bytes.len() <= 4096 {
@@ -273,7 +274,7 @@ fn usual_length(bytes: &[u8], table: &[u64]) -> usize
 
 // What the ported reader says of them at once.
 fn usual_words(bytes: &[u8], table: &[u64]) -> Words
-    ensures { λ r. ⌜ r ≡ wordsOr (lists.listUsual (now (bytes .entry)) (now (table .entry))) ⌝ }
+    ensures { λ r. ⌜ r ≡ wordsOr (listUsual (now (bytes .entry)) (now (table .entry))) ⌝ }
 {
     let n = usual_length(bytes, table);
     codes::text(&bytes[..n])

@@ -1,6 +1,7 @@
 use mathlib.Core.Path.{_∙_}
 use Rattle.reading_laws.specs.Field.{parsed}
-use Rattle.codes.specs.Lists.{listUsual, listPorted}
+use Rattle.codes.specs.Lists.{listPorted}
+use Rattle.codes.specs.Spaced.{listUsual}
 use Rattle.code_laws.proofs.Spaced.{usual-parsed, usual-typed}
 use Rattle.code_laws.proofs.Ported.{ported-parsed, ported-typed}
 use Rattle.reader.proofs.Said.{at-once}
