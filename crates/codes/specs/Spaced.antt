@@ -1,5 +1,5 @@
 -- Which chunk lists are answered at once by the ported reader, if the spaces at the end of a single chunk are passed over. That this is what that
--- reader says is proved in `code_laws`. No public contract rests on it.
+-- reader says is proved in `code_laws`.
 use Prim.Native.Nat.{ℕ}
 use mathlib.Core.Bool.{_&&_}
 use mathlib.Core.List.{List}
