@@ -502,6 +502,9 @@ fn words(n: usize) -> Input {
     Input::text(&words.repeat(n / words.len() + 1)[..n])
 }
 
+/// The group of texts that no reader answers at once.
+const GENERAL: &str = "way for all";
+
 pub fn all() -> Vec<Case> {
     let mut all = Vec::new();
     for t in ["2000", "2000-02", "2000-02-29", "49", "2000-02-29~", "2000-02-29T10:20:30Z"] {
@@ -526,6 +529,12 @@ pub fn all() -> Vec<Case> {
     for t in ["", "forthcoming", "2000-13-01", "1900-02-29", "2000/1900-02-29"] {
         let name = if t.is_empty() { "empty" } else { t };
         all.push(reading("refused", name, Input::text(t)));
+    }
+    for t in [" 2000", "2000-2-9", "2000-02-29t10:20", "- 12", "19xx", "1999-7/2003-8"] {
+        all.push(reading(GENERAL, t, Input::text(t)));
+    }
+    for t in ["123", "2000-13", "2000-1-32", "1850 ca.", "1999/2003-13"] {
+        all.push(reading(GENERAL, &format!("{t}, refused"), Input::text(t)));
     }
     let two = vec![(0, "20".into(), 100), (1, "00".into(), 103)];
     all.push(reading("chunks", "2000 in two chunks", Input::new(two)));
