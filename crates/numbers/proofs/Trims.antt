@@ -96,6 +96,18 @@ over-ascii (suc n) s at h low w =
     (omega (arith, rest .0), trim-go s at (omega (arith, rest .0)) ∙ ap (trimFrom s) e ∙ sym (trim-go s (at + 1) (rest .0)) ∙ far))
     (λ t. let e = solid-step s at (omega arith) here t in (omega arith, trim-go s at (omega arith) ∙ ap (λ (k : ℕ). trimFrom s (at + k)) e ∙ far))
 
+from-zero : (j : ℕ) → 0 + j ≡ j
+from-zero j = omega arith
+
+-- of an ASCII text whose last character is no white space nothing is trimmed
+pub ascii-trim : (s : List ℕ) → 0 < length s → ((j : ℕ) → j < length s → getD s j 0 < 128) → inClass Whitespace (getD s (length s - 1) 0) ≡ false → trimEnd s ≡ length s
+unfolding trimEnd
+ascii-trim s h low w =
+    let n = length s - 1 in
+    let o = over-ascii n s 0 (omega arith) (λ j l. rw (from-zero j) (low j (omega arith))) (rw (from-zero n) w) in
+    let all : 0 + (n + 1) ≡ length s = omega arith in
+    o .1 ∙ ap (trimFrom s) all ∙ trim-stop s (length s) (omega (arith, step-fits s (length s)))
+
 -- ASCII characters, none of them white space
 abbrev pub Plain : List ℕ → Type 0
 Plain [] = Unit {0}

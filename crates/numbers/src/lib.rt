@@ -207,10 +207,29 @@ fn trim_strides(s: &[u8]) -> Reached
     Reached { at: i, over: false }
 }
 
+// Whether a text is ASCII and its last byte prints, as most are: nothing of it is trimmed.
+fn is_trim(s: &[u8]) -> bool
+    requires { ⌜ 0 < length (now s) ⌝ }
+    ensures { λ r. ⌜ (r ≡ true → trims.trimEnd (now (s .entry)) ≡ length (now (s .entry))) ⌝ }
+{
+    let mut ok = b' ' < s[s.len() - 1];
+    let mut i = 0;
+    while i < s.len() {
+        ok = ok & (s[i] < 0x80);
+        i = i + 1;
+    }
+    ok
+}
+
 // The place behind the last character that is no white space.
 pub fn trim_end(s: &[u8]) -> Cursor
     ensures { λ r. ⌜ r .0 ≡ trims.trimEnd (now (s .entry)) ⌝ }
 {
+    if 0 < s.len() {
+        if is_trim(s) {
+            return Cursor(s.len());
+        }
+    }
     let e = trim_strides(s);
     if e.over {
         return Cursor(e.at);
