@@ -12,7 +12,8 @@ PROCESSORS = {'x86_64': 'x86-64', 'aarch64': 'Arm'}
 # What is aimed at: of the Rust's time at most so much. A group of calls that is not named is reading; a sort of frames is a group of its own.
 Aim = collections.namedtuple('Aim', 'what words part')
 READING, LONG = Aim('reading', 'a quarter', 1 / 4), Aim('long texts', 'a fifth', 1 / 5)
-AIMS = {'way for all': Aim('texts that go the way for all', 'half', 1 / 2), 'length': LONG, 'long': LONG, 'write': Aim('writing', 'a quarter', 1 / 4), 'compare': Aim('comparing', 'its time', 1),
+AIMS = {'way for all': Aim('texts that go the way for all', 'half', 1 / 2), 'length': LONG, 'long': LONG,
+        'write': Aim('writing', 'a quarter', 1 / 4), 'compare': Aim('comparing', 'its time', 1),
         'import': Aim('frames as an import file has them', 'a quarter', 1 / 4), 'many': Aim('odd frames', 'a third', 1 / 3)}
 
 def aim(case):
