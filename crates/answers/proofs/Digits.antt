@@ -8,6 +8,8 @@ use native.Mathlib.Omega.{arith}
 use lib.ListN.{length, getD, drop, set, length-append, drop-of-length-le}
 use lib.Seq.{sets, drop-cons}
 use lib.Bits.{bitAnd, bitOr}
+use Rattle.chars.specs.Pick.{pick}
+use Rattle.chars.proofs.Below.{agree}
 use Rattle.chars.proofs.Spelled.{bytesAt, entries}
 use Rattle.dates.specs.declared.TimeOffset.{TimeOffset}
 use Rattle.dates.specs.declared.TimeOffset.the-variants.{Utc, Offset}
@@ -54,6 +56,18 @@ next-digits t out at i h =
 pub no-digits : (t : List ℕ) (i : ℕ) → length t ≤ i → hexText (drop i t) ≡ []
 unfolding hexText
 no-digits t i h = rw (drop-of-length-le t {i = i} h)
+
+-- both digits of a byte as one number, the high one lowest
+unfoldable pub digitPair : ℕ → ℕ
+digitPair b = (b / 16 + 256 * (b % 16) + 0x3030) + 39 * bitAnd ((b / 16 + 256 * (b % 16) + 0x0606) / 16) 0x0101
+
+pub first-digit : (b : ℕ) → b < 256 → digitPair b % 256 ≡ glyph (b / 16)
+unfolding digitPair glyph pick
+first-digit b h = agree (λ b. digitPair b % 256) (λ b. glyph (b / 16)) 256 tt b h
+
+pub second-digit : (b : ℕ) → b < 256 → digitPair b / 256 ≡ glyph (b % 16)
+unfolding digitPair glyph pick
+second-digit b h = agree (λ b. digitPair b / 256) (λ b. glyph (b % 16)) 256 tt b h
 
 -- the two bits
 pub packed : (u a : Bool) → bitOr (bitAnd (bit u) 1) (bitAnd (bit a) 1 * 2 % 256) ≡ marks u a

@@ -152,29 +152,28 @@ fn marks(uncertain: bool, approximate: bool) -> u8
 
 // ---- the line
 
-// A hexadecimal digit.
-fn glyph(d: u8) -> u8
-    requires { ⌜ d < 16 ⌝ }
-    ensures { λ r. ⌜ r ≡ spec.glyph d ⌝ }
+// Both digits of a byte as one number, the high one lowest. Six more carry out of a half just where its digit is a letter, and small letters stand 39
+// behind where the digits would go on: so no test decides between them.
+fn pair(b: u8) -> u16
+    ensures { λ r. ⌜ (r % 256 ≡ spec.glyph (b / 16)) × (r / 256 ≡ spec.glyph (b % 16)) ⌝ }
 {
-    if d < 10 {
-        return b'0' + d;
-    }
-    b'a' + (d - 10)
+    let halves = (b / 16) as u16 + 256 * ((b % 16) as u16);
+    let letters = (halves + 0x0606) / 16 & 0x0101;
+    halves + 0x3030 + 39 * letters
 }
 
 // The high digit of a byte.
 pub fn high(b: u8) -> u8
     ensures { λ r. ⌜ r ≡ spec.glyph (b / 16) ⌝ }
 {
-    glyph(b / 16)
+    (pair(b) % 256) as u8
 }
 
 // The digit behind it.
 pub fn low(b: u8) -> u8
     ensures { λ r. ⌜ r ≡ spec.glyph (b % 16) ⌝ }
 {
-    glyph(b % 16)
+    (pair(b) / 256) as u8
 }
 
 // Bytes as digits.
@@ -184,8 +183,9 @@ fn put_hex(t: &[u8], out: &mut [u8], at: usize) -> usize
 {
     let mut i = 0;
     while i < t.len() {
-        out[at + 2 * i] = high(t[i]);
-        out[at + 2 * i + 1] = low(t[i]);
+        let d = pair(t[i]);
+        out[at + 2 * i] = (d % 256) as u8;
+        out[at + 2 * i + 1] = (d / 256) as u8;
         i += 1;
     }
     at + 2 * i
@@ -241,8 +241,9 @@ fn put_byte(b: u8, out: &mut [u8], at: usize) -> usize
     requires { ⌜ at + 2 ≤ length (now out) ⌝ }
     ensures { λ r. ⌜ Put (spec.hexText (b ∷ [])) (now (out .entry)) at (now (out .exit)) r ⌝ }
 {
-    out[at] = high(b);
-    out[at + 1] = low(b);
+    let d = pair(b);
+    out[at] = (d % 256) as u8;
+    out[at + 1] = (d / 256) as u8;
     at + 2
 }
 

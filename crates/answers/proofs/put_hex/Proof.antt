@@ -24,21 +24,20 @@ loop-holds c =
 
 slice-write-out : tie.Need-slice-write-out Inv-loop μ-loop
 slice-write-out c =
-    let b3 = c .before .before .before in
-    omega (arith, b3 .loop .inv .2)
+    let b4 = c .before .before .before in
+    omega (arith, b4 .loop .inv .2)
 
 slice-write-out-2 : tie.Need-slice-write-out-2 Inv-loop μ-loop
 slice-write-out-2 c =
-    let b5 = c .before .before .before .before .before in
-    simp length-set (omega (arith, b5 .loop .inv .2))
+    let b4 = c .before .before .before in
+    simp length-set (omega (arith, b4 .loop .inv .2))
 
 loop-again : tie.Need-loop-again Inv-loop μ-loop
 loop-again c =
     let b2 = c .before .before in
-    let b4 = b2 .before .before in
-    let b5 = b4 .before in
-    let s = b5 .before .before .before in
-    (rw (b2 .high .ensures, c .low .ensures) (next-digits (s .args .t .now) (b5 .loop .out) (s .args .at) (b5 .loop .i) (b4 .loop-test .taken)) ∙ b5 .loop .inv .0, omega arith, simp length-set (b5 .loop .inv .2))
+    let b3 = b2 .before in
+    let s = b3 .before .before .before in
+    (rw (c .pair .ensures .0, c .pair .ensures .1) (next-digits (s .args .t .now) (b3 .loop .out) (s .args .at) (b3 .loop .i) (b2 .loop-test .taken)) ∙ b3 .loop .inv .0, omega arith, simp length-set (b3 .loop .inv .2))
 
 mul-result : tie.Need-mul-result Inv-loop μ-loop
 mul-result c =
@@ -73,9 +72,9 @@ put-hex-spec =
     (λ c κs. search needs)
     (λ c. omega arith)
     (λ c. omega arith)
+    (λ c. omega arith)
     slice-write-out
     (λ c. omega arith)
-    (λ c κs. search needs)
     (λ c. omega arith)
     (λ c. omega arith)
     (λ c. omega arith)
