@@ -252,20 +252,14 @@ module _ {f text table : List ℕ} (w : Room f text table) (fills : threeFill f 
         lists-are eh eg = rw (eh, eg, part-1 p q r in-text, part-1 p' q' r' in-table, part-2 p q r in-text, part-2 p' q' r' in-table, part-3 p q r in-text, part-3 p' q' r' in-table, ← em, ← ed)
 
 -- the operation of a frame decides
-module _ (f : List ℕ) {n : ℕ} {op : Operation} {b : Bool} (en : n ≡ byteAt f 0) (eo : op ≡ asked n) (eb : b ≡ formed op f) where
-  is-op : op ≡ asked (byteAt f 0)
-  is-op = eo ∙ ap asked en
-
-  pub is-formed : {o : Operation} → b ≡ true → op ≡ o → formed o f ≡ true
-  is-formed t e = ap (λ (x : Operation). formed x f) (sym e) ∙ sym eb ∙ t
-
-  pub formed-read : {o : Operation} → b ≡ true → op ≡ o → readOf o f ≡ frameRead f
+module _ (f : List ℕ) {op : Operation} (e : operationOf f ≡ op) where
+  pub formed-read : formed op f ≡ true → readOf op f ≡ frameRead f
   unfolding frameRead pick
-  formed-read t e = ap (λ (x : Operation). readOf x f) (sym e) ∙ rw (← is-op, ← eb, t)
+  formed-read t = rw (e, t)
 
-  pub unformed-read : b ≡ false → badFrame ≡ frameRead f
+  pub unformed-read : formed op f ≡ false → badFrame ≡ frameRead f
   unfolding frameRead pick
-  unformed-read t = rw (← is-op, ← eb, t)
+  unformed-read t = rw (e, t)
 
 -- the operation that was found
 pub op-is : (f : List ℕ) {n : ℕ} {op o : Operation} → n ≡ byteAt f 0 → op ≡ asked n → op ≡ o → operationOf f ≡ o
@@ -310,9 +304,13 @@ pub three-formed : (f : List ℕ) → threeFill f ≡ true → operationOf f ≡
 unfolding formed
 three-formed f e a = rw a e
 
-pub three-of : (f : List ℕ) → formed ThreeFields f ≡ true → threeFill f ≡ true
+pub three-of : (f : List ℕ) → formed ThreeFields f ≡ threeFill f
 unfolding formed
-three-of f e = e
+three-of f = refl
+
+pub none-formed : (f : List ℕ) → formed Unknown f ≡ false
+unfolding formed
+none-formed f = refl
 
 pub nothing-read : (f : List ℕ) → badFrame ≡ readOf Unknown f
 unfolding readOf

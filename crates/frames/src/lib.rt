@@ -107,12 +107,11 @@ fn one_fills(f: &[u8]) -> bool
     list_end(f, 1) == f.len()
 }
 
-// Whether three do, with their flags.
-fn three_fill(f: &[u8]) -> bool
+// Whether three do, with their flags: the places of the second and of the third are given.
+fn three_fill(f: &[u8], month_at: usize, day_at: usize) -> bool
+    requires { ⌜ («month_at» ≡ spec.monthAt (now f)) × («day_at» ≡ spec.dayAt (now f)) × («day_at» < 800000) ⌝ }
     ensures { λ r. ⌜ r ≡ spec.threeFill (now (f .entry)) ⌝ }
 {
-    let month_at = list_end(f, 1);
-    let day_at = optional_end(f, month_at);
     if byte_at(f, month_at) <= 1 {
         if byte_at(f, day_at) <= 1 {
             return optional_end(f, day_at) == f.len();
@@ -121,31 +120,29 @@ fn three_fill(f: &[u8]) -> bool
     false
 }
 
-// Whether a frame is one of its operation.
-fn is_formed(op: Operation, f: &[u8]) -> bool
-    ensures { λ r. ⌜ r ≡ spec.formed op (now (f .entry)) ⌝ }
-{
-    match op {
-        Operation::Ported => one_fills(f),
-        Operation::Strict => one_fills(f),
-        Operation::LevelOne => one_fills(f),
-        Operation::ThreeFields => three_fill(f),
-        Operation::Unknown => false,
-    }
-}
-
 // ---- the lists of a frame
 
-// A number of four bytes.
+// Four bytes as a number, the high one first.
+fn word_of(a: u8, b: u8, c: u8, d: u8) -> u64
+    ensures { λ r. ⌜ r ≡ ((a * 256 + b) * 256 + c) * 256 + d ⌝ }
+{
+    ((a as u64 * 256 + b as u64) * 256 + c as u64) * 256 + d as u64
+}
+
+// A number of four bytes. Where all four are there they are one load.
 fn word_at(f: &[u8], at: usize) -> u64
     requires { ⌜ at < 1000000 ⌝ }
     ensures { λ r. ⌜ r ≡ list.wordAt (now (f .entry)) at ⌝ }
 {
-    let a = byte_at(f, at) as u64;
-    let b = byte_at(f, at + 1) as u64;
-    let c = byte_at(f, at + 2) as u64;
-    let d = byte_at(f, at + 3) as u64;
-    ((a * 256 + b) * 256 + c) * 256 + d
+    if at + 4 <= f.len() {
+        return word_of(f[at], f[at + 1], f[at + 2], f[at + 3]);
+    }
+    word_of(
+        byte_at(f, at),
+        byte_at(f, at + 1),
+        byte_at(f, at + 2),
+        byte_at(f, at + 3),
+    )
 }
 
 // A chunk's row of the table.
@@ -444,14 +441,13 @@ fn three_there(f: &[u8], month_at: usize, day_at: usize) -> Words
     )
 }
 
-// Three fields.
-fn read_three(f: &[u8]) -> Words
+// Three fields that fill a frame, by the places of the second and of the third.
+fn three_at(f: &[u8], month_at: usize, day_at: usize) -> Words
     requires { ⌜ (length (now f) ≤ 8192) × (spec.threeFill (now f) ≡ true) × (operationOf (now f) ≡ ThreeFields) ⌝ }
+    requires { ⌜ («month_at» ≡ spec.monthAt (now f)) × («day_at» ≡ spec.dayAt (now f)) × («day_at» < 800000) ⌝ }
     ensures { λ r. ⌜ r ≡ wordsOf (spec.readOf ThreeFields (now (f .entry))) ⌝ }
     ensures { λ _. ⌜ Typed (spec.readOf ThreeFields (now (f .entry))) ⌝ }
 {
-    let month_at = list_end(f, 1);
-    let day_at = optional_end(f, month_at);
     if byte_at(f, 1) == 1 {
         if is_single(f, month_at) {
             if is_single(f, day_at) {
@@ -467,6 +463,32 @@ fn read_three(f: &[u8]) -> Words
     read_large(f)
 }
 
+// What is read of a frame that asks for one list; where that does not fill it, it is no frame.
+fn read_one(op: Operation, f: &[u8]) -> Words
+    requires { ⌜ (length (now f) ≤ 8192) × (readsList op ≡ true) × (operationOf (now f) ≡ op) ⌝ }
+    ensures { λ r. ⌜ r ≡ wordsOf (spec.frameRead (now (f .entry))) ⌝ }
+    ensures { λ _. ⌜ Typed (spec.frameRead (now (f .entry))) ⌝ }
+{
+    if one_fills(f) {
+        return read_list(op, f);
+    }
+    bad_frame()
+}
+
+// The same of one that asks for three. Where the lists stand is found once.
+fn read_three(f: &[u8]) -> Words
+    requires { ⌜ (length (now f) ≤ 8192) × (operationOf (now f) ≡ ThreeFields) ⌝ }
+    ensures { λ r. ⌜ r ≡ wordsOf (spec.frameRead (now (f .entry))) ⌝ }
+    ensures { λ _. ⌜ Typed (spec.frameRead (now (f .entry))) ⌝ }
+{
+    let month_at = list_end(f, 1);
+    let day_at = optional_end(f, month_at);
+    if three_fill(f, month_at, day_at) {
+        return three_at(f, month_at, day_at);
+    }
+    bad_frame()
+}
+
 // What is read of a frame; what is none is refused before anything is read.
 fn read_frame(f: &[u8]) -> Words
     requires { ⌜ length (now f) ≤ 8192 ⌝ }
@@ -474,16 +496,13 @@ fn read_frame(f: &[u8]) -> Words
     ensures { λ _. ⌜ Typed (spec.frameRead (now (f .entry))) ⌝ }
 {
     let op = asked(byte_at(f, 0));
-    if is_formed(op, f) {
-        return match op {
-            Operation::Ported => read_list(op, f),
-            Operation::Strict => read_list(op, f),
-            Operation::LevelOne => read_list(op, f),
-            Operation::ThreeFields => read_three(f),
-            Operation::Unknown => bad_frame(),
-        };
+    match op {
+        Operation::Ported => read_one(op, f),
+        Operation::Strict => read_one(op, f),
+        Operation::LevelOne => read_one(op, f),
+        Operation::ThreeFields => read_three(f),
+        Operation::Unknown => bad_frame(),
     }
-    bad_frame()
 }
 
 // ---- the answer to a line

@@ -50,7 +50,7 @@ three-in-requires c κs =
     let s = b .before .before in
     let f = s .args .f .now in
     let e = op-is f (b .byte-at .ensures) (o .asked .ensures) (t .enum-told4 .given .1) in
-    (record { small = s .pre .0; for-text = omega (arith, s .pre .0); for-table = omega (arith, s .pre .0) }, three-of f (ap (λ (x : Operation). formed x f) (sym e) ∙ s .pre .1))
+    (record { small = s .pre .0; for-text = omega (arith, s .pre .0); for-table = omega (arith, s .pre .0) }, sym (three-of f) ∙ ap (λ (x : Operation). formed x f) (sym e) ∙ s .pre .1)
 
 returns : tie.Need-returns
 unfolding readsList

@@ -1,45 +1,43 @@
-use mathlib.Core.Path.{sym, ap, _∙_}
+use mathlib.Core.Path.{_≡_, sym, _∙_}
 use native.Mathlib.Omega.{arith}
-use Rattle.frames.specs.declared.Operation.{Operation}
-use Rattle.frames.specs.Frame.{readOf}
-use Rattle.frames.proofs.Parts.{three-formed}
+use Rattle.frames.specs.Frame.{dayAt}
+use Rattle.frames.proofs.Parts.{three-of, formed-read, unformed-read}
 use Rattle.frames.proofs.Said.{carried}
 use borrow.Author.Needs.{needs}
 use Rattle.frames.proofs.read_three.Statement.{statement}
 use Rattle.frames.proofs.read_three.Tie as tie
 
-three-there-requires : tie.Need-three-there-requires
-three-there-requires c κs =
+three-fill-requires : tie.Need-three-fill-requires
+three-fill-requires c κs =
+    let m = c .before .list-end .ensures in
+    let d = c .optional-end .ensures in
+    (m .0, rw (← m .0) (d .0), omega (arith, m .1, d .1))
+
+three-at-requires : tie.Need-three-at-requires
+three-at-requires c κs =
     let b1 = c .before in
-    let b3 = b1 .before .before in
-    let b5 = b3 .before .before in
-    let b6 = b5 .before in
-    let b7 = b6 .before in
-    let s = b7 .before .before in
-    record {
-      small = s .pre .0;
-      fills = s .pre .1;
-      month-there = b7 .list-end .ensures .0;
-      day-there = b6 .optional-end .ensures .0;
-      one-year = sym (b5 .byte-at .ensures) ∙ b3 .before .if1 .taken;
-      one-month = sym (b3 .is-single .ensures) ∙ b1 .before .if2 .taken;
-      one-day = sym (b1 .is-single2 .ensures) ∙ c .if3 .taken;
-    }
+    let b2 = b1 .before in
+    let b3 = b2 .before in
+    let s = b3 .before .before in
+    let m = b3 .list-end .ensures in
+    let d = b2 .optional-end .ensures in
+    ((s .pre .0, sym (b1 .three-fill .ensures) ∙ c .if1 .taken, s .pre .1), (m .0, rw (← m .0) (d .0), omega (arith, m .1, d .1)))
 
-three-in-requires : tie.Need-three-in-requires
-three-in-requires c κs =
-    let s = c .before .before .before .before .before .before .before .before in
-    (record { small = s .pre .0; for-text = omega arith; for-table = omega arith }, s .pre .1)
+returns : tie.Need-returns
+returns c =
+    let b1 = c .before in
+    let b2 = b1 .before in
+    let s = b2 .before .before .before .before in
+    let f = s .args .f .now in
+    carried (formed-read f (s .pre .1) (three-of f ∙ sym (b2 .three-fill .ensures) ∙ b1 .if1 .taken)) (c .three-at .ensures)
 
-read-large-requires : tie.Need-read-large-requires
-read-large-requires c κs =
-    let s = c .before .before .before .before .before .before in
-    (s .pre .0, three-formed (s .args .f .now) (s .pre .1) (s .pre .2))
-
-returns-3 : tie.Need-returns-3
-returns-3 c =
-    let s = c .before .before .before .before .before .before .before in
-    carried (ap (λ (o : Operation). readOf o (s .args .f .now)) (s .pre .2)) (c .read-large .ensures)
+returns-2 : tie.Need-returns-2
+returns-2 c =
+    let b1 = c .before in
+    let b2 = b1 .before in
+    let s = b2 .before .before .before .before in
+    let f = s .args .f .now in
+    carried (unformed-read f (s .pre .1) (three-of f ∙ sym (b2 .three-fill .ensures) ∙ b1 .if1 .left)) (c .bad-frame .ensures)
 
 pub read-three-spec : {M : Type 1} → statement M
 read-three-spec =
@@ -47,14 +45,8 @@ read-three-spec =
     (tie.spec
     (λ c κs. search needs)
     (λ c κs. search needs)
+    three-fill-requires
+    three-at-requires
+    returns
     (λ c κs. search needs)
-    (λ c κs. search needs)
-    (λ c κs. search needs)
-    three-there-requires
-    (λ c. search needs)
-    (λ c. search needs)
-    (λ c. search needs)
-    three-in-requires
-    (λ c. search needs)
-    read-large-requires
-    returns-3)
+    returns-2)
