@@ -251,7 +251,7 @@ struct Dates {
 fn dates(text: &str) -> &'static Dates {
     let i = Input::text(text);
     keep(Dates {
-        raw: ffi::parse(i.list()).date,
+        raw: ffi::parse(i.list()).date(),
         ours: ours::Date::parse(&i.lent()).unwrap(),
         theirs: theirs::Date::parse(&i.chunks).unwrap(),
     })

@@ -3,27 +3,19 @@
 
 use core::mem::{offset_of, size_of, MaybeUninit};
 
-/// A Datetime as plain numbers.
+/// A Datetime as plain numbers: the struct of the header, its sixteen bytes in
+/// two words. Words are made and passed in registers, where single bytes would
+/// be stored one by one and loaded together.
 #[repr(C)]
 #[derive(Copy, Clone, Default)]
 pub struct Datetime {
-    pub year: i32,
-    pub has_month: u8,
-    pub month: u8,
-    pub has_day: u8,
-    pub day: u8,
-    pub has_time: u8,
-    pub hour: u8,
-    pub minute: u8,
-    pub second: u8,
-    pub offset: u8,
-    pub offset_hours: u8,
-    pub offset_minutes: u8,
-    pub season: u8,
+    /// Four bytes of the year, then has_month, month, has_day and day.
+    pub day: u64,
+    /// has_time, hour, minute, second, offset, offset_hours, offset_minutes and season.
+    pub time: u64,
 }
 
 /// A Date as plain numbers.
-#[repr(C)]
 #[derive(Copy, Clone)]
 pub struct Date {
     pub first: Datetime,
@@ -31,7 +23,6 @@ pub struct Date {
     pub shape: u8,
     pub uncertain: u8,
     pub approximate: u8,
-    pub reserved: u8,
 }
 
 /// What a reader answers.
@@ -39,9 +30,22 @@ pub struct Date {
 pub struct Answer {
     pub start: u64,
     pub end: u64,
-    pub date: Date,
+    first: Datetime,
+    second: Datetime,
+    shape: u8,
+    uncertain: u8,
+    approximate: u8,
+    reserved: u8,
     pub refusal: u8,
-    pub unused: [u8; 3],
+    unused: [u8; 3],
+}
+
+impl Answer {
+    /// The date that was read; of a refusal all zeros.
+    pub fn date(&self) -> Date {
+        let Self { first, second, shape, uncertain, approximate, .. } = *self;
+        Date { first, second, shape, uncertain, approximate }
+    }
 }
 
 /// What a writer answers, and what measuring does.
@@ -104,12 +108,10 @@ pub struct Reply {
     pub refusal: u8,
 }
 
-const _: () = assert!(size_of::<Datetime>() == 16 && size_of::<Date>() == 36);
+const _: () = assert!(size_of::<Datetime>() == 16 && offset_of!(Datetime, time) == 8);
 const _: () = assert!(size_of::<Answer>() == 56 && size_of::<Written>() == 16);
-const _: () = assert!(offset_of!(Datetime, has_month) == 4 && offset_of!(Datetime, has_time) == 8);
-const _: () = assert!(offset_of!(Datetime, season) == 15);
-const _: () = assert!(offset_of!(Date, second) == 16 && offset_of!(Date, shape) == 32);
-const _: () = assert!(offset_of!(Answer, date) == 16 && offset_of!(Answer, refusal) == 52);
+const _: () = assert!(offset_of!(Answer, first) == 16 && offset_of!(Answer, second) == 32);
+const _: () = assert!(offset_of!(Answer, shape) == 48 && offset_of!(Answer, refusal) == 52);
 const _: () = assert!(size_of::<Store>() == 6152 && offset_of!(Store, ids) == 4104);
 const _: () = assert!(size_of::<Entries>() == 16 && size_of::<Reply>() == 16);
 const _: () = assert!(offset_of!(Reply, found) == 8 && offset_of!(Reply, refusal) == 9);

@@ -668,13 +668,17 @@ impl FromStr for Date {
 /// Width and alignment are honoured.
 impl Display for Date {
     fn fmt(&self, f: &mut Formatter) -> fmt::Result {
-        let mut out = [0; Self::LEVEL_ONE_ROOM];
-        let text = match self.write(&mut out) {
-            Err(e) if e.kind == TypeErrorKind::HasSeason => self.write_level_one(&mut out),
-            written => written,
-        };
-        f.pad(text.unwrap_or(NO_TEXT))
+        show(plain_date(self, plain_day), f)
     }
+}
+
+/// Shows the text of a date; the writer that has no seasons refuses one.
+fn show(date: ffi::Date, f: &mut Formatter) -> fmt::Result {
+    let mut out = [0; Date::LEVEL_ONE_ROOM];
+    if let Ok(text) = ffi::write_date(date, &mut out) {
+        return f.pad(text);
+    }
+    f.pad(ffi::write_level_one(date, &mut out).unwrap_or(NO_TEXT))
 }
 
 /// What is shown of a date that has no text.
@@ -700,7 +704,8 @@ impl Display for Timed {
 /// The text of the date that is this Datetime.
 impl Display for Datetime {
     fn fmt(&self, f: &mut Formatter) -> fmt::Result {
-        Date { value: DateValue::At(*self), uncertain: false, approximate: false }.fmt(f)
+        let (first, second) = (plain_day(self), ffi::Datetime::default());
+        show(ffi::Date { first, second, shape: 0, uncertain: 0, approximate: 0 }, f)
     }
 }
 
@@ -785,16 +790,17 @@ fn answered(a: ffi::Answer) -> Result<Date, TypeError> {
             kind: TypeErrorKind::of(a.refusal),
         });
     }
-    let first = datetime(&a.date.first);
+    let date = a.date();
+    let first = datetime(date.first);
     Ok(Date {
-        value: match a.date.shape {
+        value: match date.shape {
             0 => DateValue::At(first),
             1 => DateValue::After(first),
             2 => DateValue::Before(first),
-            _ => DateValue::Between(first, datetime(&a.date.second)),
+            _ => DateValue::Between(first, datetime(date.second)),
         },
-        uncertain: a.date.uncertain != 0,
-        approximate: a.date.approximate != 0,
+        uncertain: date.uncertain != 0,
+        approximate: date.approximate != 0,
     })
 }
 
@@ -803,79 +809,70 @@ fn no_place(number: u8) -> TypeError {
     TypeError { span: 0..0, kind: TypeErrorKind::of(number) }
 }
 
-fn datetime(p: &ffi::Datetime) -> Datetime {
+fn datetime(p: ffi::Datetime) -> Datetime {
+    let [y0, y1, y2, y3, has_month, month, has_day, day] = p.day.to_ne_bytes();
+    let [has_time, hour, minute, second, sort, hours, minutes, season] = p.time.to_ne_bytes();
     Datetime {
-        year: p.year,
-        month: (p.has_month != 0).then_some(p.month),
-        day: (p.has_day != 0).then_some(p.day),
-        time: (p.has_time != 0).then_some(Time {
-            hour: p.hour,
-            minute: p.minute,
-            second: p.second,
-            offset: match p.offset {
+        year: i32::from_ne_bytes([y0, y1, y2, y3]),
+        month: (has_month != 0).then_some(month),
+        day: (has_day != 0).then_some(day),
+        time: (has_time != 0).then_some(Time {
+            hour,
+            minute,
+            second,
+            offset: match sort {
                 0 => None,
                 1 => Some(TimeOffset::Utc),
-                sort => Some(TimeOffset::Offset {
-                    positive: sort == 2,
-                    hours: p.offset_hours,
-                    minutes: p.offset_minutes,
-                }),
+                _ => Some(TimeOffset::Offset { positive: sort == 2, hours, minutes }),
             },
         }),
-        season: Season::of(p.season),
+        season: Season::of(season),
+    }
+}
+
+/// A Datetime with these bytes for its time.
+fn plain(
+    d: &Datetime,
+    [has_time, hour, minute, second, sort, hours, minutes]: [u8; 7],
+) -> ffi::Datetime {
+    let [y0, y1, y2, y3] = d.year.to_ne_bytes();
+    let (has_month, month) = d.month.map_or((0, 0), |month| (1, month));
+    let (has_day, day) = d.day.map_or((0, 0), |day| (1, day));
+    let season = d.season.map_or(0, Season::number);
+    ffi::Datetime {
+        day: u64::from_ne_bytes([y0, y1, y2, y3, has_month, month, has_day, day]),
+        time: u64::from_ne_bytes([has_time, hour, minute, second, sort, hours, minutes, season]),
     }
 }
 
 /// A Datetime without its time.
 fn plain_day(d: &Datetime) -> ffi::Datetime {
-    ffi::Datetime {
-        year: d.year,
-        has_month: d.month.is_some().into(),
-        month: d.month.unwrap_or(0),
-        has_day: d.day.is_some().into(),
-        day: d.day.unwrap_or(0),
-        season: d.season.map_or(0, Season::number),
-        ..ffi::Datetime::default()
-    }
+    plain(d, [0; 7])
 }
 
 fn plain_datetime(d: &Datetime) -> ffi::Datetime {
-    let mut p = plain_day(d);
-    if let Some(t) = d.time {
-        p.has_time = 1;
-        p.hour = t.hour;
-        p.minute = t.minute;
-        p.second = t.second;
-        match t.offset {
-            None => {}
-            Some(TimeOffset::Utc) => p.offset = 1,
-            Some(TimeOffset::Offset { positive, hours, minutes }) => {
-                p.offset = if positive { 2 } else { 3 };
-                p.offset_hours = hours;
-                p.offset_minutes = minutes;
-            }
-        }
-    }
-    p
+    let Some(t) = d.time else { return plain_day(d) };
+    let [sort, hours, minutes] = match t.offset {
+        None => [0, 0, 0],
+        Some(TimeOffset::Utc) => [1, 0, 0],
+        Some(TimeOffset::Offset { positive: true, hours, minutes }) => [2, hours, minutes],
+        Some(TimeOffset::Offset { positive: false, hours, minutes }) => [3, hours, minutes],
+    };
+    plain(d, [1, t.hour, t.minute, t.second, sort, hours, minutes])
 }
 
 /// For the writers, which look at the second Datetime of a range with both ends
 /// only; each Datetime with its time or without.
 fn plain_date(d: &Date, plain: fn(&Datetime) -> ffi::Datetime) -> ffi::Date {
+    let none = ffi::Datetime::default();
     let (shape, first, second) = match &d.value {
-        DateValue::At(a) => (0, a, a),
-        DateValue::After(a) => (1, a, a),
-        DateValue::Before(a) => (2, a, a),
-        DateValue::Between(a, b) => (3, a, b),
+        DateValue::At(a) => (0, plain(a), none),
+        DateValue::After(a) => (1, plain(a), none),
+        DateValue::Before(a) => (2, plain(a), none),
+        DateValue::Between(a, b) => (3, plain(a), plain(b)),
     };
-    ffi::Date {
-        first: plain(first),
-        second: plain(second),
-        shape,
-        uncertain: d.uncertain.into(),
-        approximate: d.approximate.into(),
-        reserved: 0,
-    }
+    let (uncertain, approximate) = (d.uncertain.into(), d.approximate.into());
+    ffi::Date { first, second, shape, uncertain, approximate }
 }
 
 #[cfg(test)]
