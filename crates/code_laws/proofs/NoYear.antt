@@ -27,7 +27,8 @@ use Rattle.numbers.specs.Trim.{trimEnd}
 use Rattle.numbers.specs.declared.Digits.{Digits}
 use Rattle.numbers.specs.declared.Digits.the-variants.{Two, Four}
 use Rattle.numbers.specs.declared.ReadInt.the-variants.{NoInt}
-use Rattle.numbers.specs.Number.{admits, cursor, runOf, runAt, parseUnsignedInt, orKept, behindSign, withSign, intAt, parseInt}
+use Rattle.numbers.proofs.Laws.{int-behind}
+use Rattle.numbers.specs.Number.{admits, cursor, runOf, runAt, parseUnsignedInt, orKept, behindSign, withSign, parseInt}
 use Rattle.points.specs.declared.ReadPoint.the-variants.{Refused as NoPoint}
 use Rattle.points.specs.Point.{windowedInt, shortYear, longOf, longYear, shortOr, yearAt, onYear, point}
 use Rattle.datefield.specs.declared.ReadValue.the-variants.{NoValue}
@@ -101,9 +102,10 @@ module _ (s : List ℕ) (w : Wordy s) (h : Starts s) where
   numeric-none = stop Numeric s 0 (nothing-at Numeric s w h high-numeric)
 
   no-int : (g : Digits) → admits g 0 ≡ false → parseInt s 0 g ≡ NoInt (cursor 0)
-  unfolding parseInt intAt withSign behindSign orKept eatIf standsAt parseUnsignedInt runAt runOf part pick
+  unfolding withSign behindSign orKept eatIf standsAt parseUnsignedInt runAt runOf part pick
   no-int g a =
       rw (
+        int-behind s 0 g,
         white-none,
         nothing-at Sign s w h (λ x l m. high-sign x l),
         nothing-at (Is 0x2D) s w h (λ x l m. high-hyphen x l),

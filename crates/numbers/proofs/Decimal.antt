@@ -151,9 +151,9 @@ from-reading : (top : ℕ) (s : List ℕ) → Read 0 s (digitsFrom top s 0)
 unfolding digitsFrom
 from-reading top s = by-test (Read 0 s) _ (λ _. unread) (λ _. reading top 0 s)
 
-run-read : (num : List ℕ) (end : ℕ) (g : Digits) → RunRead num (runOf num end g)
+run-read : (s : List ℕ) (start end : ℕ) (g : Digits) → RunRead (part s start end) (runOf s start end g)
 unfolding runOf
-run-read num end g = by-test (RunRead num) _ (λ _. value-read num end (from-reading 9999 num)) (λ _. run-wrong)
+run-read s start end g = by-test (RunRead (part s start end)) _ (λ _. value-read (part s start end) end (from-reading 9999 (part s start end))) (λ _. run-wrong)
 
 of-run : {num : List ℕ} {v : ℕ} {c : Cursor} → RunRead num (Number v c) → AllDigits num × (v ≡ decimalValue num)
 of-run (run-number a e) = (a, e)
@@ -162,4 +162,4 @@ pub run-denoted : (s : List ℕ) (at : ℕ) (g : Digits) {v : ℕ} {c : Cursor} 
 unfolding runAt
 run-denoted s at g e =
     let num = part s at (eatWhile Numeric s at) in
-    of-run (subst (RunRead num) e (run-read num (eatWhile Numeric s at) g))
+    of-run (subst (RunRead num) e (run-read s at (eatWhile Numeric s at) g))

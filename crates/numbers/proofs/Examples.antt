@@ -10,7 +10,7 @@ use Rattle.chars.specs.Signs.{signed}
 use Rattle.chars.specs.Classes.{within, isWhitespace, isAsciiDigit, isNumeric}
 use Rattle.chars.specs.Utf8.{lenOf, isCont, isSurrogate, decode2, decode3, decode, first, decodeAt}
 use Rattle.scanner.specs.Class.{inClass}
-use Rattle.scanner.specs.Scan.{lenIn, matchLen, walk, eatWhile, eatIf, standsAt, part}
+use Rattle.scanner.specs.Scan.{lenIn, matchLen, walk, eatWhile, eatIf, standsAt, part, runAt as scannedAt, nextRun}
 use Rattle.numbers.specs.declared.Digits.{Digits}
 use Rattle.numbers.specs.declared.Digits.the-variants.{OneOrTwo, Two, Four}
 use Rattle.numbers.specs.declared.Parsed.{Parsed}
@@ -19,7 +19,7 @@ use Rattle.numbers.specs.declared.ReadInt.{ReadInt}
 use Rattle.numbers.specs.declared.ReadInt.the-variants.{Int, NoInt, IntPanics}
 use Rattle.numbers.specs.declared.ParsedNumber.{ParsedNumber}
 use Rattle.numbers.specs.declared.ParsedNumber.the-variants.{Value, NoValue}
-use Rattle.numbers.specs.Number.{admits, runValue, runOf, runAt, parseUnsignedInt, orKept, behindSign, withSign, intAt, parseInt}
+use Rattle.numbers.specs.Number.{admits, runValue, runOf, runAt, parseUnsignedInt, orKept, behindSign, withSign, signedAt, signedRun, intOf, parseInt}
 use Rattle.numbers.specs.Parse.{wholeValue, digitsFrom, parse}
 use Rattle.numbers.specs.Trim.{stepBy, stepOver, trimStep, trimFrom, trimEnd, trim}
 
@@ -84,7 +84,7 @@ ints =
     ∷ []
 
 pub int-examples : map (λ (e : IntExample). parseInt (e .text) (e .at) (e .digits)) ints ≡ map (λ (e : IntExample). e .says) ints
-unfolding parseInt intAt withSign signed behindSign orKept eatIf standsAt parseUnsignedInt runAt runOf runValue admits digitsFrom wholeValue digitOf part eatWhile walk matchLen lenIn decodeAt first decode lenOf isCont decode2 inClass within isWhitespace isAsciiDigit isNumeric pick
+unfolding parseInt intOf signedRun signedAt nextRun scannedAt withSign signed behindSign orKept eatIf standsAt runOf runValue admits digitsFrom wholeValue digitOf part eatWhile walk matchLen lenIn decodeAt first decode lenOf isCont decode2 inClass within isWhitespace isAsciiDigit isNumeric pick
 int-examples = refl
 
 -- a whole text, the largest number, and what is read

@@ -14,10 +14,10 @@ use lib.Signed.{mag}
 use Rattle.chars.proofs.Cases.{by-test}
 use Rattle.scanner.specs.declared.Class.the-variants.{Whitespace, Numeric, Is}
 use Rattle.scanner.specs.declared.Cursor.{Cursor}
-use Rattle.scanner.specs.Scan.{eatWhile, standsAt, part}
+use Rattle.scanner.specs.Scan.{eatWhile, standsAt, part, runAt as scannedAt, nextRun}
 use Rattle.numbers.specs.Parse.{digitsFrom}
 use Rattle.numbers.proofs.Whole.{digits-below}
-use Rattle.numbers.specs.Number.{admits, runValue, runOf, runAt, parseUnsignedInt, behindSign, withSign, intAt, parseInt}
+use Rattle.numbers.specs.Number.{admits, runValue, runOf, runAt, parseUnsignedInt, behindSign, withSign, signedAt, signedRun, intOf, parseInt}
 use Rattle.chars.specs.Signs.{signed}
 use Rattle.numbers.specs.declared.Digits.{Digits}
 use Rattle.numbers.specs.declared.Digits.the-variants.{OneOrTwo, Two, Four}
@@ -27,6 +27,7 @@ use Rattle.numbers.specs.declared.ParsedNumber.{ParsedNumber}
 use Rattle.numbers.specs.declared.ParsedNumber.the-variants.{Value, NoValue}
 use Rattle.numbers.specs.declared.ReadInt.{ReadInt}
 use Rattle.numbers.specs.declared.ReadInt.the-variants.{Int, NoInt, IntPanics}
+use Rattle.numbers.specs.declared.SignedRun.{SignedRun}
 
 -- the largest length that is admitted
 abbrev pub most : Digits → ℕ
@@ -72,9 +73,10 @@ unfolding runValue
 value-below n end (Value v) h = number (h v refl)
 value-below n end NoValue h = panics
 
-run-below : (num : List ℕ) (end : ℕ) (g : Digits) → Below (10 ^ most g) (runOf num end g)
+run-below : (s : List ℕ) (start end : ℕ) (g : Digits) → Below (10 ^ most g) (runOf s start end g)
 unfolding runOf
-run-below num end g =
+run-below s start end g =
+    let num = part s start end in
     by-test (Below (10 ^ most g)) _
     (λ t. value-below (10 ^ most g) end (digitsFrom 9999 num 0) (λ v. digits-below 9999 num 0 (most g) (admitted-most g (length num) t)))
     (λ _. wrong)
@@ -86,10 +88,16 @@ pub unsigned-below : (s : List ℕ) (at : ℕ) (g : Digits) → Below (10 ^ most
 unfolding parseUnsignedInt runAt
 unsigned-below s at g =
     let a = eatWhile Whitespace s at in
-    run-below (part s a (eatWhile Numeric s a)) (eatWhile Numeric s a) g
+    run-below s a (eatWhile Numeric s a) g
+
+pub run-value : (s : List ℕ) (start end : ℕ) (g : Digits) {v : ℕ} {c : Cursor} → runOf s start end g ≡ Number v c → v < 10 ^ most g
+run-value s start end g e = of-number (subst (Below (10 ^ most g)) e (run-below s start end g))
 
 pub unsigned-value : (s : List ℕ) (at : ℕ) (g : Digits) {v : ℕ} {c : Cursor} → parseUnsignedInt s at g ≡ Number v c → v < 10 ^ most g
-unsigned-value s at g e = of-number (subst (Below (10 ^ most g)) e (unsigned-below s at g))
+unfolding parseUnsignedInt runAt
+unsigned-value s at g e =
+    let a = eatWhile Whitespace s at in
+    run-value s a (eatWhile Numeric s a) g e
 
 -- with a sign: the magnitude is
 pub data IntIn (n : ℕ) : ReadInt → Type 0 where
@@ -112,14 +120,21 @@ signed-in n neg panics = panic
 of-int : {n : ℕ} {z : ℤ} {c : Cursor} → IntIn n (Int z c) → natAbs z < n
 of-int (int h) = h
 
-pub int-in : (s : List ℕ) (at : ℕ) (g : Digits) → IntIn (10 ^ most g) (parseInt s at g)
-unfolding parseInt intAt
-int-in s at g =
-    let a = eatWhile Whitespace s at in
-    signed-in (10 ^ most g) (standsAt (Is 0x2D) s a) (unsigned-below s (behindSign s a) g)
+pub run-int-in : (s : List ℕ) (r : SignedRun) (g : Digits) → IntIn (10 ^ most g) (intOf s r g)
+unfolding intOf
+run-int-in s r g = signed-in (10 ^ most g) (r .negative) (run-below s (r .numeric .start .0) (r .numeric .end .0) g)
 
-pub int-below : (s : List ℕ) (at : ℕ) (g : Digits) {z : ℤ} {c : Cursor} → parseInt s at g ≡ Int z c → natAbs z < 10 ^ most g
-int-below s at g e = of-int (subst (IntIn (10 ^ most g)) e (int-in s at g))
+pub int-in : (s : List ℕ) (at : ℕ) (g : Digits) → IntIn (10 ^ most g) (parseInt s at g)
+unfolding parseInt
+int-in s at g = run-int-in s (signedRun s at) g
+
+pub int-below : (s : List ℕ) (r : SignedRun) (g : Digits) {z : ℤ} {c : Cursor} → intOf s r g ≡ Int z c → natAbs z < 10 ^ most g
+int-below s r g e = of-int (subst (IntIn (10 ^ most g)) e (run-int-in s r g))
+
+-- a number with a sign before it is the number behind the sign
+pub int-behind : (s : List ℕ) (at : ℕ) (g : Digits) → parseInt s at g ≡ withSign (standsAt (Is 0x2D) s (eatWhile Whitespace s at)) (parseUnsignedInt s (behindSign s (eatWhile Whitespace s at)) g)
+unfolding parseInt intOf signedRun signedAt nextRun scannedAt parseUnsignedInt runAt
+int-behind s at g = refl
 
 -- the two magnitudes of a number of either sign
 pub mag-abs : (z : ℤ) → mag z ≤ natAbs z

@@ -20,14 +20,14 @@ use Rattle.scanner.specs.Scan.{matchLen, eatWhile, eatIf, standsAt, part}
 use Rattle.scanner.proofs.Front.{From, front-part, front-rest, front-match, front-go, front-stop, front-end}
 use Rattle.scanner.proofs.Digits.{digit-numeric, below-digits, no-numeric, is-it, is-other}
 use Rattle.scanner.proofs.Laws.{not-white}
-use Rattle.numbers.specs.Number.{admits, cursor, runValue, runOf, runAt, parseUnsignedInt, orKept, behindSign, withSign, intAt, parseInt}
+use Rattle.numbers.specs.Number.{admits, cursor, runValue, runOf, runAt, parseUnsignedInt, orKept, behindSign, withSign, parseInt}
 use Rattle.chars.specs.Signs.{signed}
 use Rattle.numbers.specs.declared.Digits.{Digits}
 use Rattle.numbers.specs.declared.Parsed.the-variants.{Number, Wrong}
 use Rattle.numbers.specs.declared.ParsedNumber.the-variants.{Value}
 use Rattle.numbers.specs.Parse.{wholeValue, digitsFrom}
 use Rattle.numbers.proofs.Whole.{ten}
-use Rattle.numbers.proofs.Laws.{admitted-most, admitted-some, most-four}
+use Rattle.numbers.proofs.Laws.{admitted-most, admitted-some, most-four, int-behind}
 use Rattle.numbers.specs.declared.ReadInt.the-variants.{Int, NoInt}
 
 -- digits, by what they say: their bytes, and the number that they are
@@ -183,19 +183,19 @@ module _ (d : ℕ) (ds : List ℕ) {s t : List ℕ} {i : ℕ} (h : AreDigits (d 
 
   -- the same where a sign may stand
   pub int-read : (g : Digits) → admits g (suc (length ds)) ≡ true → parseInt s i g ≡ Int (pos (value 0 (d ∷ ds))) (cursor (i + suc (length ds)))
-  unfolding parseInt intAt withSign signed
-  int-read g l = rw (digit-white (h .0) f, no-minus (h .0) f, behind-none (h .0) f, number-read g l)
+  unfolding withSign signed
+  int-read g l = rw (int-behind s i g, digit-white (h .0) f, no-minus (h .0) f, behind-none (h .0) f, number-read g l)
 
   pub int-wrong : (g : Digits) → admits g (suc (length ds)) ≡ false → parseInt s i g ≡ NoInt (cursor (i + suc (length ds)))
-  unfolding parseInt intAt withSign
-  int-wrong g l = rw (digit-white (h .0) f, no-minus (h .0) f, behind-none (h .0) f, number-wrong g l)
+  unfolding withSign
+  int-wrong g l = rw (int-behind s i g, digit-white (h .0) f, no-minus (h .0) f, behind-none (h .0) f, number-wrong g l)
 
 -- and behind a minus
 module _ (d : ℕ) (ds : List ℕ) {s t : List ℕ} {i : ℕ} (h : AreDigits (d ∷ ds)) (b : Behind t) (f : From s i (0x2D ∷ bytes (d ∷ ds) ++ t)) where
   pub minus-read : (g : Digits) → admits g (suc (length ds)) ≡ true → parseInt s i g ≡ Int (negℤ (pos (value 0 (d ∷ ds)))) (cursor (i + 1 + suc (length ds)))
-  unfolding parseInt intAt withSign signed
-  minus-read g l = rw (behind-white hyphen f, a-minus f, behind-minus f, number-read d ds h b (front-rest f) g l)
+  unfolding withSign signed
+  minus-read g l = rw (int-behind s i g, behind-white hyphen f, a-minus f, behind-minus f, number-read d ds h b (front-rest f) g l)
 
   pub minus-wrong : (g : Digits) → admits g (suc (length ds)) ≡ false → parseInt s i g ≡ NoInt (cursor (i + 1 + suc (length ds)))
-  unfolding parseInt intAt withSign
-  minus-wrong g l = rw (behind-white hyphen f, a-minus f, behind-minus f, number-wrong d ds h b (front-rest f) g l)
+  unfolding withSign
+  minus-wrong g l = rw (int-behind s i g, behind-white hyphen f, a-minus f, behind-minus f, number-wrong d ds h b (front-rest f) g l)

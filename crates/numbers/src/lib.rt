@@ -13,6 +13,7 @@ use chars::digit;
 use scanner::Class;
 use scanner::Cursor;
 use scanner::EatIf;
+use scanner::Run;
 
 const HYPHEN: u32 = b'-' as u32;
 
@@ -43,6 +44,12 @@ pub enum ReadInt {
     IntPanics,
 }
 
+// A run of numeric characters, and whether a minus stands before it.
+pub struct SignedRun {
+    pub negative: bool,
+    pub numeric: Run,
+}
+
 // Whether a run may have n bytes.
 fn contains(digits: Digits, n: usize) -> bool
     ensures { λ r. ⌜ r ≡ spec.admits digits n ⌝ }
@@ -54,11 +61,10 @@ fn contains(digits: Digits, n: usize) -> bool
     }
 }
 
-// White space, then a run of numeric characters. Its length is counted in bytes, before its characters are looked at.
-pub fn parse_unsigned_int(s: &[u8], c: Cursor, digits: Digits) -> Parsed
-    ensures { λ r. ⌜ r ≡ spec.parseUnsignedInt (now (s .entry)) (c .0) digits ⌝ }
+// What a run of numeric characters is. Its length is counted in bytes, before its characters are looked at.
+fn number_of(s: &[u8], run: Run, digits: Digits) -> Parsed
+    ensures { λ r. ⌜ r ≡ spec.runOf (now (s .entry)) (run .start .0) (run .end .0) digits ⌝ }
 {
-    let run = scanner::next_run(s, c, Class::Numeric);
     let next = run.end;
     let num = scanner::from(s, run.start, next);
     if contains(digits, num.len()) {
@@ -69,6 +75,13 @@ pub fn parse_unsigned_int(s: &[u8], c: Cursor, digits: Digits) -> Parsed
         };
     }
     Parsed::Wrong { next }
+}
+
+// White space, then a run of numeric characters.
+pub fn parse_unsigned_int(s: &[u8], c: Cursor, digits: Digits) -> Parsed
+    ensures { λ r. ⌜ r ≡ spec.parseUnsignedInt (now (s .entry)) (c .0) digits ⌝ }
+{
+    number_of(s, scanner::next_run(s, c, Class::Numeric), digits)
 }
 
 // Past a plus or a minus, if one stands there.
@@ -90,21 +103,36 @@ fn signed(negative: bool, n: u32) -> i32
     if negative { 0 - num } else { num }
 }
 
-// White space, a plus or a minus or neither, and a number: white space may stand behind the sign too.
-pub fn parse_int(s: &[u8], c: Cursor, digits: Digits) -> ReadInt
-    ensures { λ r. ⌜ r ≡ spec.parseInt (now (s .entry)) (c .0) digits ⌝ }
+// White space, a plus or a minus or neither, and a run of numeric characters: white space may stand behind the sign too.
+pub fn signed_run(s: &[u8], c: Cursor) -> SignedRun
+    ensures { λ r. ⌜ r ≡ spec.signedRun (now (s .entry)) (c .0) ⌝ }
 {
     let a = scanner::eat_whitespace(s, c);
     let negative = scanner::at(s, a, Class::Is(HYPHEN));
     let b = eat_sign(s, a);
-    match parse_unsigned_int(s, b, digits) {
+    let numeric = scanner::next_run(s, b, Class::Numeric);
+    SignedRun { negative, numeric }
+}
+
+// What such a run is, with its sign.
+pub fn int_of(s: &[u8], run: SignedRun, digits: Digits) -> ReadInt
+    ensures { λ r. ⌜ r ≡ spec.intOf (now (s .entry)) run digits ⌝ }
+{
+    match number_of(s, run.numeric, digits) {
         Parsed::Number { value, next } => ReadInt::Int {
-            value: signed(negative, value),
+            value: signed(run.negative, value),
             next,
         },
         Parsed::Wrong { next } => ReadInt::NoInt { next },
         Parsed::Panics => ReadInt::IntPanics,
     }
+}
+
+// The number at a place, with white space and a sign before it.
+pub fn parse_int(s: &[u8], c: Cursor, digits: Digits) -> ReadInt
+    ensures { λ r. ⌜ r ≡ spec.parseInt (now (s .entry)) (c .0) digits ⌝ }
+{
+    int_of(s, signed_run(s, c), digits)
 }
 
 // ---- what the ported code uses of Rust's `str`: a text without the white space at its ends, and a whole text as a number

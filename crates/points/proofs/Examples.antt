@@ -10,12 +10,12 @@ use Rattle.chars.specs.Pick.{pick}
 use Rattle.chars.specs.Classes.{within, isWhitespace, isAsciiDigit, isNumeric}
 use Rattle.chars.specs.Utf8.{lenOf, isCont, isSurrogate, decode2, decode3, decode4, decode, first, decodeAt}
 use Rattle.scanner.specs.Class.{inClass}
-use Rattle.scanner.specs.Scan.{lenIn, matchLen, walk, eatWhile, eatIf, eaten, eatAt, standsAt, doneAt, part}
+use Rattle.scanner.specs.Scan.{lenIn, matchLen, walk, eatWhile, eatIf, eaten, eatAt, standsAt, doneAt, part, runAt as scannedAt, nextRun}
 use Rattle.refusals.specs.Offset.{textRefusal}
 use Rattle.refusals.specs.declared.Kind.{Kind}
 use Rattle.refusals.specs.declared.Kind.the-variants.{InvalidFormat, MonthOutOfRange, DayOutOfRange, InvalidNumber, RustPanics}
 use Rattle.numbers.specs.Parse.{wholeValue, digitsFrom}
-use Rattle.numbers.specs.Number.{admits, runValue, runOf, runAt, parseUnsignedInt, orKept, behindSign, withSign, intAt, parseInt}
+use Rattle.numbers.specs.Number.{admits, runValue, runOf, runAt, parseUnsignedInt, orKept, behindSign, withSign, signedAt, signedRun, intOf, parseInt}
 use Rattle.chars.specs.Signs.{signed}
 use Rattle.dates.specs.Calendar.{multiple, leapYear, february, monthLengths, monthLength}
 use Rattle.dates.specs.Value.{month, day, datetime}
@@ -127,5 +127,5 @@ table =
     ∷ []
 
 pub examples : map (λ (e : Example). point (e .text)) table ≡ map (λ (e : Example). e .says) table
-unfolding pick within isWhitespace isAsciiDigit isNumeric lenOf isCont isSurrogate decode2 decode3 decode4 decode first decodeAt inClass lenIn matchLen walk eatWhile eatIf eaten eatAt standsAt doneAt part admits digitOf wholeValue digitsFrom runValue runOf runAt parseUnsignedInt orKept behindSign signed withSign intAt parseInt multiple leapYear february monthLengths monthLength storedPart partAt monthAt dayAt hourAt sixtyAt hyphenOr hyphenFrom hyphenAt colonOr colonFrom colonAt onPart onSeparator orEnd shiftAt offsetBy offsetFrom offsetAt withOffset behindSecond behindMinute behindHour timeAt windowed windowedInt shortYear longOf longYear shortOr yearAt onYear withTime timeOr behindDay behindMonth behindYear point
+unfolding pick within isWhitespace isAsciiDigit isNumeric lenOf isCont isSurrogate decode2 decode3 decode4 decode first decodeAt inClass lenIn matchLen walk eatWhile eatIf eaten eatAt standsAt doneAt part admits digitOf wholeValue digitsFrom runValue runOf runAt parseUnsignedInt orKept behindSign signed withSign scannedAt nextRun signedAt signedRun intOf parseInt multiple leapYear february monthLengths monthLength storedPart partAt monthAt dayAt hourAt sixtyAt hyphenOr hyphenFrom hyphenAt colonOr colonFrom colonAt onPart onSeparator orEnd shiftAt offsetBy offsetFrom offsetAt withOffset behindSecond behindMinute behindHour timeAt windowed windowedInt shortYear longOf longYear shortOr yearAt onYear withTime timeOr behindDay behindMonth behindYear point
 examples = refl

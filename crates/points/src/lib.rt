@@ -3,6 +3,8 @@
 ghost use mathlib.Core.Path.{_≡_};
 ghost use Prim.Native.Nat.{_<_};
 ghost use lib.Signed.{mag};
+ghost use Rattle.numbers.specs.declared.Digits.the-variants.{Two, Four};
+ghost use Rattle.numbers.specs.Number.{intOf};
 ghost use Rattle.points.specs.Step as step;
 ghost use Rattle.points.specs.Time as time;
 ghost use Rattle.points.specs.Point as spec;
@@ -18,6 +20,7 @@ use dates::TimeOffset;
 use numbers::Digits;
 use numbers::Parsed;
 use numbers::ReadInt;
+use numbers::SignedRun;
 use refusals::Kind;
 use refusals::TextRefusal;
 use refusals::panics;
@@ -77,11 +80,11 @@ fn window(year: i32) -> i32
     if year < 50 { year + 2000 } else { year + 1900 }
 }
 
-// A year of two bytes.
-fn parse_short_year(s: &[u8], c: Cursor) -> ReadInt
-    ensures { λ r. ⌜ r ≡ spec.shortYear (now (s .entry)) (c .0) ⌝ }
+// A run as a year of two bytes.
+fn short_year(s: &[u8], run: SignedRun) -> ReadInt
+    ensures { λ r. ⌜ r ≡ spec.windowedInt (intOf (now (s .entry)) run Two) ⌝ }
 {
-    match numbers::parse_int(s, c, Digits::Two) {
+    match numbers::int_of(s, run, Digits::Two) {
         ReadInt::Int { value, next } => ReadInt::Int {
             value: window(value),
             next,
@@ -91,24 +94,25 @@ fn parse_short_year(s: &[u8], c: Cursor) -> ReadInt
     }
 }
 
-// A year of four bytes.
-fn parse_year(s: &[u8], c: Cursor) -> ReadYear
-    ensures { λ r. ⌜ r ≡ spec.longYear (now (s .entry)) (c .0) ⌝ }
+// A run as a year of four bytes, or a refusal from where reading began.
+fn long_year(s: &[u8], c: Cursor, run: SignedRun) -> ReadYear
+    ensures { λ r. ⌜ r ≡ spec.longOf (c .0) (intOf (now (s .entry)) run Four) ⌝ }
 {
-    match numbers::parse_int(s, c, Digits::Four) {
+    match numbers::int_of(s, run, Digits::Four) {
         ReadInt::Int { value, next } => ReadYear::Year { year: value, next },
         ReadInt::NoInt { next } => ReadYear::NoYear(refuse_text(Kind::InvalidFormat, c, next)),
         ReadInt::IntPanics => ReadYear::NoYear(panics()),
     }
 }
 
-// A year of two bytes, or else one of four from the same place on.
+// A year of two bytes, or else one of four from the same place on: the run is the same one.
 fn parse_any_year(s: &[u8], c: Cursor) -> ReadYear
     ensures { λ r. ⌜ r ≡ spec.yearAt (now (s .entry)) (c .0) ⌝ }
 {
-    match parse_short_year(s, c) {
+    let run = numbers::signed_run(s, c);
+    match short_year(s, run) {
         ReadInt::Int { value, next } => ReadYear::Year { year: value, next },
-        ReadInt::NoInt { next: _ } => parse_year(s, c),
+        ReadInt::NoInt { next: _ } => long_year(s, c, run),
         ReadInt::IntPanics => ReadYear::NoYear(panics()),
     }
 }

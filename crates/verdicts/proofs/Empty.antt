@@ -6,7 +6,7 @@ use native.Mathlib.Omega.{arith}
 use Rattle.chars.specs.Pick.{pick}
 use Rattle.chars.specs.Classes.{within, isAsciiDigit}
 use Rattle.chars.specs.Utf8.{decodeAt, first, encodeAll}
-use Rattle.scanner.specs.Scan.{lenIn, matchLen, walk, eatWhile, eatIf, standsAt, part}
+use Rattle.scanner.specs.Scan.{lenIn, matchLen, walk, eatWhile, eatIf, standsAt, part, runAt as scannedAt, nextRun}
 use Rattle.dates.specs.declared.Date.{Date}
 use Rattle.refusals.specs.declared.Kind.the-variants.{NotStrict, InvalidFormat}
 use Rattle.refusals.specs.declared.ReadDate.the-variants.{Accepted, Refused}
@@ -18,7 +18,7 @@ use Rattle.chunks.specs.Chunks.{chunksOf, kindsKnown, lengths, fits, isShort, l
 use Rattle.chunks.specs.Format.{normal, chunkOut, chunksOut, formatted}
 use Rattle.chunks.specs.Upper.{uppers, uppercase}
 use Rattle.strict.specs.Matcher as matcher
-use Rattle.numbers.specs.Number.{admits, runOf, runAt, parseUnsignedInt, orKept, behindSign, withSign, intAt, parseInt}
+use Rattle.numbers.specs.Number.{admits, runOf, orKept, behindSign, withSign, signedAt, signedRun, intOf, parseInt}
 use Rattle.numbers.specs.Trim.{stepBy, stepOver, trimStep, trimFrom, trimEnd}
 use Rattle.points.specs.Point.{windowedInt, shortYear, longOf, longYear, shortOr, yearAt, onYear, point}
 use Rattle.datefield.specs.Text.{trimmed, lastByte, isUncertain, isApproximate, unmarked, firstOf}
@@ -38,7 +38,7 @@ empty-strict {d} e =
     omega arith
 
 ported-none : parsed [] (cellTable []) ≡ Refused (nowhere InvalidFormat)
-unfolding parsed onClean checked fits isShort chunksOf kindsKnown lengths lastEnd spanOf faultOf orElse faultIn characters upTo formatted chunksOut chunkOut normal codes codesOf uppercase uppers encodeAll pick parseText trimmedDate trimmed trimEnd trimFrom trimStep stepOver stepBy walk eatWhile matchLen lenIn decodeAt first lastByte isUncertain isApproximate unmarked firstOf value marked onHalf moved point onYear yearAt shortOr shortYear windowedInt longYear longOf parseInt intAt withSign parseUnsignedInt runAt runOf admits behindSign orKept eatIf standsAt part offset saturatingAdd refusal
+unfolding parsed onClean checked fits isShort chunksOf kindsKnown lengths lastEnd spanOf faultOf orElse faultIn characters upTo formatted chunksOut chunkOut normal codes codesOf uppercase uppers encodeAll pick parseText trimmedDate trimmed trimEnd trimFrom trimStep stepOver stepBy walk eatWhile matchLen lenIn decodeAt first lastByte isUncertain isApproximate unmarked firstOf value marked onHalf moved point onYear yearAt shortOr shortYear windowedInt longYear longOf parseInt intOf signedRun signedAt nextRun scannedAt withSign runOf admits behindSign orKept eatIf standsAt part offset saturatingAdd refusal
 ported-none = refl
 
 pub empty-ported : {d : Date} → parsed [] (cellTable []) ≡ Accepted d → ⊥

@@ -10,12 +10,12 @@ use borrow.Author.Tests.{ne-eqb}
 use Rattle.chars.specs.Pick.{pick}
 use Rattle.chars.specs.Utf8.{first, decodeAt}
 use Rattle.chars.proofs.Cases.{by-test}
-use Rattle.scanner.specs.Scan.{lenIn, matchLen, walk, eatWhile, eatIf, part}
+use Rattle.scanner.specs.Scan.{lenIn, matchLen, walk, eatWhile, eatIf, part, runAt as scannedAt, nextRun}
 use Rattle.refusals.specs.declared.ReadDate.{ReadDate}
 use Rattle.codes.specs.declared.Words.{Words}
 use Rattle.codes.specs.Words.{wordsOf}
 use Rattle.codes.proofs.Laws.{last-accepted, last-refused}
-use Rattle.numbers.specs.Number.{admits, runOf, runAt, parseUnsignedInt, orKept, behindSign, withSign, intAt, parseInt}
+use Rattle.numbers.specs.Number.{admits, runOf, orKept, behindSign, withSign, signedAt, signedRun, intOf, parseInt}
 use Rattle.datefield.specs.Text.{firstOf}
 use Rattle.reading_laws.specs.Field.{parsed, parsedStrict}
 use Rattle.verdicts.specs.declared.Verdict.{Verdict}
@@ -32,7 +32,7 @@ first-within b (x ∷ t) =
 
 -- no text begins with a number where there is none
 none-two : beginsTwo [] ≡ false
-unfolding beginsTwo isInt parseInt intAt withSign parseUnsignedInt runAt runOf admits behindSign orKept eatWhile walk eatIf matchLen lenIn part decodeAt first pick
+unfolding beginsTwo isInt parseInt intOf signedRun signedAt nextRun scannedAt withSign runOf admits behindSign orKept eatWhile walk eatIf matchLen lenIn part decodeAt first pick
 none-two = refl
 
 pub past-two : (s : List ℕ) (i : ℕ) → length s ≤ i → beginsTwo (drop i s) ≡ false

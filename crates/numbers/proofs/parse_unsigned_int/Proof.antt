@@ -1,49 +1,14 @@
 use Rattle.scanner.proofs.Runs.{run-start, run-end}
-use Rattle.chars.specs.Pick.{pick}
-use Rattle.numbers.specs.Number.{parseUnsignedInt, runAt, runOf, runValue}
+use Rattle.numbers.specs.Number.{parseUnsignedInt, runAt}
 use borrow.Author.Needs.{needs}
 use Rattle.numbers.proofs.parse_unsigned_int.Statement.{statement}
 use Rattle.numbers.proofs.parse_unsigned_int.Tie as tie
 
 returns : tie.Need-returns
-unfolding parseUnsignedInt runAt runOf runValue pick
+unfolding parseUnsignedInt runAt
 returns c =
-    let b1 = c .before in
-    let b3 = b1 .before .before in
-    let b4 = b3 .before in
-    let b5 = b4 .before in
-    let b6 = b5 .before in
-    let e = b6 .before .before .next-run .ensures in
-    simp (← run-start _ _ _ _ e, ← run-end _ _ _ _ e, ← b6 .from .ensures, ← b5 .contains .ensures, b4 .if1 .taken, ← b3 .digits-from .ensures, b1 .value .given .1)
-
-returns-2 : tie.Need-returns-2
-unfolding parseUnsignedInt runAt runOf runValue pick
-returns-2 c =
-    let b2 = c .before .before in
-    let b3 = b2 .before in
-    let b4 = b3 .before in
-    let b5 = b4 .before in
-    let e = b5 .before .before .next-run .ensures in
-    simp (← run-start _ _ _ _ e, ← run-end _ _ _ _ e, ← b5 .from .ensures, ← b4 .contains .ensures, b3 .if1 .taken, ← b2 .digits-from .ensures, c .enum-told .given .1)
-
-returns-3 : tie.Need-returns-3
-unfolding parseUnsignedInt runAt runOf pick
-returns-3 c =
-    let b1 = c .before in
-    let b2 = b1 .before in
-    let e = b2 .before .before .next-run .ensures in
-    simp (← run-start _ _ _ _ e, ← run-end _ _ _ _ e, ← b2 .from .ensures, ← b1 .contains .ensures, c .if1 .left)
+    let e = c .before .next-run .ensures in
+    simp (← run-start _ _ _ _ e, ← run-end _ _ _ _ e, ← c .number-of .ensures)
 
 pub parse-unsigned-int-spec : {M : Type 1} → statement M
-parse-unsigned-int-spec =
-    tie.close
-    (tie.spec
-    (λ c κs. search needs)
-    (λ c κs. search needs)
-    (λ c κs. search needs)
-    (λ c κs. search needs)
-    (λ c. search needs)
-    (λ c. search needs)
-    returns
-    returns-2
-    returns-3)
+parse-unsigned-int-spec = tie.close (tie.spec (λ c κs. search needs) (λ c κs. search needs) returns)
