@@ -1,8 +1,7 @@
 -- The first byte of a value, by what stands at a place.
 -- Assumes nothing.
 use mathlib.Core.Path.{_≡_, sym}
-use mathlib.Core.Bool.{true, false≢true}
-use mathlib.Core.List.{List, [], _∷_}
+use mathlib.Core.List.{List}
 use Prim.Native.Nat.{ℕ, _+_, _≤_, _<_}
 use native.Mathlib.Numerals.{add-one}
 use native.Mathlib.Omega.{arith}
@@ -10,7 +9,7 @@ use borrow.Author.Tests.{eq-eqb, ne-eqb}
 use lib.ListN.{length, getD, drop, drop-of-length-le, List·getD-eq-default}
 use lib.Seq.{drop-cons}
 use Rattle.chars.specs.Pick.{pick}
-use Rattle.datefield.specs.Text.{isUncertain, isApproximate, firstOf, lastByte}
+use Rattle.datefield.specs.Text.{firstOf, lastByte}
 
 module _ (b : ℕ) (s : List ℕ) (i : ℕ) where
   pub first-here : i < length s → getD s i 0 ≡ b → firstOf b (drop i s) ≡ 0
@@ -29,14 +28,3 @@ module _ (b : ℕ) (s : List ℕ) (i : ℕ) where
 pub last-none : (s : List ℕ) → length s ≡ 0 → 0 ≡ lastByte s
 unfolding lastByte
 last-none s h = sym (List·getD-eq-default s 0 (omega arith))
-
--- a text that ends with a mark is not empty
-pub uncertain-some : (s : List ℕ) → isUncertain (lastByte s) ≡ true → 0 < length s
-unfolding isUncertain lastByte
-uncertain-some [] e = absurd (false≢true e)
-uncertain-some (x ∷ t) e = omega arith
-
-pub approximate-some : (s : List ℕ) → isApproximate (lastByte s) ≡ true → 0 < length s
-unfolding isApproximate lastByte
-approximate-some [] e = absurd (false≢true e)
-approximate-some (x ∷ t) e = omega arith

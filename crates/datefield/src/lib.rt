@@ -2,7 +2,7 @@
 ghost use mathlib.Core.Path.{_≡_};
 ghost use mathlib.Core.Bool.{true};
 ghost use Prim.Native.Nat.{_+_, _<_, _≤_};
-ghost use lib.ListN.{length, drop};
+ghost use lib.ListN.{length, take, drop};
 ghost use Rattle.refusals.specs.Offset.{offset};
 ghost use Rattle.datefield.specs.Text as text;
 ghost use Rattle.datefield.specs.Value as spec;
@@ -226,6 +226,17 @@ fn marked(value: ReadValue, uncertain: bool, approximate: bool) -> ReadDate
     }
 }
 
+// How many bytes stand before the mark: all where there is none.
+fn unmarked_length(s: &[u8], uncertain: bool, approximate: bool) -> usize
+    requires { ⌜ (uncertain ≡ text.isUncertain (text.lastByte (now s))) × (approximate ≡ text.isApproximate (text.lastByte (now s))) ⌝ }
+    ensures { λ r. ⌜ (take r (now (s .entry)) ≡ text.unmarked (now (s .entry))) × (r ≤ length (now (s .entry))) ⌝ }
+{
+    if uncertain | approximate {
+        return s.len() - 1;
+    }
+    s.len()
+}
+
 // A text that is trimmed: one final mark is dropped, and the rest is read.
 fn read_trimmed(s: &[u8], span: FileSpan) -> ReadDate
     ensures { λ r. ⌜ r ≡ spec.trimmedDate span (now (s .entry)) ⌝ }
@@ -233,13 +244,8 @@ fn read_trimmed(s: &[u8], span: FileSpan) -> ReadDate
     let mark = last_byte(s);
     let uncertain = is_uncertain(mark);
     let approximate = is_approximate(mark);
-    if uncertain {
-        return marked(read_value(&s[..s.len() - 1], span), uncertain, approximate);
-    }
-    if approximate {
-        return marked(read_value(&s[..s.len() - 1], span), uncertain, approximate);
-    }
-    marked(read_value(s, span), uncertain, approximate)
+    let n = unmarked_length(s, uncertain, approximate);
+    marked(read_value(&s[..n], span), uncertain, approximate)
 }
 
 // The text of a date field, in upper case, of a chunk list with this span.

@@ -1,47 +1,29 @@
-use Rattle.datefield.proofs.Marks.{mark-uncertain, mark-approximate, mark-date, mark-none}
-use Rattle.datefield.proofs.Finding.{uncertain-some, approximate-some}
+use Rattle.datefield.proofs.Marks.{mark-date}
 use lib.Seq.{length-take-le}
 use native.Mathlib.Omega.{arith}
-use mathlib.Core.Path.{sym, _∙_}
+use mathlib.Core.Path.{sym, ap, _∙_}
+use Rattle.datefield.specs.Text.{isUncertain, isApproximate}
 use borrow.Author.Needs.{needs}
 use Rattle.datefield.proofs.read_trimmed.Statement.{statement}
 use Rattle.datefield.proofs.read_trimmed.Tie as tie
 
-sub-read-value : tie.Need-sub-read-value
-sub-read-value c = omega (arith, uncertain-some (c .before .before .before .before .before .args .s .now) (rw (c .before .before .before .last-byte .ensures) at (sym (c .before .before .is-uncertain .ensures) ∙ c .if1 .taken)))
+unmarked-length-requires : tie.Need-unmarked-length-requires
+unmarked-length-requires c κs =
+    let e = c .before .before .last-byte .ensures in
+    (c .before .is-uncertain .ensures ∙ ap isUncertain e, c .is-approximate .ensures ∙ ap isApproximate e)
 
 slice-aggregate-read-value : tie.Need-slice-aggregate-read-value
-slice-aggregate-read-value c = sym (length-take-le _ _ (omega arith))
+slice-aggregate-read-value c = sym (length-take-le _ _ (omega (arith, c .before .unmarked-length .ensures .1)))
 
 returns : tie.Need-returns
 returns c =
-    let a = c .before .before .before .before .before .before .before .before .args in
-    let e = c .before .before .before .before .before .before .last-byte .ensures in
-    let f = c .before .before .before .before .before .is-uncertain .ensures in
-    let g = c .before .before .before .before .is-approximate .ensures in
-    mark-date (a .s .now) e f g (a .span) (mark-uncertain (a .s .now) e f g (c .before .before .before .if1 .taken)) (c .before .read-value .ensures) (c .marked .ensures)
-
-sub-read-value-2 : tie.Need-sub-read-value-2
-sub-read-value-2 c = omega (arith, approximate-some (c .before .before .before .before .before .before .args .s .now) (rw (c .before .before .before .before .last-byte .ensures) at (sym (c .before .before .is-approximate .ensures) ∙ c .if2 .taken)))
-
-slice-aggregate-read-value-2 : tie.Need-slice-aggregate-read-value-2
-slice-aggregate-read-value-2 c = sym (length-take-le _ _ (omega arith))
-
-returns-2 : tie.Need-returns-2
-returns-2 c =
-    let a = c .before .before .before .before .before .before .before .before .before .args in
-    let e = c .before .before .before .before .before .before .before .last-byte .ensures in
-    let f = c .before .before .before .before .before .before .is-uncertain .ensures in
-    let g = c .before .before .before .before .before .is-approximate .ensures in
-    mark-date (a .s .now) e f g (a .span) (mark-approximate (a .s .now) e f g (c .before .before .before .before .if1 .left) (c .before .before .before .if2 .taken)) (c .before .read-value2 .ensures) (c .marked2 .ensures)
-
-returns-3 : tie.Need-returns-3
-returns-3 c =
-    let a = c .before .before .before .before .before .before .before .before .args in
-    let e = c .before .before .before .before .before .before .last-byte .ensures in
-    let f = c .before .before .before .before .before .is-uncertain .ensures in
-    let g = c .before .before .before .before .is-approximate .ensures in
-    mark-date (a .s .now) e f g (a .span) (mark-none (a .s .now) e f g (c .before .before .before .if1 .left) (c .before .before .if2 .left)) (c .before .read-value3 .ensures) (c .marked3 .ensures)
+    let b3 = c .before .before .before in
+    let b4 = b3 .before in
+    let b5 = b4 .before in
+    let b6 = b5 .before in
+    let a = b6 .before .before .args in
+    let e = b6 .last-byte .ensures in
+    mark-date (a .s .now) (b5 .is-uncertain .ensures ∙ ap isUncertain e) (b4 .is-approximate .ensures ∙ ap isApproximate e) (a .span) (b3 .unmarked-length .ensures .0) (c .before .read-value .ensures) (c .marked .ensures)
 
 pub read-trimmed-spec : {M : Type 1} → statement M
 read-trimmed-spec =
@@ -50,16 +32,8 @@ read-trimmed-spec =
     (λ c κs. search needs)
     (λ c κs. search needs)
     (λ c κs. search needs)
-    sub-read-value
+    unmarked-length-requires
     slice-aggregate-read-value
     (λ c κs. search needs)
     (λ c κs. search needs)
-    returns
-    sub-read-value-2
-    slice-aggregate-read-value-2
-    (λ c κs. search needs)
-    (λ c κs. search needs)
-    returns-2
-    (λ c κs. search needs)
-    (λ c κs. search needs)
-    returns-3)
+    returns)
