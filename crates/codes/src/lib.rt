@@ -8,7 +8,7 @@ ghost use lib.IntN.{pos};
 ghost use lib.Signed.{mag};
 ghost use Rattle.dates.specs.declared.OptionTime.the-variants.{NoTime};
 ghost use Rattle.refusals.specs.declared.ReadDate.{ReadDate};
-ghost use Rattle.datefield.specs.Text.{lastByte, isUncertain, isApproximate};
+ghost use Rattle.datefield.specs.Text.{lastByte, isUncertain, isApproximate, unmarked};
 ghost use Rattle.codes.specs.Words as words;
 ghost use Rattle.codes.specs.Points as spec;
 ghost use Rattle.codes.specs.Texts as texts;
@@ -465,15 +465,24 @@ fn last_mark(s: &[u8]) -> u64
     mark(s[n - 1])
 }
 
+// How many bytes stand before the mark: all where there is none.
+fn unmarked_length(s: &[u8], marks: u64) -> usize
+    requires { ⌜ marks ≡ words.marksOf (isUncertain (lastByte (now s))) (isApproximate (lastByte (now s))) ⌝ }
+    ensures { λ r. ⌜ (take r (now (s .entry)) ≡ unmarked (now (s .entry))) × (r ≤ length (now (s .entry))) ⌝ }
+{
+    if marks == 0 {
+        return s.len();
+    }
+    s.len() - 1
+}
+
 // A text in the form that Dates are written in, as words.
 pub fn text(s: &[u8]) -> Words
     ensures { λ r. ⌜ r ≡ words.wordsOr (texts.written (now (s .entry))) ⌝ }
 {
     let m = last_mark(s);
-    if m == 0 {
-        return unmarked(s, 0);
-    }
-    unmarked(&s[..s.len() - 1], m)
+    let n = unmarked_length(s, m);
+    unmarked(&s[..n], m)
 }
 
 // Whether sixteen bytes are spaces. None of them decides where the loop goes on: the compiler takes them all at once.
