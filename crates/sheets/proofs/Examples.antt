@@ -61,9 +61,11 @@ use Rattle.sheets.specs.Tallies.{oneStrict, oneOtherwise, oneRefused, on
 use Rattle.sheets.specs.Rows.{keyColumn, longSix, anyLong, checkedRow, windowedIf, dateSaid, datesSaid, datesCounted, sixOf, sixSaid, linesBy, rowSaid, rowCounted, checkedSaid, checkedCounted}
 use Rattle.sheets.specs.Steps.{behind, startStep, rowStep, skipStep, stepIn, next, fresh}
 use Rattle.sheets.specs.Reports.{said, answered, answerWith, outAfter, tableIn, tableWith, report}
-use Rattle.sheets.specs.Parts.{RowsOf, Together}
+use Rattle.sheets.specs.Parts.{RowsOf, Together, AllTogether}
 use Rattle.sheets.specs.Parts.RowsOf.{no-row, a-row, a-bad}
+use Rattle.sheets.specs.Parts.PartsOf.{last-part, rows-part}
 use Rattle.sheets.proofs.Parts.{reports-add}
+use Rattle.sheets.proofs.AllParts.{all-reports-add}
 
 -- ---- counts
 
@@ -293,3 +295,11 @@ rows-known =
 -- so a file is cut behind them
 pub cut-behind : Together (ascii "key,date\na,\"x\ny\"\nb\"\n") (ascii "key,date\nc,\n") (ascii "key,date\na,\"x\ny\"\nb\"\nc,\n")
 cut-behind = reports-add (ascii "key,date\n") header-known (ascii "a,\"x\ny\"\nb\"\n") (ascii "c,\n") (omega arith) rows-known
+
+-- and into three parts
+pub cut-twice : AllTogether (ascii "key,date\n") (ascii "a,\"x\ny\"\n" ∷ ascii "b\"\n" ∷ ascii "c,\n" ∷ [])
+unfolding isStop isSpecial is upTo innerLen returnOf stopOf closed plainBy quotedBy cellOf lineBy lineFrom line window isCut isOver placeOf endLen counted rowBy refused answerBy answerOf lineOf answer pick
+cut-twice =
+    all-reports-add (ascii "key,date\n") header-known
+    (rows-part (a-row (ascii "a,\"x\ny\"\n") [] (accepted Comma (ascii "a,\"x\ny\"\nb\"\nc,\n") 8 2 .0 refl) no-row) (omega arith)
+    (rows-part (a-bad (ascii "b\"\n") [] {f = QuoteInside 1} refl no-row) (omega arith) (last-part (ascii "c,\n"))))

@@ -11,5 +11,6 @@ pub mod Waits
 pub mod Theorems
 pub mod Counts
 pub mod Parts
+pub mod AllParts
 pub mod Safe
 pub mod Examples

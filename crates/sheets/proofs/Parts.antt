@@ -56,7 +56,7 @@ use Rattle.sheets.specs.Parts.RowsOf.{no-row, a-row, a-bad}
 use Rattle.sheets.proofs.Steady.{steady}
 use Rattle.sheets.proofs.Theorems.{pieces-of, report-pieces}
 
-capped-is : (n : ℕ) → capped n ≡ n - (n - 4294967295)
+pub capped-is : (n : ℕ) → capped n ≡ n - (n - 4294967295)
 unfolding capped pick
 capped-is n =
     of-test (leb n 4294967295) (λ q. let h = leb-true n 4294967295 q in rw q (omega arith))
@@ -500,12 +500,12 @@ upto-kept {last} b (on {st} {s = s} e r) =
     both-kept k (upto-kept (k .begun) r)
 
 -- numbers of 32 bits
-record Within (t : Tally) : Type 0 where
-  low-rows : t .rows ≤ 4294967295
-  low-strict : t .strict ≤ 4294967295
-  low-otherwise : t .otherwise ≤ 4294967295
-  low-refused : t .refused ≤ 4294967295
-  low-bad : t .bad ≤ 4294967295
+pub record Within (t : Tally) : Type 0 where
+  pub low-rows : t .rows ≤ 4294967295
+  pub low-strict : t .strict ≤ 4294967295
+  pub low-otherwise : t .otherwise ≤ 4294967295
+  pub low-refused : t .refused ≤ 4294967295
+  pub low-bad : t .bad ≤ 4294967295
 
 counts-within : {k t t' : Tally} → Counts k t t' → Within t → Within t'
 counts-within c w =
@@ -525,6 +525,11 @@ upto-within {last} (on {st} {s = s} e r) w =
 
 none-within : Within noTally
 none-within = record { low-rows = omega arith; low-strict = omega arith; low-otherwise = omega arith; low-refused = omega arith; low-bad = omega arith }
+
+-- so are those at the end of a report
+pub reading-within : {at : State} {s left lastly : List ℕ} {ps : List (Piece State)} → Reading next fresh s ps at left lastly → Within (at .tally)
+unfolding fresh
+reading-within r = counts-within (again 0 noTally r .counts) none-within
 
 -- behind the header rows are read, and nothing is counted yet
 data Headed : Outcome State → Type 0 where
@@ -816,7 +821,7 @@ rows-add h head a b some m x y z =
     let p = rows-past b some (rows-next h head .0) refl m in
     parts-add h head a b (p .upto) (p .in-rows) x y z
 
-ends-with : (h : List ℕ) {st : State} → next false h fresh ≡ took (length h) [] st → (s : List ℕ) {at : State} {left lastly : List ℕ} {ps : List (Piece State)}
+pub ends-with : (h : List ℕ) {st : State} → next false h fresh ≡ took (length h) [] st → (s : List ℕ) {at : State} {left lastly : List ℕ} {ps : List (Piece State)}
     → Reading next fresh (h ++ s) ps at left lastly → EndsWith (h ++ s) (at .tally)
 ends-with h head s {ps = ps} r = record { lines = allTexts ps; is = report-pieces r ∙ ap (λ (x : List ℕ). allTexts ps ++ x) (ends-counted h head s r) }
 
