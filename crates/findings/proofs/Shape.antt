@@ -36,10 +36,12 @@ use Rattle.findings.specs.declared.Column.{Column}
 use Rattle.findings.specs.declared.Column.the-variants.{Date as DateColumn, Origdate, Eventdate, Urldate}
 use Rattle.headers.specs.declared.RowFault.{RowFault}
 use Rattle.headers.specs.declared.RowFault.the-variants.{Broken, Cells, BadUtf8, LongCell}
+use Rattle.headers.specs.declared.Unusable.{Unusable}
+use Rattle.headers.specs.declared.Unusable.the-variants.{Empty, NoColumn, Twice, Returns, NoRow}
 use Rattle.findings.specs.Escapes.{isHidden, isMarked, shownByte, escaped, quoted}
 use Rattle.verdicts.specs.Plain.{textIf, writtenText}
-use Rattle.findings.specs.Words.{capped, placed, kindWords, placeWords, refusalWords, windowWords, isSaid, sort, message, faultWords, rowWords}
-use Rattle.findings.specs.Lines.{finding, verdictLine, columnName, dateLine, namedCell, stillFirst, sixText, sixLine, badRowLine}
+use Rattle.findings.specs.Words.{counted, capped, placed, kindWords, placeWords, refusalWords, windowWords, isSaid, sort, message, faultWords, rowWords}
+use Rattle.findings.specs.Lines.{finding, verdictLine, columnName, dateLine, namedCell, stillFirst, sixText, sixLine, badRowLine, signing, summary, unusableWords, unreadLine}
 
 -- how often a byte stands in a text
 unfoldable pub occurs : ℕ → List ℕ → ℕ
@@ -362,3 +364,50 @@ said-or-not (NotStrict d) = (λ e. absurd (false≢true (sym e)), λ h. ⊎-elim
 said-or-not (ShortYear d) = (λ e. absurd (false≢true (sym e)), λ h. ⊎-elim (λ q. ap isSaid q) (λ q. ap isSaid q) h)
 said-or-not Unread = (λ e. absurd (false≢true (sym e)), λ h. ⊎-elim (λ q. ap isSaid q) (λ q. ap isSaid q) h)
 said-or-not (Refused x) = (λ e. absurd (false≢true (sym e)), λ h. ⊎-elim (λ q. ap isSaid q) (λ q. ap isSaid q) h)
+
+-- ---- the lines at the end
+
+counted-seen : (words : List ℕ) (n : ℕ) → visible words ≡ true → Seen (counted words n)
+counted-seen words n e = joins (seen e) (decimal-seen 1 n)
+
+-- a line whose text is seen
+ended-one : {t : List ℕ} → Seen t → occurs 10 (t ++ (10 ∷ [])) ≡ 1
+unfolding occurs pick
+ended-one {t} s = let h = seen-none 10 (omega arith) s in let l = occurs-append 10 t (10 ∷ []) in omega arith
+
+signing-one : (n : ℕ) → occurs 10 (signing n) ≡ 1
+unfolding signing visible occurs pick
+signing-one n =
+    by-test (λ (t : List ℕ). occurs 10 t ≡ 1) (eqb n 0) (λ _. refl)
+    (λ _.
+    let h = seen-none 10 (omega arith) (counted-seen (ascii "do not sign: ") n refl) in
+    let l = occurs-append 10 (counted (ascii "do not sign: ") n) (pick (eqb n 1) (ascii " finding\n") (ascii " findings\n")) in
+    let w : occurs 10 (pick (eqb n 1) (ascii " finding\n") (ascii " findings\n")) ≡ 1 = by-test (λ (t : List ℕ). occurs 10 t ≡ 1) (eqb n 1) (λ _. refl) (λ _. refl) in
+    omega arith)
+
+-- the lines at the end are two
+pub summary-two : (rows strict otherwise refused bad : ℕ) → occurs 10 (summary rows strict otherwise refused bad) ≡ 2
+unfolding summary visible occurs pick
+summary-two rows strict otherwise refused bad =
+    let a = seen-none 10 (omega arith) (counted-seen (ascii "rows ") rows refl) in
+    let b = seen-none 10 (omega arith) (counted-seen (ascii ", dates ") (strict + otherwise + refused) refl) in
+    let c = seen-none 10 (omega arith) (counted-seen (ascii ", strict ") strict refl) in
+    let d = seen-none 10 (omega arith) (counted-seen (ascii ", read otherwise ") otherwise refl) in
+    let e = seen-none 10 (omega arith) (counted-seen (ascii ", refused ") refused refl) in
+    let f = seen-none 10 (omega arith) (counted-seen (ascii ", bad rows ") bad refl) in
+    let g = signing-one (otherwise + refused + bad) in
+    simp occurs-append (omega arith)
+
+unusable-seen : (why : Unusable) → Seen (unusableWords why)
+unfolding unusableWords visible
+unusable-seen Empty = seen refl
+unusable-seen NoColumn = seen refl
+unusable-seen Twice = seen refl
+unusable-seen Returns = seen refl
+unusable-seen (NoRow f) = joins (seen {t = ascii "the header is no row: "} refl) (row-seen f)
+
+-- that of a file whose header can not be used is one
+pub unread-one : (why : Unusable) → occurs 10 (unreadLine why) ≡ 1
+unfolding unreadLine visible
+unread-one why =
+    rw (← append-assoc (ascii "could not be read: ") (unusableWords why) (ascii "\n")) (ended-one (joins (seen {t = ascii "could not be read: "} refl) (unusable-seen why)))

@@ -1,5 +1,5 @@
 -- The numbers at the end of a report are those of its findings. Assumes nothing.
-use mathlib.Core.Path.{_≡_}
+use mathlib.Core.Path.{_≡_, refl, _∙_}
 use mathlib.Core.Bool.{Bool, true, false}
 use mathlib.Core.List.{List, [], _++_}
 use Prim.Native.Nat.{ℕ, _+_, _<_}
@@ -51,10 +51,11 @@ pub record Below (t : Tally) : Type 0 where
 abbrev pub found : Tally → ℕ
 found t = t .otherwise + t .refused + t .bad
 
--- from one tally to another so many findings are counted, if the other is below
+-- from one tally to another so many findings are counted, if the other is below; where there is none, none is counted
 pub record Adds (n : ℕ) (t t' : Tally) : Type 0 where
   pub before : Below t' → Below t
   pub sum : Below t' → n + found t ≡ found t'
+  pub none : n ≡ 0 → found t ≡ found t'
 
 capped-next : (n : ℕ) → capped (n + 1) < 4294967295 → (n < 4294967295) × (capped (n + 1) ≡ n + 1)
 unfolding capped pick
@@ -64,11 +65,11 @@ capped-next n h =
     (λ q. let g : 4294967295 < 4294967295 = rw q at h in absurd (omega arith))
 
 none-added : (t : Tally) → Adds 0 t t
-none-added t = record { before = λ b. b; sum = λ b. omega arith }
+none-added t = record { before = λ b. b; sum = λ b. omega arith; none = λ e. refl }
 
 strict-added : (t : Tally) → Adds 0 t (oneStrict t)
 unfolding oneStrict
-strict-added t = record { before = λ b. record { few-otherwise = b .few-otherwise; few-refused = b .few-refused; few-bad = b .few-bad }; sum = λ b. omega arith }
+strict-added t = record { before = λ b. record { few-otherwise = b .few-otherwise; few-refused = b .few-refused; few-bad = b .few-bad }; sum = λ b. omega arith; none = λ e. refl }
 
 otherwise-added : (t : Tally) → Adds 1 t (oneOtherwise t)
 unfolding oneOtherwise
@@ -76,6 +77,7 @@ otherwise-added t =
     record {
       before = λ b. record { few-otherwise = capped-next (t .otherwise) (b .few-otherwise) .0; few-refused = b .few-refused; few-bad = b .few-bad };
       sum = λ b. omega (arith, capped-next (t .otherwise) (b .few-otherwise) .1);
+      none = λ e. absurd (omega arith);
     }
 
 refused-added : (t : Tally) → Adds 1 t (oneRefused t)
@@ -84,11 +86,12 @@ refused-added t =
     record {
       before = λ b. record { few-otherwise = b .few-otherwise; few-refused = capped-next (t .refused) (b .few-refused) .0; few-bad = b .few-bad };
       sum = λ b. omega (arith, capped-next (t .refused) (b .few-refused) .1);
+      none = λ e. absurd (omega arith);
     }
 
 row-added : (t : Tally) → Adds 0 t (oneRow t)
 unfolding oneRow
-row-added t = record { before = λ b. record { few-otherwise = b .few-otherwise; few-refused = b .few-refused; few-bad = b .few-bad }; sum = λ b. omega arith }
+row-added t = record { before = λ b. record { few-otherwise = b .few-otherwise; few-refused = b .few-refused; few-bad = b .few-bad }; sum = λ b. omega arith; none = λ e. refl }
 
 bad-added : (t : Tally) → Adds 1 t (oneBad t)
 unfolding oneBad
@@ -96,6 +99,7 @@ bad-added t =
     record {
       before = λ b. record { few-otherwise = b .few-otherwise; few-refused = b .few-refused; few-bad = capped-next (t .bad) (b .few-bad) .0 };
       sum = λ b. omega (arith, capped-next (t .bad) (b .few-bad) .1);
+      none = λ e. absurd (omega arith);
     }
 
 -- a date counts one exactly if something is said of it
@@ -110,30 +114,36 @@ date-added t (Refused e) = refused-added t
 
 -- one after the other
 both-added : {n m : ℕ} {t u w : Tally} → Adds n t u → Adds m u w → Adds (n + m) t w
-both-added a b =
+both-added {n} {m} a b =
     record {
       before = λ h. a .before (b .before h);
       sum = λ h. let x = b .sum h in let y = a .sum (b .before h) in omega arith;
+      none = λ e. a .none (omega arith) ∙ b .none (omega arith);
     }
 
--- a text has as many lines as are counted
+-- a text has as many lines as are counted, and without a line it is empty
 pub record Tells (text : List ℕ) (t t' : Tally) : Type 0 where
   pub adds : Adds (occurs 10 text) t t'
+  pub whole : occurs 10 text ≡ 0 → text ≡ []
 
 -- texts one behind the other
 then-told : {s u : List ℕ} {t t' t'' : Tally} → Tells s t t' → Tells u t' t'' → Tells (s ++ u) t t''
-then-told {s} {u} a b = record { adds = rw (occurs-append 10 s u) (both-added (a .adds) (b .adds)) }
+then-told {s} {u} a b =
+    record {
+      adds = rw (occurs-append 10 s u) (both-added (a .adds) (b .adds));
+      whole = λ e. let l = occurs-append 10 s u in rw (a .whole (omega arith), b .whole (omega arith));
+    }
 
 none-told : (t : Tally) → Tells [] t t
 unfolding occurs
-none-told t = record { adds = none-added t }
+none-told t = record { adds = none-added t; whole = λ e. refl }
 
 counted-told : (t : Tally) → Tells [] t (oneRow t)
 unfolding occurs
-counted-told t = record { adds = row-added t }
+counted-told t = record { adds = row-added t; whole = λ e. refl }
 
 bad-told : (line : ℕ) (f : RowFault) (t : Tally) → Tells (badRowLine line f) t (oneBad t)
-bad-told line f t = record { adds = rw (bad-row-one line f .feeds) (bad-added t) }
+bad-told line f t = record { adds = rw (bad-row-one line f .feeds) (bad-added t); whole = λ e. absurd (omega (arith, bad-row-one line f .feeds)) }
 
 -- a line where something is said, else none
 lines-said : (text : List ℕ) (v : Verdict) → (isSaid v ≡ true → OneLine text) → (isSaid v ≡ false → text ≡ []) → occurs 10 text ≡ pick (isSaid v) 1 0
@@ -141,7 +151,11 @@ unfolding occurs pick
 lines-said text v f g = of-test (isSaid v) (λ q. rw q (f q .feeds)) (λ q. rw (g q, q))
 
 line-told : (text : List ℕ) (v : Verdict) (t : Tally) → (isSaid v ≡ true → OneLine text) → (isSaid v ≡ false → text ≡ []) → Tells text t (oneDate t v)
-line-told text v t f g = record { adds = rw (lines-said text v f g) (date-added t v) }
+line-told text v t f g =
+    record {
+      adds = rw (lines-said text v f g) (date-added t v);
+      whole = λ e. of-test (isSaid v) (λ q. absurd (omega (arith, f q .feeds))) (λ q. g q);
+    }
 
 date-told : (line : ℕ) (key : List ℕ) (column : Column) (cell : List ℕ) (t : Tally) → Tells (dateSaid line key column cell) t (oneDate t (dateVerdict cell))
 unfolding dateSaid
@@ -224,3 +238,7 @@ pub lines-found : {at : State} {s left lastly : List ℕ} {ps : List (Piece Stat
     → occurs 10 (allTexts ps) ≡ found (at .tally)
 unfolding fresh
 lines-found r b = let h = lines-added r .adds .sum b in omega arith
+
+-- and where they say none, none is said
+pub lines-none : {at : State} {s left lastly : List ℕ} {ps : List (Piece State)} → Reading next fresh s ps at left lastly → found (at .tally) ≡ 0 → occurs 10 (allTexts ps) ≡ 0
+lines-none r z = lines-found r (record { few-otherwise = omega arith; few-refused = omega arith; few-bad = omega arith }) ∙ z

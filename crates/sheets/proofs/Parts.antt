@@ -51,7 +51,8 @@ use Rattle.sheets.specs.Tallies.{oneStrict, oneOtherwise, oneRefused, on
 use Rattle.sheets.specs.Rows.{textAt, checkedRow, datesCounted, sixOf, rowCounted, checkedSaid, checkedCounted}
 use Rattle.sheets.specs.Steps.{behind, lastLines, noTally, startStep, rowStep, skipStep, stepIn, next, fresh}
 use Rattle.sheets.specs.Reports.{report}
-use Rattle.sheets.specs.Parts.{RowsOf, Sums, EndsWith, Together}
+use Rattle.sheets.specs.Ends.{EndsWith}
+use Rattle.sheets.specs.Parts.{RowsOf, Sums, Together}
 use Rattle.sheets.specs.Parts.RowsOf.{no-row, a-row, a-bad}
 use Rattle.sheets.proofs.Steady.{steady}
 use Rattle.sheets.proofs.Theorems.{pieces-of, report-pieces}
@@ -549,6 +550,11 @@ next-headed last s = start-headed s (header last s)
 
 took-headed : {n : ℕ} {text : List ℕ} {kept : State} → Headed (took n text kept) → (kept .phase ≡ Rows) × (kept .tally ≡ noTally)
 took-headed (takes a b) = (a, b)
+
+-- behind a header that was read the report ends with the numbers
+pub header-ends : (s : List ℕ) {n : ℕ} {text : List ℕ} {kept : State} → next true s fresh ≡ took n text kept → {at : State} {t left lastly : List ℕ} {ps : List (Piece State)}
+    → Reading next kept t ps at left lastly → lastly ≡ lastLines (at .tally)
+header-ends s {kept = kept} e r = let b : Begun (kept .phase) = rw (took-headed (rw e at (next-headed true s)) .0) in-rows in reading-ends b r
 
 fresh-start : fresh .phase ≡ Start
 unfolding fresh

@@ -2,5 +2,6 @@ pub mod Tallies
 pub mod Rows
 pub mod Steps
 pub mod Reports
+pub mod Ends
 pub mod Inside
 pub mod Parts

@@ -12,8 +12,7 @@ use Rattle.csv.specs.Answers.{answer}
 use Rattle.csv.specs.Grammar.{Limited}
 use Rattle.findings.specs.Words.{capped}
 use Rattle.sheets.specs.declared.Tally.{Tally}
-use Rattle.sheets.specs.Steps.{lastLines}
-use Rattle.sheets.specs.Reports.{report}
+use Rattle.sheets.specs.Ends.{EndsWith}
 
 -- rows one behind the other, and b behind them: each is a row by the grammar, or a bad row that is known by its own bytes
 pub data RowsOf (k : Separator) (b : List ℕ) : List ℕ → Type 0 where
@@ -36,13 +35,6 @@ pub record Sums (t t' whole : Tally) : Type 0 where
   pub sum-refused : whole .refused ≡ capped (t .refused + t' .refused)
   -- of bad rows
   pub sum-bad : whole .bad ≡ capped (t .bad + t' .bad)
-
--- the report on a file ends with these five numbers
-pub record EndsWith (s : List ℕ) (t : Tally) : Type 0 where
-  -- the lines before
-  pub lines : List ℕ
-  -- and the two behind them
-  pub is : report s ≡ lines ++ lastLines t
 
 -- the numbers at the end of one report are the sums of those at the ends of two
 pub record Together (s s' whole : List ℕ) : Type 0 where
