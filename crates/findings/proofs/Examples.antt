@@ -35,6 +35,7 @@ use Rattle.findings.specs.Escapes.{isHidden, isMarked, shownByte, escape
 use Rattle.verdicts.specs.Plain.{textIf, writtenText}
 use Rattle.findings.specs.Words.{capped, kindWords, placeWords, refusalWords, windowWords, isSaid, sort, message, faultWords, rowWords}
 use Rattle.findings.specs.Lines.{finding, verdictLine, columnName, dateLine, namedCell, stillFirst, sixText, sixLine, badRowLine, signing, summary, unusableWords, unreadLine}
+use Rattle.findings.specs.Sorts.{beforeParts, cutAt, sortOf, isSame, countSort, linesOf}
 
 -- ---- bytes of the file
 
@@ -236,3 +237,17 @@ headers =
 pub all-headers : map (λ (e : HeaderExample). unreadLine (e .of)) headers ≡ map (λ (e : HeaderExample). ascii (e .text)) headers
 unfolding unreadLine unusableWords rowWords faultWords capped decimal width digitCount count pick
 all-headers = refl
+
+-- ---- sorts
+
+pub parts : cutAt 10 (ascii "a\n\nb") ≡ ascii "a" ∷ [] ∷ ascii "b" ∷ []
+unfolding cutAt beforeParts
+parts = refl
+
+-- two lines of a report, and what stands at its end; a word counts as a sort in the fifth field alone
+abbrev said : List ℕ
+said = ascii "2\tbad row\tdate\t\"49\"\tnot strict\trefused\n3\t\t\t\tbad row\tmore than 256 cells\nrows 2, dates 1, strict 0, read otherwise 1, refused 0, bad rows 1\ndo not sign: 2 findings\n"
+
+pub sorts : (linesOf (ascii "not strict") said ≡ 1) × (linesOf (ascii "short year") said ≡ 0) × (linesOf (ascii "refused") said ≡ 0) × (linesOf (ascii "bad row") said ≡ 1)
+unfolding linesOf countSort sortOf isSame cutAt beforeParts pick
+sorts = (refl, refl, refl, refl)

@@ -3,4 +3,5 @@ pub mod Texts
 pub mod Bounds
 pub mod Short
 pub mod Shape
+pub mod Sorts
 pub mod Examples

@@ -58,12 +58,12 @@ pub record OneLine (t : List ℕ) : Type 0 where
   pub ended : (u : List ℕ) × (t ≡ u ++ (10 ∷ []))
 
 -- whether all bytes of a text are at least 32
-visible : List ℕ → Bool
+unfoldable pub visible : List ℕ → Bool
 visible [] = true
 visible (b ∷ l) = leb 32 b && visible l
 
 -- they are
-data Seen : List ℕ → Type 0 where
+pub data Seen : List ℕ → Type 0 where
   seen : {t : List ℕ} → visible t ≡ true → Seen t
 
 -- ---- what is seen
@@ -82,7 +82,7 @@ none-below b (x ∷ t) h e =
     let i = none-below b t h (p .1) in
     rw (ne-eqb x b (λ (q : x ≡ b). omega arith)) (omega arith)
 
-seen-none : (b : ℕ) {t : List ℕ} → b < 32 → Seen t → occurs b t ≡ 0
+pub seen-none : (b : ℕ) {t : List ℕ} → b < 32 → Seen t → occurs b t ≡ 0
 seen-none b {t} h (seen e) = none-below b t h e
 
 visible-append : (s t : List ℕ) → visible s ≡ true → visible t ≡ true → visible (s ++ t) ≡ true
@@ -99,7 +99,7 @@ one : (b : ℕ) → 32 ≤ b → Seen (b ∷ [])
 unfolding visible
 one b h = seen {t = b ∷ []} (rw (le-leb 32 b h))
 
-none : Seen []
+pub none : Seen []
 unfolding visible
 none = seen refl
 
@@ -112,7 +112,7 @@ digits-seen : (w n : ℕ) → Seen (digits w n)
 digits-seen zero n = none
 digits-seen (suc w) n = joins (digits-seen w (n / 10)) (one (48 + n % 10) (omega arith))
 
-decimal-seen : (least n : ℕ) → Seen (decimal least n)
+pub decimal-seen : (least n : ℕ) → Seen (decimal least n)
 unfolding decimal
 decimal-seen least n = digits-seen (width least n) n
 
@@ -133,12 +133,12 @@ shown-seen b =
     let h = ltb-false b 32 (or-false (ltb b 32) (eqb b 127) e) in
     either (isMarked b) (joins (seen {t = ascii "\\"} refl) (one b h)) (one b h))
 
-escaped-seen : (l : List ℕ) → Seen (escaped l)
+pub escaped-seen : (l : List ℕ) → Seen (escaped l)
 unfolding escaped
 escaped-seen [] = none
 escaped-seen (b ∷ l) = joins (shown-seen b) (escaped-seen l)
 
-quoted-seen : (l : List ℕ) → Seen (quoted l)
+pub quoted-seen : (l : List ℕ) → Seen (quoted l)
 unfolding quoted
 quoted-seen l = joins (one 34 (omega arith)) (joins (escaped-seen l) (one 34 (omega arith)))
 
@@ -217,7 +217,7 @@ refusal-seen e =
     joins (kind-seen (number (e .kind)))
     (either (hasPlace (e .kind)) (joins (placed-seen (ascii ", at ") (e .place .0) refl) (placed-seen (ascii "..") (e .place .1) refl)) none)
 
-sort-seen : (v : Verdict) → Seen (sort v)
+pub sort-seen : (v : Verdict) → Seen (sort v)
 unfolding sort visible
 sort-seen NoDate = none
 sort-seen Full = none
@@ -226,7 +226,7 @@ sort-seen (ShortYear d) = seen refl
 sort-seen Unread = seen refl
 sort-seen (Refused e) = seen refl
 
-message-seen : (v : Verdict) (windowed : Bool) → Seen (message v windowed)
+pub message-seen : (v : Verdict) (windowed : Bool) → Seen (message v windowed)
 unfolding message windowWords visible
 message-seen NoDate windowed = none
 message-seen Full windowed = none
@@ -248,7 +248,7 @@ fault-seen (TooLong p) =
     joins (placed-seen (ascii "longer than 65,536 bytes, its last cell from ") p refl) (seen {t = ascii " on"} refl)
 fault-seen TooMany = seen refl
 
-row-seen : (f : RowFault) → Seen (rowWords f)
+pub row-seen : (f : RowFault) → Seen (rowWords f)
 unfolding rowWords visible
 row-seen (Broken f) = fault-seen f
 row-seen (Cells n m) = joins (placed-seen [] n refl) (placed-seen (ascii " cells where the header has ") m refl)
@@ -291,7 +291,7 @@ unfolding verdictLine pick
 verdict-one line key column text v windowed sc st e =
     rw e (finding-one line key column text (sort v) (message v windowed) sc st (sort-seen v) (message-seen v windowed))
 
-column-seen : (c : Column) → Seen (columnName c)
+pub column-seen : (c : Column) → Seen (columnName c)
 unfolding columnName visible
 column-seen DateColumn = seen refl
 column-seen Origdate = seen refl
@@ -310,7 +310,7 @@ named-seen first name cell p =
     either (eqb (length cell) 0) none
     (joins (either first none (seen {t = ascii ", "} refl)) (joins p (joins (seen {t = ascii " "} refl) (quoted-seen cell))))
 
-six-seen : (year month day endYear endMonth endDay : List ℕ) → Seen (sixText year month day endYear endMonth endDay)
+pub six-seen : (year month day endYear endMonth endDay : List ℕ) → Seen (sixText year month day endYear endMonth endDay)
 unfolding sixText visible
 six-seen year month day endYear endMonth endDay =
     let a = stillFirst true year in
@@ -370,34 +370,6 @@ said-or-not (Refused x) = (λ e. absurd (false≢true (sym e)), λ h. ⊎-elim (
 counted-seen : (words : List ℕ) (n : ℕ) → visible words ≡ true → Seen (counted words n)
 counted-seen words n e = joins (seen e) (decimal-seen 1 n)
 
--- a line whose text is seen
-ended-one : {t : List ℕ} → Seen t → occurs 10 (t ++ (10 ∷ [])) ≡ 1
-unfolding occurs pick
-ended-one {t} s = let h = seen-none 10 (omega arith) s in let l = occurs-append 10 t (10 ∷ []) in omega arith
-
-signing-one : (n : ℕ) → occurs 10 (signing n) ≡ 1
-unfolding signing visible occurs pick
-signing-one n =
-    by-test (λ (t : List ℕ). occurs 10 t ≡ 1) (eqb n 0) (λ _. refl)
-    (λ _.
-    let h = seen-none 10 (omega arith) (counted-seen (ascii "do not sign: ") n refl) in
-    let l = occurs-append 10 (counted (ascii "do not sign: ") n) (pick (eqb n 1) (ascii " finding\n") (ascii " findings\n")) in
-    let w : occurs 10 (pick (eqb n 1) (ascii " finding\n") (ascii " findings\n")) ≡ 1 = by-test (λ (t : List ℕ). occurs 10 t ≡ 1) (eqb n 1) (λ _. refl) (λ _. refl) in
-    omega arith)
-
--- the lines at the end are two
-pub summary-two : (rows strict otherwise refused bad : ℕ) → occurs 10 (summary rows strict otherwise refused bad) ≡ 2
-unfolding summary visible occurs pick
-summary-two rows strict otherwise refused bad =
-    let a = seen-none 10 (omega arith) (counted-seen (ascii "rows ") rows refl) in
-    let b = seen-none 10 (omega arith) (counted-seen (ascii ", dates ") (strict + otherwise + refused) refl) in
-    let c = seen-none 10 (omega arith) (counted-seen (ascii ", strict ") strict refl) in
-    let d = seen-none 10 (omega arith) (counted-seen (ascii ", read otherwise ") otherwise refl) in
-    let e = seen-none 10 (omega arith) (counted-seen (ascii ", refused ") refused refl) in
-    let f = seen-none 10 (omega arith) (counted-seen (ascii ", bad rows ") bad refl) in
-    let g = signing-one (otherwise + refused + bad) in
-    simp occurs-append (omega arith)
-
 unusable-seen : (why : Unusable) → Seen (unusableWords why)
 unfolding unusableWords visible
 unusable-seen Empty = seen refl
@@ -406,8 +378,49 @@ unusable-seen Twice = seen refl
 unusable-seen Returns = seen refl
 unusable-seen (NoRow f) = joins (seen {t = ascii "the header is no row: "} refl) (row-seen f)
 
+-- a byte below 32, which a line feed may be
+module _ (b : ℕ) (low : b < 32) where
+  seen-before : {s : List ℕ} (t : List ℕ) → Seen s → occurs b (s ++ t) ≡ occurs b t
+  seen-before {s} t p = let h = seen-none b low p in let l = occurs-append b s t in omega arith
+
+  ended-has : {t : List ℕ} → Seen t → occurs b (t ++ (10 ∷ [])) ≡ occurs b (10 ∷ [])
+  ended-has {t} s = seen-before (10 ∷ []) s
+
+  signing-has : (n : ℕ) → occurs b (signing n) ≡ occurs b (10 ∷ [])
+  unfolding signing visible
+  signing-has n =
+      by-test (λ (t : List ℕ). occurs b t ≡ occurs b (10 ∷ [])) (eqb n 0) (λ _. ended-has (seen {t = ascii "safe to sign"} refl))
+      (λ _.
+      seen-before _ (counted-seen (ascii "do not sign: ") n refl)
+      ∙ by-test (λ (t : List ℕ). occurs b t ≡ occurs b (10 ∷ [])) (eqb n 1) (λ _. ended-has (seen {t = ascii " finding"} refl)) (λ _. ended-has (seen {t = ascii " findings"} refl)))
+
+  summary-has : (rows strict otherwise refused bad : ℕ) → occurs b (summary rows strict otherwise refused bad) ≡ occurs b (10 ∷ []) + occurs b (10 ∷ [])
+  unfolding summary visible
+  summary-has rows strict otherwise refused bad =
+      seen-before _ (counted-seen (ascii "rows ") rows refl)
+      ∙ seen-before _ (counted-seen (ascii ", dates ") (strict + otherwise + refused) refl)
+      ∙ seen-before _ (counted-seen (ascii ", strict ") strict refl)
+      ∙ seen-before _ (counted-seen (ascii ", read otherwise ") otherwise refl)
+      ∙ seen-before _ (counted-seen (ascii ", refused ") refused refl)
+      ∙ seen-before _ (counted-seen (ascii ", bad rows ") bad refl)
+      ∙ occurs-append b (10 ∷ []) (signing (otherwise + refused + bad))
+      ∙ ap (λ (n : ℕ). occurs b (10 ∷ []) + n) (signing-has (otherwise + refused + bad))
+
+  unread-has : (why : Unusable) → occurs b (unreadLine why) ≡ occurs b (10 ∷ [])
+  unfolding unreadLine visible
+  unread-has why = seen-before _ (seen {t = ascii "could not be read: "} refl) ∙ ended-has (unusable-seen why)
+
+-- the lines at the end are two
+pub summary-two : (rows strict otherwise refused bad : ℕ) → occurs 10 (summary rows strict otherwise refused bad) ≡ 2
+unfolding occurs pick
+summary-two rows strict otherwise refused bad = summary-has 10 (omega arith) rows strict otherwise refused bad
+
+-- and have no tab
+pub summary-untabbed : (rows strict otherwise refused bad : ℕ) → occurs 9 (summary rows strict otherwise refused bad) ≡ 0
+unfolding occurs pick
+summary-untabbed rows strict otherwise refused bad = summary-has 9 (omega arith) rows strict otherwise refused bad
+
 -- that of a file whose header can not be used is one
 pub unread-one : (why : Unusable) → occurs 10 (unreadLine why) ≡ 1
-unfolding unreadLine visible
-unread-one why =
-    rw (← append-assoc (ascii "could not be read: ") (unusableWords why) (ascii "\n")) (ended-one (joins (seen {t = ascii "could not be read: "} refl) (unusable-seen why)))
+unfolding occurs pick
+unread-one why = unread-has 10 (omega arith) why

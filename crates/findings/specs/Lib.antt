@@ -1,4 +1,5 @@
 pub mod Escapes
 pub mod Words
 pub mod Lines
+pub mod Sorts
 pub mod Runs

@@ -14,7 +14,8 @@ use Rattle.sheets.specs.Parts.{Sums, joined, PartsOf, EachEndsWith, tota
 use Rattle.sheets.specs.Parts.PartsOf.{last-part, rows-part}
 use Rattle.sheets.specs.Parts.EachEndsWith.{no-part, a-part}
 use Rattle.sheets.proofs.Theorems.{pieces-of}
-use Rattle.sheets.proofs.Parts.{capped-is, Within, reading-within, rows-add, ends-with}
+use Rattle.sheets.proofs.Amounts.{capped-is, Within}
+use Rattle.sheets.proofs.Parts.{reading-within, rows-add, ends-with}
 
 -- the numbers at the end of the report on a file
 abbrev counted : List ℕ → Tally

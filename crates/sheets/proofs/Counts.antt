@@ -1,12 +1,11 @@
 -- The numbers at the end of a report are those of its findings. Assumes nothing.
-use mathlib.Core.Path.{_≡_, refl, _∙_}
+use mathlib.Core.Path.{_≡_, refl, sym, _∙_}
 use mathlib.Core.Bool.{Bool, true, false}
-use mathlib.Core.List.{List, [], _++_}
+use mathlib.Core.List.{List, [], _++_, append-assoc}
 use Prim.Native.Nat.{ℕ, _+_, _<_}
 use native.Mathlib.Omega.{arith}
-use lib.Dec.{leb}
 use Rattle.chars.specs.Pick.{pick}
-use Rattle.chars.proofs.Cases.{of-test}
+use Rattle.chars.specs.Ascii.{ascii}
 use Rattle.runs.specs.Steps.{Outcome}
 use Rattle.runs.specs.Steps.Outcome.{wait, took, over}
 use Rattle.runs.specs.Pieces.{Piece, allTexts, Reading}
@@ -25,8 +24,10 @@ use Rattle.findings.specs.declared.Column.the-variants.{Date, Origdate, Eventda
 use Rattle.headers.specs.declared.RowFault.{RowFault}
 use Rattle.headers.specs.declared.RowFault.the-variants.{Broken}
 use Rattle.findings.specs.Lines.{badRowLine}
-use Rattle.findings.specs.Words.{capped, isSaid}
-use Rattle.findings.proofs.Shape.{occurs, occurs-append, OneLine, date-one, date-unsaid, six-one, six-unsaid, bad-row-one}
+use Rattle.findings.specs.Words.{isSaid, sort}
+use Rattle.findings.specs.Sorts.{isSame}
+use Rattle.findings.proofs.Shape.{occurs, occurs-append, date-unsaid, six-unsaid}
+use Rattle.findings.proofs.Sorts.{OfSort, sort-counts, sort-feeds, date-sort, six-sort, bad-row-sort}
 use Rattle.headers.specs.declared.Columns.{Columns}
 use Rattle.headers.specs.declared.Header.{Header}
 use Rattle.headers.specs.declared.Header.the-variants.{Wait, Without, With}
@@ -37,9 +38,11 @@ use Rattle.sheets.specs.declared.Tally.{Tally}
 use Rattle.sheets.specs.declared.State.{State}
 use Rattle.sheets.specs.declared.Checked.{Checked}
 use Rattle.sheets.specs.declared.Checked.the-variants.{Good, Bad}
-use Rattle.sheets.specs.Tallies.{oneStrict, oneOtherwise, oneRefused, oneRow, oneBad, oneDate}
+use Rattle.sheets.specs.Tallies.{oneStrict, oneRow, oneBad, oneDate}
 use Rattle.sheets.specs.Rows.{textAt, keyColumn, checkedRow, windowedIf, dateSaid, datesSaid, datesCounted, sixOf, sixSaid, linesBy, rowSaid, rowCounted, checkedSaid, checkedCounted}
-use Rattle.sheets.specs.Steps.{behind, startStep, rowStep, skipStep, stepIn, next, fresh}
+use Rattle.sheets.specs.Steps.{behind, noTally, startStep, rowStep, skipStep, stepIn, next, fresh}
+use Rattle.sheets.specs.Sorts.{otherwiseLines, refusedLines, badLines}
+use Rattle.sheets.proofs.Amounts.{capped-is, Raised, Counts, together, Amount, none-counts, both-counts, strict-amount, otherwise-amount, refused-amount, row-amount, bad-amount, raised-by}
 
 -- the counts of findings are below the largest number, at which they would stay
 pub record Below (t : Tally) : Type 0 where
@@ -51,117 +54,91 @@ pub record Below (t : Tally) : Type 0 where
 abbrev pub found : Tally → ℕ
 found t = t .otherwise + t .refused + t .bad
 
--- from one tally to another so many findings are counted, if the other is below; where there is none, none is counted
-pub record Adds (n : ℕ) (t t' : Tally) : Type 0 where
-  pub before : Below t' → Below t
-  pub sum : Below t' → n + found t ≡ found t'
-  pub none : n ≡ 0 → found t ≡ found t'
+-- a text says what is counted: it has as many lines of each sort, whatever follows, and no others
+pub record Says (text : List ℕ) (k : Tally) : Type 0 where
+  pub says-otherwise : (rest : List ℕ) → otherwiseLines (text ++ rest) ≡ k .otherwise + otherwiseLines rest
+  pub says-refused : (rest : List ℕ) → refusedLines (text ++ rest) ≡ k .refused + refusedLines rest
+  pub says-bad : (rest : List ℕ) → badLines (text ++ rest) ≡ k .bad + badLines rest
+  pub says-lines : occurs 10 text ≡ found k
+  pub says-none : found k ≡ 0 → text ≡ []
 
-capped-next : (n : ℕ) → capped (n + 1) < 4294967295 → (n < 4294967295) × (capped (n + 1) ≡ n + 1)
-unfolding capped pick
-capped-next n h =
-    of-test (leb (n + 1) 4294967295)
-    (λ q. let g : n + 1 < 4294967295 = rw q at h in (omega arith, rw q))
-    (λ q. let g : 4294967295 < 4294967295 = rw q at h in absurd (omega arith))
-
-none-added : (t : Tally) → Adds 0 t t
-none-added t = record { before = λ b. b; sum = λ b. omega arith; none = λ e. refl }
-
-strict-added : (t : Tally) → Adds 0 t (oneStrict t)
-unfolding oneStrict
-strict-added t = record { before = λ b. record { few-otherwise = b .few-otherwise; few-refused = b .few-refused; few-bad = b .few-bad }; sum = λ b. omega arith; none = λ e. refl }
-
-otherwise-added : (t : Tally) → Adds 1 t (oneOtherwise t)
-unfolding oneOtherwise
-otherwise-added t =
+none-says : (k : Tally) → k .otherwise ≡ 0 → k .refused ≡ 0 → k .bad ≡ 0 → Says [] k
+unfolding occurs
+none-says k a b c =
     record {
-      before = λ b. record { few-otherwise = capped-next (t .otherwise) (b .few-otherwise) .0; few-refused = b .few-refused; few-bad = b .few-bad };
-      sum = λ b. omega (arith, capped-next (t .otherwise) (b .few-otherwise) .1);
-      none = λ e. absurd (omega arith);
+      says-otherwise = λ rest. omega arith;
+      says-refused = λ rest. omega arith;
+      says-bad = λ rest. omega arith;
+      says-lines = omega arith;
+      says-none = λ e. refl;
     }
 
-refused-added : (t : Tally) → Adds 1 t (oneRefused t)
-unfolding oneRefused
-refused-added t =
+-- a line of a sort that is counted
+sort-says : {kind text : List ℕ} (o : OfSort kind text) (k : Tally) → pick (isSame (ascii "not strict") kind) 1 0 + pick (isSame (ascii "short year") kind) 1 0 ≡ k .otherwise
+    → pick (isSame (ascii "refused") kind) 1 0 ≡ k .refused → pick (isSame (ascii "bad row") kind) 1 0 ≡ k .bad → found k ≡ 1 → Says text k
+sort-says o k a b c d =
     record {
-      before = λ b. record { few-otherwise = b .few-otherwise; few-refused = capped-next (t .refused) (b .few-refused) .0; few-bad = b .few-bad };
-      sum = λ b. omega (arith, capped-next (t .refused) (b .few-refused) .1);
-      none = λ e. absurd (omega arith);
+      says-otherwise = λ rest. omega (arith, sort-counts o (ascii "not strict") rest, sort-counts o (ascii "short year") rest);
+      says-refused = λ rest. omega (arith, sort-counts o (ascii "refused") rest);
+      says-bad = λ rest. omega (arith, sort-counts o (ascii "bad row") rest);
+      says-lines = sort-feeds o ∙ sym d;
+      says-none = λ e. absurd (omega arith);
     }
 
-row-added : (t : Tally) → Adds 0 t (oneRow t)
-unfolding oneRow
-row-added t = record { before = λ b. record { few-otherwise = b .few-otherwise; few-refused = b .few-refused; few-bad = b .few-bad }; sum = λ b. omega arith; none = λ e. refl }
-
-bad-added : (t : Tally) → Adds 1 t (oneBad t)
-unfolding oneBad
-bad-added t =
+both-say : {s u : List ℕ} {k m : Tally} → Says s k → Says u m → Says (s ++ u) (together k m)
+both-say {s} {u} a b =
     record {
-      before = λ b. record { few-otherwise = b .few-otherwise; few-refused = b .few-refused; few-bad = capped-next (t .bad) (b .few-bad) .0 };
-      sum = λ b. omega (arith, capped-next (t .bad) (b .few-bad) .1);
-      none = λ e. absurd (omega arith);
+      says-otherwise = λ rest. rw (append-assoc s u rest) (omega (arith, a .says-otherwise (u ++ rest), b .says-otherwise rest));
+      says-refused = λ rest. rw (append-assoc s u rest) (omega (arith, a .says-refused (u ++ rest), b .says-refused rest));
+      says-bad = λ rest. rw (append-assoc s u rest) (omega (arith, a .says-bad (u ++ rest), b .says-bad rest));
+      says-lines = omega (arith, occurs-append 10 s u, a .says-lines, b .says-lines);
+      says-none = λ e. rw (a .says-none (omega arith), b .says-none (omega arith));
     }
 
--- a date counts one exactly if something is said of it
-date-added : (t : Tally) (v : Verdict) → Adds (pick (isSaid v) 1 0) t (oneDate t v)
-unfolding oneDate isSaid pick
-date-added t NoDate = none-added t
-date-added t Full = strict-added t
-date-added t (NotStrict d) = otherwise-added t
-date-added t (ShortYear d) = otherwise-added t
-date-added t Unread = refused-added t
-date-added t (Refused e) = refused-added t
-
--- one after the other
-both-added : {n m : ℕ} {t u w : Tally} → Adds n t u → Adds m u w → Adds (n + m) t w
-both-added {n} {m} a b =
-    record {
-      before = λ h. a .before (b .before h);
-      sum = λ h. let x = b .sum h in let y = a .sum (b .before h) in omega arith;
-      none = λ e. a .none (omega arith) ∙ b .none (omega arith);
-    }
-
--- a text has as many lines as are counted, and without a line it is empty
+-- from one tally to another as much is counted as a text says
 pub record Tells (text : List ℕ) (t t' : Tally) : Type 0 where
-  pub adds : Adds (occurs 10 text) t t'
-  pub whole : occurs 10 text ≡ 0 → text ≡ []
+  pub much : Tally
+  pub counts : Counts much t t'
+  pub said : Says text much
+
+-- a change of the tally that adds what a text says
+amount-told : {f : Tally → Tally} {text : List ℕ} (a : Amount f) → Says text (a .much) → (t : Tally) → Tells text t (f t)
+amount-told a s t = record { much = a .much; counts = a .counts t; said = s }
 
 -- texts one behind the other
 then-told : {s u : List ℕ} {t t' t'' : Tally} → Tells s t t' → Tells u t' t'' → Tells (s ++ u) t t''
-then-told {s} {u} a b =
-    record {
-      adds = rw (occurs-append 10 s u) (both-added (a .adds) (b .adds));
-      whole = λ e. let l = occurs-append 10 s u in rw (a .whole (omega arith), b .whole (omega arith));
-    }
+then-told a b = record { much = together (a .much) (b .much); counts = both-counts (a .counts) (b .counts); said = both-say (a .said) (b .said) }
 
 none-told : (t : Tally) → Tells [] t t
-unfolding occurs
-none-told t = record { adds = none-added t; whole = λ e. refl }
+none-told t = record { much = noTally; counts = none-counts t; said = none-says noTally refl refl refl }
+
+strict-told : (t : Tally) → Tells [] t (oneStrict t)
+unfolding strict-amount
+strict-told t = amount-told strict-amount (none-says (strict-amount .much) refl refl refl) t
 
 counted-told : (t : Tally) → Tells [] t (oneRow t)
-unfolding occurs
-counted-told t = record { adds = row-added t; whole = λ e. refl }
+unfolding row-amount
+counted-told t = amount-told row-amount (none-says (row-amount .much) refl refl refl) t
 
 bad-told : (line : ℕ) (f : RowFault) (t : Tally) → Tells (badRowLine line f) t (oneBad t)
-bad-told line f t = record { adds = rw (bad-row-one line f .feeds) (bad-added t); whole = λ e. absurd (omega (arith, bad-row-one line f .feeds)) }
+unfolding bad-amount isSame pick
+bad-told line f t = amount-told bad-amount (sort-says (bad-row-sort line f) (bad-amount .much) refl refl refl refl) t
 
 -- a line where something is said, else none
-lines-said : (text : List ℕ) (v : Verdict) → (isSaid v ≡ true → OneLine text) → (isSaid v ≡ false → text ≡ []) → occurs 10 text ≡ pick (isSaid v) 1 0
-unfolding occurs pick
-lines-said text v f g = of-test (isSaid v) (λ q. rw q (f q .feeds)) (λ q. rw (g q, q))
-
-line-told : (text : List ℕ) (v : Verdict) (t : Tally) → (isSaid v ≡ true → OneLine text) → (isSaid v ≡ false → text ≡ []) → Tells text t (oneDate t v)
-line-told text v t f g =
-    record {
-      adds = rw (lines-said text v f g) (date-added t v);
-      whole = λ e. of-test (isSaid v) (λ q. absurd (omega (arith, f q .feeds))) (λ q. g q);
-    }
+line-told : (text : List ℕ) (v : Verdict) (t : Tally) → (isSaid v ≡ true → OfSort (sort v) text) → (isSaid v ≡ false → text ≡ []) → Tells text t (oneDate t v)
+unfolding oneDate isSaid sort otherwise-amount refused-amount isSame pick
+line-told text NoDate t f g = rw (g refl) (none-told t)
+line-told text Full t f g = rw (g refl) (strict-told t)
+line-told text (NotStrict d) t f g = amount-told otherwise-amount (sort-says (f refl) (otherwise-amount .much) refl refl refl refl) t
+line-told text (ShortYear d) t f g = amount-told otherwise-amount (sort-says (f refl) (otherwise-amount .much) refl refl refl refl) t
+line-told text Unread t f g = amount-told refused-amount (sort-says (f refl) (refused-amount .much) refl refl refl refl) t
+line-told text (Refused e) t f g = amount-told refused-amount (sort-says (f refl) (refused-amount .much) refl refl refl refl) t
 
 date-told : (line : ℕ) (key : List ℕ) (column : Column) (cell : List ℕ) (t : Tally) → Tells (dateSaid line key column cell) t (oneDate t (dateVerdict cell))
 unfolding dateSaid
 date-told line key column cell t =
     let v = dateVerdict cell in
-    line-told (dateSaid line key column cell) v t (λ q. date-one line key column cell v (windowedIf v cell) q) (λ q. date-unsaid line key column cell v (windowedIf v cell) q)
+    line-told (dateSaid line key column cell) v t (λ q. date-sort line key column cell v (windowedIf v cell) q) (λ q. date-unsaid line key column cell v (windowedIf v cell) q)
 
 module _ (line : ℕ) (c : Columns) (cs : List (List ℕ)) where
   dates-told : (key : List ℕ) (t : Tally) → Tells (datesSaid line key c cs) t (datesCounted c cs t)
@@ -175,7 +152,7 @@ module _ (line : ℕ) (c : Columns) (cs : List (List ℕ)) where
   unfolding sixSaid
   six-told key t =
       line-told (sixSaid line key c cs) (sixOf c cs) t
-      (λ q. six-one line key (textAt cs (c .year)) (textAt cs (c .month)) (textAt cs (c .day)) (textAt cs (c .endyear)) (textAt cs (c .endmonth)) (textAt cs (c .endday)) (sixOf c cs) q)
+      (λ q. six-sort line key (textAt cs (c .year)) (textAt cs (c .month)) (textAt cs (c .day)) (textAt cs (c .endyear)) (textAt cs (c .endmonth)) (textAt cs (c .endday)) (sixOf c cs) q)
       (λ q. six-unsaid line key (textAt cs (c .year)) (textAt cs (c .month)) (textAt cs (c .day)) (textAt cs (c .endyear)) (textAt cs (c .endmonth)) (textAt cs (c .endday)) (sixOf c cs) q)
 
   row-told : (t : Tally) → Tells (rowSaid line c cs) t (rowCounted c cs t)
@@ -228,17 +205,35 @@ next-told : (last : Bool) (s : List ℕ) (st : State) {n : ℕ} {text : List ℕ
 unfolding next
 next-told last s st e = took-told (rw e at (step-told st s last (st .phase)))
 
--- of a file's pieces as many lines are said as findings are counted
+-- of a file's pieces as much is said as is counted
 pub lines-added : {st at : State} {s left lastly : List ℕ} {ps : List (Piece State)} → Reading next st s ps at left lastly → Tells (allTexts ps) (st .tally) (at .tally)
 lines-added (ends {st} e) = none-told (st .tally)
 lines-added (piece {st} {s} e r) = then-told (next-told true s st e) (lines-added r)
 
--- so a file has as many findings as the numbers at its end say
-pub lines-found : {at : State} {s left lastly : List ℕ} {ps : List (Piece State)} → Reading next fresh s ps at left lastly → Below (at .tally)
-    → occurs 10 (allTexts ps) ≡ found (at .tally)
-unfolding fresh
-lines-found r b = let h = lines-added r .adds .sum b in omega arith
+module _ {at : State} {s left lastly : List ℕ} {ps : List (Piece State)} (r : Reading next fresh s ps at left lastly) where
+  -- so a file has as many findings as the numbers at its end say
+  pub lines-found : Below (at .tally) → occurs 10 (allTexts ps) ≡ found (at .tally)
+  unfolding fresh
+  lines-found b =
+      let a = lines-added r in
+      let c = a .counts in
+      omega (arith, a .said .says-lines, raised-by (c .in-otherwise) (b .few-otherwise), raised-by (c .in-refused) (b .few-refused), raised-by (c .in-bad) (b .few-bad))
 
--- and where they say none, none is said
-pub lines-none : {at : State} {s left lastly : List ℕ} {ps : List (Piece State)} → Reading next fresh s ps at left lastly → found (at .tally) ≡ 0 → occurs 10 (allTexts ps) ≡ 0
-lines-none r z = lines-found r (record { few-otherwise = omega arith; few-refused = omega arith; few-bad = omega arith }) ∙ z
+  -- where they say none, nothing is said
+  pub lines-none : found (at .tally) ≡ 0 → allTexts ps ≡ []
+  lines-none z =
+      let a = lines-added r .said in
+      let b : Below (at .tally) = record { few-otherwise = omega arith; few-refused = omega arith; few-bad = omega arith } in
+      a .says-none (sym (a .says-lines) ∙ lines-found b ∙ z)
+
+  none-counted : {k n : ℕ} → Raised k 0 n → k ≡ 0 → n ≡ 0
+  none-counted {k} {n} a e = omega (arith, a .sum, capped-is n, capped-is (0 + k))
+
+  -- and where no line is said they say none
+  pub silent-none : occurs 10 (allTexts ps) ≡ 0 → found (at .tally) ≡ 0
+  unfolding fresh
+  silent-none e =
+      let a = lines-added r in
+      let l = a .said .says-lines in
+      let c = a .counts in
+      omega (arith, none-counted (c .in-otherwise) (omega arith), none-counted (c .in-refused) (omega arith), none-counted (c .in-bad) (omega arith))

@@ -9,8 +9,10 @@ pub mod Skips
 pub mod Steady
 pub mod Waits
 pub mod Theorems
+pub mod Amounts
 pub mod Counts
 pub mod Parts
 pub mod AllParts
 pub mod Safe
+pub mod Sorts
 pub mod Examples

@@ -4,7 +4,6 @@ use mathlib.Core.Bool.{Bool, true, false}
 use mathlib.Core.List.{List, [], _∷_, _++_, append-assoc, append-nil}
 use Prim.Native.Nat.{ℕ, _+_, _-_, _≤_, _<_}
 use native.Mathlib.Omega.{arith}
-use borrow.Author.Tests.{leb-true, leb-false}
 use lib.Dec.{eqb, leb}
 use lib.ListN.{length, take, drop, length-append, take-append-drop}
 use lib.Seq.{drop-append-le, drop-append-seam, take-append-seam}
@@ -31,13 +30,9 @@ use Rattle.csv.proofs.Pieces.{Apart, apart}
 use Rattle.csv.proofs.Stable.{stays, answer-whole}
 use Rattle.csv.proofs.Exact.{cells-read, feed-ends, return-ends, end-no-sep}
 use Rattle.csv.proofs.Whole.{accepted}
-use Rattle.verdicts.specs.declared.Verdict.{Verdict}
-use Rattle.verdicts.specs.declared.Verdict.the-variants.{NoDate, Full, NotStrict, ShortYear, Unread, Refused}
-use Rattle.verdicts.specs.Dates.{dateVerdict}
 use Rattle.headers.specs.declared.RowFault.the-variants.{Broken}
 use Rattle.findings.specs.Words.{capped}
 use Rattle.findings.specs.Lines.{badRowLine}
-use Rattle.headers.specs.declared.Columns.{Columns}
 use Rattle.headers.specs.declared.Header.{Header}
 use Rattle.headers.specs.declared.Header.the-variants.{Wait, Without, With}
 use Rattle.headers.specs.Header.{header, rowCells}
@@ -45,198 +40,15 @@ use Rattle.sheets.specs.declared.Phase.{Phase}
 use Rattle.sheets.specs.declared.Phase.the-variants.{Start, Rows, Skipping}
 use Rattle.sheets.specs.declared.Tally.{Tally}
 use Rattle.sheets.specs.declared.State.{State}
-use Rattle.sheets.specs.declared.Checked.{Checked}
-use Rattle.sheets.specs.declared.Checked.the-variants.{Good, Bad}
-use Rattle.sheets.specs.Tallies.{oneStrict, oneOtherwise, oneRefused, oneRow, oneBad, oneDate}
-use Rattle.sheets.specs.Rows.{textAt, checkedRow, datesCounted, sixOf, rowCounted, checkedSaid, checkedCounted}
+use Rattle.sheets.specs.Tallies.{oneBad}
+use Rattle.sheets.specs.Rows.{checkedRow, checkedSaid, checkedCounted}
 use Rattle.sheets.specs.Steps.{behind, lastLines, noTally, startStep, rowStep, skipStep, stepIn, next, fresh}
-use Rattle.sheets.specs.Reports.{report}
 use Rattle.sheets.specs.Ends.{EndsWith}
 use Rattle.sheets.specs.Parts.{RowsOf, Sums, Together}
 use Rattle.sheets.specs.Parts.RowsOf.{no-row, a-row, a-bad}
 use Rattle.sheets.proofs.Steady.{steady}
 use Rattle.sheets.proofs.Theorems.{pieces-of, report-pieces}
-
-pub capped-is : (n : ℕ) → capped n ≡ n - (n - 4294967295)
-unfolding capped pick
-capped-is n =
-    of-test (leb n 4294967295) (λ q. let h = leb-true n 4294967295 q in rw q (omega arith))
-    (λ q. let h = leb-false n 4294967295 q in rw q (omega arith))
-
--- one number is another with so many added, up to the largest number
-pub record Raised (k n n' : ℕ) : Type 0 where
-  -- it is at most the largest, if the other is
-  pub within : n ≤ 4294967295 → n' ≤ 4294967295
-  -- up to the largest it is the sum
-  pub sum : capped n' ≡ capped (n + k)
-
-none-raised : (n : ℕ) → Raised 0 n n
-none-raised n = record { within = λ h. h; sum = omega (arith, capped-is n, capped-is (n + 0)) }
-
-one-raised : (n : ℕ) → Raised 1 n (capped (n + 1))
-one-raised n = record { within = λ h. omega (arith, capped-is (n + 1)); sum = omega (arith, capped-is (n + 1), capped-is (capped (n + 1))) }
-
-capped-high : (n : ℕ) → 4294967295 ≤ n → capped n ≡ 4294967295
-capped-high n h = omega (arith, capped-is n)
-
--- what is the same up to the largest is so with as much added
-capped-more : (a b m : ℕ) → capped a ≡ capped b → capped (a + m) ≡ capped (b + m)
-capped-more a b m e =
-    of-test (leb 4294967295 a)
-    (λ q.
-    let h = leb-true 4294967295 a q in
-    let i : 4294967295 ≤ b = omega (arith, e, capped-is b, capped-high a h) in
-    capped-high (a + m) (omega arith) ∙ sym (capped-high (b + m) (omega arith)))
-    (λ q.
-    let h = leb-false 4294967295 a q in
-    let i : a ≡ b = omega (arith, e, capped-is a, capped-is b) in
-    ap (λ (x : ℕ). capped (x + m)) i)
-
-both-raised : {k m n n' n'' : ℕ} → Raised k n n' → Raised m n' n'' → Raised (k + m) n n''
-both-raised {k} {m} {n} {n'} a b =
-    let e : n + k + m ≡ n + (k + m) = omega arith in
-    record { within = λ h. b .within (a .within h); sum = b .sum ∙ capped-more n' (n + k) m (a .sum) ∙ ap capped e }
-
--- a tally is another with five numbers added
-pub record Counts (k t t' : Tally) : Type 0 where
-  pub in-rows : Raised (k .rows) (t .rows) (t' .rows)
-  pub in-strict : Raised (k .strict) (t .strict) (t' .strict)
-  pub in-otherwise : Raised (k .otherwise) (t .otherwise) (t' .otherwise)
-  pub in-refused : Raised (k .refused) (t .refused) (t' .refused)
-  pub in-bad : Raised (k .bad) (t .bad) (t' .bad)
-
--- five numbers and five others
-abbrev pub together : Tally → Tally → Tally
-together k m =
-    record { rows = k .rows + m .rows; strict = k .strict + m .strict; otherwise = k .otherwise + m .otherwise; refused = k .refused + m .refused; bad = k .bad + m .bad }
-
-none-counts : (t : Tally) → Counts noTally t t
-none-counts t =
-    record {
-      in-rows = none-raised (t .rows);
-      in-strict = none-raised (t .strict);
-      in-otherwise = none-raised (t .otherwise);
-      in-refused = none-raised (t .refused);
-      in-bad = none-raised (t .bad);
-    }
-
-both-counts : {k m t t' t'' : Tally} → Counts k t t' → Counts m t' t'' → Counts (together k m) t t''
-both-counts a b =
-    record {
-      in-rows = both-raised (a .in-rows) (b .in-rows);
-      in-strict = both-raised (a .in-strict) (b .in-strict);
-      in-otherwise = both-raised (a .in-otherwise) (b .in-otherwise);
-      in-refused = both-raised (a .in-refused) (b .in-refused);
-      in-bad = both-raised (a .in-bad) (b .in-bad);
-    }
-
--- a change of a tally adds five numbers, whatever was counted before
-record Amount (f : Tally → Tally) : Type 0 where
-  much : Tally
-  counts : (t : Tally) → Counts much t (f t)
-
-no-amount : Amount (λ t. t)
-no-amount = record { much = noTally; counts = none-counts }
-
-then-amount : {f g : Tally → Tally} → Amount f → Amount g → Amount (λ t. g (f t))
-then-amount {f} a b = record { much = together (a .much) (b .much); counts = λ t. both-counts (a .counts t) (b .counts (f t)) }
-
-strict-amount : Amount oneStrict
-unfolding oneStrict
-strict-amount =
-    record {
-      much = record { rows = 0; strict = 1; otherwise = 0; refused = 0; bad = 0 };
-      counts = λ t.
-          record {
-            in-rows = none-raised (t .rows);
-            in-strict = one-raised (t .strict);
-            in-otherwise = none-raised (t .otherwise);
-            in-refused = none-raised (t .refused);
-            in-bad = none-raised (t .bad);
-          };
-    }
-
-otherwise-amount : Amount oneOtherwise
-unfolding oneOtherwise
-otherwise-amount =
-    record {
-      much = record { rows = 0; strict = 0; otherwise = 1; refused = 0; bad = 0 };
-      counts = λ t.
-          record {
-            in-rows = none-raised (t .rows);
-            in-strict = none-raised (t .strict);
-            in-otherwise = one-raised (t .otherwise);
-            in-refused = none-raised (t .refused);
-            in-bad = none-raised (t .bad);
-          };
-    }
-
-refused-amount : Amount oneRefused
-unfolding oneRefused
-refused-amount =
-    record {
-      much = record { rows = 0; strict = 0; otherwise = 0; refused = 1; bad = 0 };
-      counts = λ t.
-          record {
-            in-rows = none-raised (t .rows);
-            in-strict = none-raised (t .strict);
-            in-otherwise = none-raised (t .otherwise);
-            in-refused = one-raised (t .refused);
-            in-bad = none-raised (t .bad);
-          };
-    }
-
-row-amount : Amount oneRow
-unfolding oneRow
-row-amount =
-    record {
-      much = record { rows = 1; strict = 0; otherwise = 0; refused = 0; bad = 0 };
-      counts = λ t.
-          record {
-            in-rows = one-raised (t .rows);
-            in-strict = none-raised (t .strict);
-            in-otherwise = none-raised (t .otherwise);
-            in-refused = none-raised (t .refused);
-            in-bad = none-raised (t .bad);
-          };
-    }
-
-bad-amount : Amount oneBad
-unfolding oneBad
-bad-amount =
-    record {
-      much = record { rows = 1; strict = 0; otherwise = 0; refused = 0; bad = 1 };
-      counts = λ t.
-          record {
-            in-rows = one-raised (t .rows);
-            in-strict = none-raised (t .strict);
-            in-otherwise = none-raised (t .otherwise);
-            in-refused = none-raised (t .refused);
-            in-bad = one-raised (t .bad);
-          };
-    }
-
-date-amount : (v : Verdict) → Amount (λ t. oneDate t v)
-unfolding oneDate
-date-amount NoDate = no-amount
-date-amount Full = strict-amount
-date-amount (NotStrict d) = otherwise-amount
-date-amount (ShortYear d) = otherwise-amount
-date-amount Unread = refused-amount
-date-amount (Refused e) = refused-amount
-
-module _ (c : Columns) (cs : List (List ℕ)) where
-  dates-amount : Amount (datesCounted c cs)
-  unfolding datesCounted
-  dates-amount =
-      then-amount
-      (then-amount (then-amount (date-amount (dateVerdict (textAt cs (c .date)))) (date-amount (dateVerdict (textAt cs (c .origdate))))) (date-amount (dateVerdict (textAt cs (c .eventdate)))))
-      (date-amount (dateVerdict (textAt cs (c .urldate))))
-
-  checked-amount : (k : Checked) → Amount (checkedCounted c cs k)
-  unfolding checkedCounted rowCounted
-  checked-amount Good = then-amount row-amount (then-amount dates-amount (date-amount (sixOf c cs)))
-  checked-amount (Bad f) = bad-amount
+use Rattle.sheets.proofs.Amounts.{capped-is, Raised, capped-more, Counts, together, none-counts, both-counts, bad-amount, checked-amount, raised-by, Within, counts-within, none-within}
 
 -- a state, on another line and with another tally
 abbrev pub moved : State → ℕ → Tally → State
@@ -386,9 +198,6 @@ pub record SameCounts (t at t' at' : Tally) : Type 0 where
   pub same-refused : at .refused + t' .refused ≡ at' .refused + t .refused
   pub same-bad : at .bad + t' .bad ≡ at' .bad + t .bad
 
-raised-by : {k n n' : ℕ} → Raised k n n' → n' < 4294967295 → n' ≡ n + k
-raised-by {k} {n} {n'} r h = omega (arith, r .sum, capped-is n', capped-is (n + k))
-
 same-raised : {k n n' m m' : ℕ} → Raised k n n' → Raised k m m' → n' < 4294967295 → m' < 4294967295 → n' + m ≡ m' + n
 same-raised r q h i = omega (arith, raised-by r h, raised-by q i)
 
@@ -500,34 +309,13 @@ upto-kept {last} b (on {st} {s = s} e r) =
     let k = took-keeps (rw e at (next-keeps st s last b)) in
     both-kept k (upto-kept (k .begun) r)
 
--- numbers of 32 bits
-pub record Within (t : Tally) : Type 0 where
-  pub low-rows : t .rows ≤ 4294967295
-  pub low-strict : t .strict ≤ 4294967295
-  pub low-otherwise : t .otherwise ≤ 4294967295
-  pub low-refused : t .refused ≤ 4294967295
-  pub low-bad : t .bad ≤ 4294967295
-
-counts-within : {k t t' : Tally} → Counts k t t' → Within t → Within t'
-counts-within c w =
-    record {
-      low-rows = c .in-rows .within (w .low-rows);
-      low-strict = c .in-strict .within (w .low-strict);
-      low-otherwise = c .in-otherwise .within (w .low-otherwise);
-      low-refused = c .in-refused .within (w .low-refused);
-      low-bad = c .in-bad .within (w .low-bad);
-    }
-
 upto-within : {last : Bool} {st mid : State} {s rest : List ℕ} → Upto last st s mid rest → Within (st .tally) → Within (mid .tally)
 upto-within here w = w
 upto-within {last} (on {st} {s = s} e r) w =
     let o = took-alike (rw e at (next-alike st 0 (st .tally) s last)) in
     upto-within r (counts-within (o .counts) w)
 
-none-within : Within noTally
-none-within = record { low-rows = omega arith; low-strict = omega arith; low-otherwise = omega arith; low-refused = omega arith; low-bad = omega arith }
-
--- so are those at the end of a report
+-- the numbers at the end of a report are of 32 bits
 pub reading-within : {at : State} {s left lastly : List ℕ} {ps : List (Piece State)} → Reading next fresh s ps at left lastly → Within (at .tally)
 unfolding fresh
 reading-within r = counts-within (again 0 noTally r .counts) none-within

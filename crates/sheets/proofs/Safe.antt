@@ -48,7 +48,7 @@ use Rattle.sheets.specs.Steps.{lastLines, startStep, rowStep, skipStep, 
 use Rattle.sheets.specs.Reports.{report}
 use Rattle.sheets.specs.Ends.{EndsWith, SaysSafe}
 use Rattle.sheets.proofs.Theorems.{pieces-of, report-pieces, file-pieces}
-use Rattle.sheets.proofs.Counts.{found, lines-added, lines-none}
+use Rattle.sheets.proofs.Counts.{found, lines-none, silent-none}
 use Rattle.sheets.proofs.Parts.{header-ends}
 
 -- a report ends at the file's end with the numbers, or says why the file can not be read
@@ -182,9 +182,9 @@ safe-only lines t u e =
     of-test (eqb (found t) 0) (λ q. eqb-true (found t) 0 q)
     (λ q. absurd (not-safe (unsafe-behind lines (last-unsafe t (eqb-false (found t) 0 q))) (record { front = u; is = e })))
 
--- and then not one line was said of the file
+-- and then nothing was said of the file
 pub safe-none : {at : State} {s left lastly : List ℕ} {ps : List (Piece State)} → Reading next fresh s ps at left lastly → lastly ≡ lastLines (at .tally)
-    → (u : List ℕ) → lastly ≡ u ++ ascii "safe to sign\n" → occurs 10 (allTexts ps) ≡ 0
+    → (u : List ℕ) → lastly ≡ u ++ ascii "safe to sign\n" → allTexts ps ≡ []
 safe-none {at} r e u f = lines-none r (safe-only [] (at .tally) u (sym e ∙ f))
 
 -- ---- why a header can not be used
@@ -272,7 +272,7 @@ unread-said s why e = report-pieces (ends (unread-over s e))
 pub unread-unsafe : (s : List ℕ) (why : Unusable) → header true s ≡ Without why → SaysSafe s → ⊥
 unread-unsafe s why h e = not-safe (unread-end why) (record { front = e .front; is = sym (unread-said s why h) ∙ e .is })
 
-read-report : {s : List ℕ} {bytes cells : ℕ} {sep : Separator} {columns : Columns} → header true s ≡ With bytes sep columns cells → (r : Read next fresh s)
+pub read-report : {s : List ℕ} {bytes cells : ℕ} {sep : Separator} {columns : Columns} → header true s ≡ With bytes sep columns cells → (r : Read next fresh s)
     → report s ≡ allTexts (r .pieces) ++ lastLines (r .at .tally)
 read-report h r = report-pieces (r .reading) ∙ ap (λ (x : List ℕ). allTexts (r .pieces) ++ x) (read-lastly h (r .reading))
 
@@ -302,7 +302,7 @@ safe-alone s e = by-heads (heads s)
         let r = pieces-of s in
         let q = read-report h r in
         let z = safe-only (allTexts (r .pieces)) (r .at .tally) (e .front) (sym q ∙ e .is) in
-        let n = lines-added (r .reading) .whole (lines-none (r .reading) z) in
+        let n = lines-none (r .reading) z in
         (r .at .tally, q ∙ ap (λ (x : List ℕ). x ++ lastLines (r .at .tally)) n, z)
 
 -- a report whose numbers have no finding ends with `safe to sign`
@@ -311,7 +311,6 @@ none-safe s t e z = let p = behind-it (e .lines) (last-safe t z) in record { fro
 
 -- and so does one that has the two last lines alone
 pub alone-safe : (s : List ℕ) (t : Tally) → report s ≡ lastLines t → SaysSafe s
-unfolding fresh
 alone-safe s t e = by-heads (heads s)
   where
     two : occurs 10 (lastLines t) ≡ 2
@@ -325,5 +324,4 @@ alone-safe s t e = by-heads (heads s)
         let l = occurs-append 10 (allTexts (r .pieces)) (lastLines (r .at .tally)) in
         let m = summary-two (r .at .tally .rows) (r .at .tally .strict) (r .at .tally .otherwise) (r .at .tally .refused) (r .at .tally .bad) in
         let f : occurs 10 (lastLines t) ≡ occurs 10 (allTexts (r .pieces) ++ lastLines (r .at .tally)) = ap (occurs 10) (sym e ∙ q) in
-        let z = lines-added (r .reading) .adds .none (omega (arith, two)) in
-        none-safe s (r .at .tally) (record { lines = allTexts (r .pieces); is = q }) (sym z)
+        none-safe s (r .at .tally) (record { lines = allTexts (r .pieces); is = q }) (silent-none (r .reading) (omega (arith, two)))

@@ -3,5 +3,6 @@ pub mod Rows
 pub mod Steps
 pub mod Reports
 pub mod Ends
+pub mod Sorts
 pub mod Inside
 pub mod Parts
