@@ -4,7 +4,7 @@ pub mod Empty
 pub mod Plain
 pub mod Exactly
 pub mod Means
-pub mod Kept
+pub mod SixMeans
 pub mod Written
 pub mod Unread
 pub mod Examples

@@ -1,4 +1,4 @@
--- Full cells lose nothing: of six cells that are safe to sign, what was read has what each cell says, and no more. Assumes nothing.
+-- What six cells say: of full ones that is just what was read, no more and no less, and six cells say one date at most. Assumes nothing.
 use Prim.Native.Nat.{ℕ}
 use mathlib.Core.Path.{_≡_, refl, sym, ap, subst, _∙_}
 use mathlib.Core.Bool.{Bool, true, false, false≢true, _||_}
