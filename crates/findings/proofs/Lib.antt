@@ -4,4 +4,5 @@ pub mod Bounds
 pub mod Short
 pub mod Shape
 pub mod Sorts
+pub mod Once
 pub mod Examples

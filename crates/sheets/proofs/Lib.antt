@@ -15,4 +15,5 @@ pub mod Parts
 pub mod AllParts
 pub mod Safe
 pub mod Sorts
+pub mod Ends
 pub mod Examples

@@ -234,7 +234,7 @@ unread-end why = unsafe-behind (ascii "could not be read: ") (unusable-end why)
 -- ---- the report itself
 
 -- the header of a file can not be used, or it can
-data Heads (s : List ℕ) : Type 0 where
+pub data Heads (s : List ℕ) : Type 0 where
   unusable : (why : Unusable) → header true s ≡ Without why → Heads s
   usable : {bytes cells : ℕ} {sep : Separator} {columns : Columns} → header true s ≡ With bytes sep columns cells → Heads s
 
@@ -244,7 +244,7 @@ module _ (s : List ℕ) where
   by-header (Without why) e = unusable why e
   by-header (With bytes sep columns cells) e = usable e
 
-  heads : Heads s
+  pub heads : Heads s
   heads = by-header (header true s) refl
 
   unread-over : {why : Unusable} → header true s ≡ Without why → next true s fresh ≡ over (unreadLine why)
