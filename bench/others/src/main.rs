@@ -42,15 +42,17 @@ fn reader<I: Copy + 'static, R: 'static>(
 fn lists(text: &'static str) -> [Reader; 3] {
     let input: &'static Input = Box::leak(Box::new(Input::text(text)));
     let raw = |a: ffi::Answer| {
-        let d = a.date.first;
-        assert!(a.refusal == 0 && a.date.shape == 0);
-        let ahead = i32::from(d.offset_hours) * 60 + i32::from(d.offset_minutes);
+        let d = a.date();
+        assert!(a.refusal == 0 && d.shape == 0);
+        let [y0, y1, y2, y3, _, month, _, day] = d.first.day.to_ne_bytes();
+        let [has_time, hour, minute, second, offset, hours, minutes, _] =
+            d.first.time.to_ne_bytes();
         // months and days are counted from 0; 2 is an offset ahead of UTC
-        let time = (d.has_time == 1).then(|| {
-            assert!(d.offset == 2);
-            (d.hour, d.minute, d.second, ahead)
+        let time = (has_time == 1).then(|| {
+            assert!(offset == 2);
+            (hour, minute, second, i32::from(hours) * 60 + i32::from(minutes))
         });
-        ((d.year, d.month + 1, d.day + 1), time)
+        ((i32::from_ne_bytes([y0, y1, y2, y3]), month + 1, day + 1), time)
     };
     let theirs = |d: Date| {
         let DateValue::At(d) = d.value else { panic!("a point is needed") };
