@@ -35,7 +35,7 @@ use Rattle.findings.specs.Escapes.{isHidden, isMarked, shownByte, escape
 use Rattle.verdicts.specs.Plain.{textIf, writtenText}
 use Rattle.findings.specs.Words.{capped, kindWords, placeWords, refusalWords, windowWords, isSaid, sort, message, faultWords, rowWords}
 use Rattle.findings.specs.Lines.{finding, verdictLine, columnName, dateLine, namedCell, stillFirst, sixText, sixLine, badRowLine, signing, summary, unusableWords, unreadLine}
-use Rattle.findings.specs.Sorts.{beforeParts, cutAt, sortOf, isSame, countSort, linesOf}
+use Rattle.findings.specs.Sorts.{beforeParts, cutAt, lineSort, isSame, countSort, linesOfSort}
 
 -- ---- bytes of the file
 
@@ -248,6 +248,6 @@ parts = refl
 abbrev said : List ℕ
 said = ascii "2\tbad row\tdate\t\"49\"\tnot strict\trefused\n3\t\t\t\tbad row\tmore than 256 cells\nrows 2, dates 1, strict 0, read otherwise 1, refused 0, bad rows 1\ndo not sign: 2 findings\n"
 
-pub sorts : (linesOf (ascii "not strict") said ≡ 1) × (linesOf (ascii "short year") said ≡ 0) × (linesOf (ascii "refused") said ≡ 0) × (linesOf (ascii "bad row") said ≡ 1)
-unfolding linesOf countSort sortOf isSame cutAt beforeParts pick
+pub sorts : (linesOfSort (ascii "not strict") said ≡ 1) × (linesOfSort (ascii "short year") said ≡ 0) × (linesOfSort (ascii "refused") said ≡ 0) × (linesOfSort (ascii "bad row") said ≡ 1)
+unfolding linesOfSort countSort lineSort isSame cutAt beforeParts pick
 sorts = (refl, refl, refl, refl)

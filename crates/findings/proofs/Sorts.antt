@@ -16,7 +16,7 @@ use Rattle.findings.specs.declared.Column.{Column}
 use Rattle.findings.specs.Escapes.{escaped, quoted}
 use Rattle.findings.specs.Words.{isSaid, sort, message, rowWords}
 use Rattle.findings.specs.Lines.{finding, verdictLine, columnName, dateLine, sixText, sixLine, badRowLine, summary}
-use Rattle.findings.specs.Sorts.{beforeParts, cutAt, sortOf, isSame, countSort, linesOf}
+use Rattle.findings.specs.Sorts.{beforeParts, cutAt, lineSort, isSame, countSort, linesOfSort}
 use Rattle.findings.proofs.Shape.{occurs, occurs-append, visible, Seen, seen-none, none, decimal-seen, escaped-seen, quoted-seen, sort-seen, message-seen, row-seen, column-seen, six-seen, summary-untabbed}
 use Rattle.findings.proofs.Shape.Seen.{seen}
 
@@ -46,11 +46,11 @@ pub record OfSort (kind t : List ℕ) : Type 0 where
   -- and none in it
   pub unbroken : occurs 10 line ≡ 0
   -- its fifth field
-  pub sort-is : sortOf line ≡ kind
+  pub sort-is : lineSort line ≡ kind
 
 -- it counts for its own sort
-pub sort-counts : {kind t : List ℕ} → OfSort kind t → (k rest : List ℕ) → linesOf k (t ++ rest) ≡ pick (isSame k kind) 1 0 + linesOf k rest
-unfolding linesOf countSort
+pub sort-counts : {kind t : List ℕ} → OfSort kind t → (k rest : List ℕ) → linesOfSort k (t ++ rest) ≡ pick (isSame k kind) 1 0 + linesOfSort k rest
+unfolding linesOfSort countSort
 sort-counts o k rest = rw (o .is, append-assoc (o .line) (10 ∷ []) rest, cut-first 10 (o .line) rest (o .unbroken), o .sort-is)
 
 pub sort-feeds : {kind t : List ℕ} → OfSort kind t → occurs 10 t ≡ 1
@@ -62,7 +62,7 @@ sort-feeds o = let l = occurs-append 10 (o .line) (10 ∷ []) in let h = o .unbr
 -- a finding whose fields are seen
 module _ (line : ℕ) (key column text kind words : List ℕ) (sc : Seen column) (st : Seen text) (sk : Seen kind) (sw : Seen words) where
   finding-sort : OfSort kind (finding line key column text kind words)
-  unfolding finding sortOf occurs pick
+  unfolding finding lineSort occurs pick
   finding-sort =
       record {
         line = decimal 1 line ++ (9 ∷ (escaped key ++ (9 ∷ (column ++ (9 ∷ (text ++ (9 ∷ (kind ++ (9 ∷ words)))))))));
@@ -126,12 +126,12 @@ cut-untabbed b [] e = and refl no-line
 cut-untabbed b (x ∷ s) e = let p = other-first 9 x s e in before-untabbed (eqb x b) x (p .0) (cut-untabbed b s (p .1))
 
 untabbed-none : (kind : List ℕ) {lines : List (List ℕ)} → isSame kind [] ≡ false → Untabbed lines → countSort kind lines ≡ 0
-unfolding countSort sortOf pick
+unfolding countSort lineSort pick
 untabbed-none kind e no-line = refl
 untabbed-none kind e (and {line} h u) = rw (cut-none 9 line h, e) (omega (arith, untabbed-none kind e u))
 
 -- the lines at the end have no sort
-pub summary-sorts : (kind : List ℕ) → isSame kind [] ≡ false → (rows strict otherwise refused bad : ℕ) → linesOf kind (summary rows strict otherwise refused bad) ≡ 0
-unfolding linesOf
+pub summary-sorts : (kind : List ℕ) → isSame kind [] ≡ false → (rows strict otherwise refused bad : ℕ) → linesOfSort kind (summary rows strict otherwise refused bad) ≡ 0
+unfolding linesOfSort
 summary-sorts kind e rows strict otherwise refused bad =
     untabbed-none kind e (cut-untabbed 10 (summary rows strict otherwise refused bad) (summary-untabbed rows strict otherwise refused bad))

@@ -18,8 +18,8 @@ cutAt b [] = [] ∷ []
 cutAt b (x ∷ text) = beforeParts (eqb x b) x (cutAt b text)
 
 -- the sort of a line: its fifth field; none where there are fewer
-unfoldable pub sortOf : List ℕ → List ℕ
-sortOf line = getD (cutAt 9 line) 4 []
+unfoldable pub lineSort : List ℕ → List ℕ
+lineSort line = getD (cutAt 9 line) 4 []
 
 -- two texts are the same
 unfoldable pub isSame : List ℕ → List ℕ → Bool
@@ -31,8 +31,8 @@ isSame (a ∷ s) (b ∷ t) = eqb a b && isSame s t
 -- how many of these lines have a sort
 unfoldable pub countSort : List ℕ → List (List ℕ) → ℕ
 countSort kind [] = 0
-countSort kind (line ∷ lines) = pick (isSame kind (sortOf line)) 1 0 + countSort kind lines
+countSort kind (line ∷ lines) = pick (isSame kind (lineSort line)) 1 0 + countSort kind lines
 
 -- how many lines of a text have it
-unfoldable pub linesOf : List ℕ → List ℕ → ℕ
-linesOf kind text = countSort kind (cutAt 10 text)
+unfoldable pub linesOfSort : List ℕ → List ℕ → ℕ
+linesOfSort kind text = countSort kind (cutAt 10 text)

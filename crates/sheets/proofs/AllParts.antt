@@ -10,7 +10,7 @@ use Rattle.findings.specs.Words.{capped}
 use Rattle.sheets.specs.declared.Tally.{Tally}
 use Rattle.sheets.specs.declared.State.{State}
 use Rattle.sheets.specs.Steps.{next, fresh}
-use Rattle.sheets.specs.Parts.{Sums, joined, PartsOf, EachEndsWith, total, AllSums, AllTogether}
+use Rattle.sheets.specs.Parts.{Sums, wholeOf, PartsOf, EachEndsWith, addedUp, AllSums, AllTogether}
 use Rattle.sheets.specs.Parts.PartsOf.{last-part, rows-part}
 use Rattle.sheets.specs.Parts.EachEndsWith.{no-part, a-part}
 use Rattle.sheets.proofs.Theorems.{pieces-of}
@@ -46,11 +46,11 @@ one-sums {t} w =
 more-sums : {t rest whole : Tally} {ts : List Tally} → Sums t rest whole → AllSums ts rest → AllSums (t ∷ ts) whole
 more-sums {t} {ts = ts} a b =
     record {
-      total-rows = more-total (t .rows) (total (λ t. t .rows) ts) (a .sum-rows) (b .total-rows);
-      total-strict = more-total (t .strict) (total (λ t. t .strict) ts) (a .sum-strict) (b .total-strict);
-      total-otherwise = more-total (t .otherwise) (total (λ t. t .otherwise) ts) (a .sum-otherwise) (b .total-otherwise);
-      total-refused = more-total (t .refused) (total (λ t. t .refused) ts) (a .sum-refused) (b .total-refused);
-      total-bad = more-total (t .bad) (total (λ t. t .bad) ts) (a .sum-bad) (b .total-bad);
+      total-rows = more-total (t .rows) (addedUp (λ t. t .rows) ts) (a .sum-rows) (b .total-rows);
+      total-strict = more-total (t .strict) (addedUp (λ t. t .strict) ts) (a .sum-strict) (b .total-strict);
+      total-otherwise = more-total (t .otherwise) (addedUp (λ t. t .otherwise) ts) (a .sum-otherwise) (b .total-otherwise);
+      total-refused = more-total (t .refused) (addedUp (λ t. t .refused) ts) (a .sum-refused) (b .total-refused);
+      total-bad = more-total (t .bad) (addedUp (λ t. t .bad) ts) (a .sum-bad) (b .total-bad);
     }
 
 module _ (h : List ℕ) {st : State} (head : next false h fresh ≡ took (length h) [] st) where
@@ -58,10 +58,10 @@ module _ (h : List ℕ) {st : State} (head : next false h fresh ≡ took (length
   each-ends [] = no-part
   each-ends (a ∷ rest) = a-part (ends-with h head a (pieces-of (h ++ a) .reading)) (each-ends rest)
 
-  parts-sums : {parts : List (List ℕ)} → PartsOf (st .separator) parts → AllSums (countedEach h parts) (counted (h ++ joined parts))
+  parts-sums : {parts : List (List ℕ)} → PartsOf (st .separator) parts → AllSums (countedEach h parts) (counted (h ++ wholeOf parts))
   parts-sums (last-part a) = rw append-nil (one-sums (reading-within (pieces-of (h ++ a) .reading)))
   parts-sums (rows-part {a} {rest} m some p) =
-      more-sums (rows-add h head a (joined rest) some m (pieces-of (h ++ a) .reading) (pieces-of (h ++ joined rest) .reading) (pieces-of (h ++ (a ++ joined rest)) .reading))
+      more-sums (rows-add h head a (wholeOf rest) some m (pieces-of (h ++ a) .reading) (pieces-of (h ++ wholeOf rest) .reading) (pieces-of (h ++ (a ++ wholeOf rest)) .reading))
       (parts-sums p)
 
   -- the numbers at the ends of the reports on all parts of a file add up to those at the end of the report on it
@@ -69,8 +69,8 @@ module _ (h : List ℕ) {st : State} (head : next false h fresh ≡ took (length
   all-reports-add {parts} p =
       record {
         numbers = countedEach h parts;
-        all-numbers = counted (h ++ joined parts);
+        all-numbers = counted (h ++ wholeOf parts);
         end-so = each-ends parts;
-        all-ends-so = ends-with h head (joined parts) (pieces-of (h ++ joined parts) .reading);
+        all-ends-so = ends-with h head (wholeOf parts) (pieces-of (h ++ wholeOf parts) .reading);
         sums = parts-sums p;
       }

@@ -13,7 +13,7 @@ use Rattle.sheets.specs.declared.State.{State}
 use Rattle.sheets.specs.Steps.{lastLines, next, fresh}
 use Rattle.sheets.specs.Reports.{report}
 use Rattle.sheets.specs.Ends.{EndsWith}
-use Rattle.sheets.specs.Parts.{joined, PartsOf, EachEndsWith, AllSums}
+use Rattle.sheets.specs.Parts.{wholeOf, PartsOf, EachEndsWith, AllSums}
 use Rattle.sheets.specs.Parts.EachEndsWith.{no-part, a-part}
 use Rattle.sheets.specs.Sorts.{CountsLines}
 use Rattle.sheets.proofs.AllParts.{all-reports-add}
@@ -38,7 +38,7 @@ each-once (a-part a r) (a-part b q) = let e = ends-once a b in let f = each-once
 
 -- those of the parts of a file add up to those of the whole
 pub numbers-add : (h : List ℕ) {st : State} → next false h fresh ≡ took (length h) [] st → {parts : List (List ℕ)} {ts : List Tally} {whole : Tally} → PartsOf (st .separator) parts
-    → EachEndsWith h parts ts → EndsWith (h ++ joined parts) whole → AllSums ts whole
+    → EachEndsWith h parts ts → EndsWith (h ++ wholeOf parts) whole → AllSums ts whole
 numbers-add h head p a b =
     let t = all-reports-add h head p in
     let e = each-once (t .end-so) a in

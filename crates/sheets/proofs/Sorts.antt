@@ -11,7 +11,7 @@ use Rattle.headers.specs.declared.Columns.{Columns}
 use Rattle.headers.specs.declared.Header.the-variants.{With}
 use Rattle.headers.specs.Header.{header}
 use Rattle.findings.specs.Words.{capped}
-use Rattle.findings.specs.Sorts.{isSame, linesOf}
+use Rattle.findings.specs.Sorts.{isSame, linesOfSort}
 use Rattle.findings.proofs.Shape.{occurs, occurs-append, summary-two}
 use Rattle.findings.proofs.Sorts.{summary-sorts}
 use Rattle.sheets.specs.declared.Tally.{Tally}
@@ -26,7 +26,7 @@ use Rattle.sheets.proofs.Counts.{lines-added}
 use Rattle.sheets.proofs.Safe.{read-report}
 
 -- the two last lines have no sort
-none-last : (kind : List ℕ) → isSame kind [] ≡ false → (t : Tally) → linesOf kind (lastLines t) ≡ 0
+none-last : (kind : List ℕ) → isSame kind [] ≡ false → (t : Tally) → linesOfSort kind (lastLines t) ≡ 0
 none-last kind e t = summary-sorts kind e (t .rows) (t .strict) (t .otherwise) (t .refused) (t .bad)
 
 -- what is counted from nothing on is the number, up to the largest

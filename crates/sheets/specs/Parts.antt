@@ -54,16 +54,16 @@ pub record Together (s s' whole : List ℕ) : Type 0 where
   pub sums : Sums numbers numbers' all-numbers
 
 -- parts, one behind the other
-abbrev pub joined : List (List ℕ) → List ℕ
-joined [] = []
-joined (a ∷ rest) = a ++ joined rest
+abbrev pub wholeOf : List (List ℕ) → List ℕ
+wholeOf [] = []
+wholeOf (a ∷ rest) = a ++ wholeOf rest
 
 -- the parts of a file behind its header: each but the last is rows, and something is behind it
 pub data PartsOf (k : Separator) : List (List ℕ) → Type 0 where
   -- the last, whatever it holds
   last-part : (a : List ℕ) → PartsOf k (a ∷ [])
   -- one of rows, and those behind it
-  rows-part : {a : List ℕ} {rest : List (List ℕ)} → RowsOf k (joined rest) a → 0 < length (joined rest) → PartsOf k rest → PartsOf k (a ∷ rest)
+  rows-part : {a : List ℕ} {rest : List (List ℕ)} → RowsOf k (wholeOf rest) a → 0 < length (wholeOf rest) → PartsOf k rest → PartsOf k (a ∷ rest)
 
 -- the reports on parts, each with this header, end with these numbers
 pub data EachEndsWith (h : List ℕ) : List (List ℕ) → List Tally → Type 0 where
@@ -73,22 +73,22 @@ pub data EachEndsWith (h : List ℕ) : List (List ℕ) → List Tally → Type 0
   a-part : {a : List ℕ} {t : Tally} {rest : List (List ℕ)} {ts : List Tally} → EndsWith (h ++ a) t → EachEndsWith h rest ts → EachEndsWith h (a ∷ rest) (t ∷ ts)
 
 -- one of the numbers, added up over all
-abbrev pub total : (Tally → ℕ) → List Tally → ℕ
-total number [] = 0
-total number (t ∷ ts) = number t + total number ts
+abbrev pub addedUp : (Tally → ℕ) → List Tally → ℕ
+addedUp number [] = 0
+addedUp number (t ∷ ts) = number t + addedUp number ts
 
 -- each of the five numbers of the whole is the sum of those of all parts, up to the largest number
 pub record AllSums (ts : List Tally) (whole : Tally) : Type 0 where
   -- of rows
-  pub total-rows : whole .rows ≡ capped (total (λ t. t .rows) ts)
+  pub total-rows : whole .rows ≡ capped (addedUp (λ t. t .rows) ts)
   -- of strict dates
-  pub total-strict : whole .strict ≡ capped (total (λ t. t .strict) ts)
+  pub total-strict : whole .strict ≡ capped (addedUp (λ t. t .strict) ts)
   -- of those that are read otherwise
-  pub total-otherwise : whole .otherwise ≡ capped (total (λ t. t .otherwise) ts)
+  pub total-otherwise : whole .otherwise ≡ capped (addedUp (λ t. t .otherwise) ts)
   -- of those that are refused
-  pub total-refused : whole .refused ≡ capped (total (λ t. t .refused) ts)
+  pub total-refused : whole .refused ≡ capped (addedUp (λ t. t .refused) ts)
   -- of bad rows
-  pub total-bad : whole .bad ≡ capped (total (λ t. t .bad) ts)
+  pub total-bad : whole .bad ≡ capped (addedUp (λ t. t .bad) ts)
 
 -- the numbers at the end of the report on a file are the sums of those at the ends of the reports on its parts
 pub record AllTogether (h : List ℕ) (parts : List (List ℕ)) : Type 0 where
@@ -99,6 +99,6 @@ pub record AllTogether (h : List ℕ) (parts : List (List ℕ)) : Type 0 where
   -- the reports on the parts end so
   pub end-so : EachEndsWith h parts numbers
   -- and that on the whole
-  pub all-ends-so : EndsWith (h ++ joined parts) all-numbers
+  pub all-ends-so : EndsWith (h ++ wholeOf parts) all-numbers
   -- they add up
   pub sums : AllSums numbers all-numbers
