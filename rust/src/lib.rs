@@ -831,7 +831,7 @@ fn datetime(p: ffi::Datetime) -> Datetime {
 }
 
 /// A Datetime with these bytes for its time.
-fn plain(
+fn plain_with(
     d: &Datetime,
     [has_time, hour, minute, second, sort, hours, minutes]: [u8; 7],
 ) -> ffi::Datetime {
@@ -847,7 +847,7 @@ fn plain(
 
 /// A Datetime without its time.
 fn plain_day(d: &Datetime) -> ffi::Datetime {
-    plain(d, [0; 7])
+    plain_with(d, [0; 7])
 }
 
 fn plain_datetime(d: &Datetime) -> ffi::Datetime {
@@ -858,7 +858,7 @@ fn plain_datetime(d: &Datetime) -> ffi::Datetime {
         Some(TimeOffset::Offset { positive: true, hours, minutes }) => [2, hours, minutes],
         Some(TimeOffset::Offset { positive: false, hours, minutes }) => [3, hours, minutes],
     };
-    plain(d, [1, t.hour, t.minute, t.second, sort, hours, minutes])
+    plain_with(d, [1, t.hour, t.minute, t.second, sort, hours, minutes])
 }
 
 /// For the writers, which look at the second Datetime of a range with both ends
