@@ -68,7 +68,7 @@ enum {
     KNOBSTREAM_BAD_FRAME = 14,
     KNOBSTREAM_BAD_CHUNKS = 15,           /* the table does not fit the bytes */
     KNOBSTREAM_TOO_LONG = 16,             /* over 64 chunks or pieces, or 4,096 bytes */
-    KNOBSTREAM_NOT_A_CALENDAR_DATE = 17,  /* no date of the years -9999 to 9999 */
+    KNOBSTREAM_NOT_A_CALENDAR_DATE = 17,  /* no date of the years -9999 to 9999, or a day without a month */
     KNOBSTREAM_BAD_PERIOD = 18,           /* last day before the first, or none of those years */
     KNOBSTREAM_DUPLICATE_ENTRY = 19,      /* the identifier is in the chronology */
     KNOBSTREAM_CHRONOLOGY_FULL = 20,      /* 512 entries */
@@ -192,9 +192,11 @@ typedef struct {
 
 /* What a reader answers. If `refusal` is 0, `date` is the date and the place is
  * 0, 0. Else `refusal` says why there is none and [start, end) where, in bytes
- * of the file (of 10 and 11, and of a day that a month field holds, in bytes of
- * the list's text); `date` is all zeros. 9 and all from 12 on name no place:
- * 0, 0. */
+ * of the file: the start of the list's span and a place in its formatted text,
+ * added up, so that it is exact where the list stands in the file as its text
+ * does. Of 10 and 11 it counts from the list's first byte, and of a day that a
+ * month field holds from the start of that field's formatted text. `date` is all
+ * zeros. 9 and all from 12 on name no place: 0, 0. */
 typedef struct {
     uint64_t start, end;
     knobstream_date date;
@@ -228,7 +230,10 @@ typedef struct {
 /* What reading page ranges answers. If `refusal` is 0, `ranges` is how many
  * there are, and the first 2 * `ranges` numbers of `out` are their starts and
  * ends in turn. Else it is 0, `out` is as it was, and [start, end) is the place
- * as in knobstream_answer. */
+ * as in knobstream_answer, of the first piece that is refused; which one that is
+ * is not said, and 10 and 11 count from its first byte. Of what stands behind the
+ * second number of a range it starts there in the piece's text, and ends where
+ * the piece ends in the file. */
 typedef struct {
     uint64_t ranges;
     uint64_t start, end;

@@ -1,6 +1,7 @@
 //! Links libknobstream.a: from the folder that KNOBSTREAM_LIB_DIR names, or
 //! else made here, by native/make with the Rattle toolchain. The build fails
-//! where the library is not of this crate's version.
+//! where the header beside the library is of another version than this crate,
+//! or the library of an earlier one.
 
 use std::env;
 use std::fs;
@@ -20,12 +21,10 @@ fn main() {
     }
 
     let folder = match env::var_os("KNOBSTREAM_LIB_DIR") {
-        Some(folder) => PathBuf::from(folder),
-        None if target == env::var("HOST").unwrap() => make(),
-        None => fail(&format!(
-            "libknobstream.a is made here for this machine alone, and this is a build for {target}: \
-             set KNOBSTREAM_LIB_DIR to a folder with the library for it"
-        )),
+        Some(folder) => fs::canonicalize(&folder).unwrap_or_else(|e| {
+            fail(&format!("KNOBSTREAM_LIB_DIR names {}: {e}", Path::new(&folder).display()))
+        }),
+        None => make(processor),
     };
     let library = folder.join("libknobstream.a");
     if !library.is_file() {
@@ -79,16 +78,21 @@ fn check_version(folder: &Path, library: &Path) {
     }
 }
 
-/// Proves the library and makes its archive; gives the folder.
-fn make() -> PathBuf {
+/// Proves the library and makes its archive for a processor; gives the folder,
+/// which the last line says.
+fn make(processor: &str) -> PathBuf {
     let here = PathBuf::from(env::var_os("CARGO_MANIFEST_DIR").unwrap());
     let top = here.parent().map(Path::to_path_buf).unwrap_or(here);
     println!("cargo:rerun-if-changed={}", top.join("crates").display());
     println!("cargo:rerun-if-changed={}", top.join("crates.txt").display());
     println!("cargo:rerun-if-changed={}", top.join("native").display());
 
-    match Command::new(top.join("native/make")).arg("library").output() {
-        Ok(done) if done.status.success() => top.join("target/native"),
+    match Command::new(top.join("native/make")).args(["library", processor]).output() {
+        Ok(done) if done.status.success() => {
+            let said = String::from_utf8_lossy(&done.stdout);
+            let made = said.lines().last().and_then(|line| line.split(' ').next()).unwrap_or("");
+            top.join(made).parent().map(Path::to_path_buf).unwrap_or(top)
+        }
         Ok(done) => fail(&format!(
             "native/make library failed:\n{}{}",
             String::from_utf8_lossy(&done.stdout),

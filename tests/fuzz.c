@@ -37,6 +37,7 @@ static uint8_t byte(void) { return (uint8_t)draw(); }
 
 /* ---- the calls, counted by name */
 
+enum { CALLS = 25 };
 static struct { const char *name; unsigned long long times; } tally[32];
 static const char *present = "";
 static unsigned long long calls;
@@ -1243,6 +1244,12 @@ int main(int argc, char **argv)
     for (unsigned i = 0; i < 256; i++)
         if (refusals[i] != 0)
             printf("%10llu %u %s\n", refusals[i], i, i == 0 ? "no refusal" : knobstream_refusal_name(i));
+    /* so many calls are of every sort, and are refused for every reason */
+    if (wanted >= 50000) {
+        must(tally[CALLS - 1].name != NULL, "a call was not made");
+        for (unsigned i = 0; i <= KNOBSTREAM_BAD_CHRONOLOGY; i++)
+            must(refusals[i] != 0, "a refusal did not come");
+    }
     printf("%llu calls by seed %llu, no difference\n", calls, (unsigned long long)seed);
     return 0;
 }

@@ -81,7 +81,8 @@ impl Chronology {
     /// # Ok::<(), TypeError>(())
     /// ```
     pub fn add(&mut self, days: RangeInclusive<i32>, id: u32) -> Result<usize, TypeError> {
-        self.store.add(*days.start(), *days.end(), id).map_err(no_place)
+        let (first, last) = ends(&days);
+        self.store.add(first, last, id).map_err(no_place)
     }
 
     /// Removes the entry of an identifier, and gives how many there are then.
@@ -154,8 +155,19 @@ impl Chronology {
     /// # Ok::<(), TypeError>(())
     /// ```
     pub fn any_dated(&self, days: RangeInclusive<i32>) -> Result<AnyDated, TypeError> {
-        let (found, read) = self.store.any_dated(*days.start(), *days.end()).map_err(no_place)?;
+        let (first, last) = ends(&days);
+        let (found, read) = self.store.any_dated(first, last).map_err(no_place)?;
         Ok(AnyDated { found, read })
+    }
+}
+
+/// The first and the last day of a period. One that was iterated to its end has
+/// no day, and is as bad as one whose last day is before the first.
+fn ends(days: &RangeInclusive<i32>) -> (i32, i32) {
+    if days.is_empty() {
+        (1, 0)
+    } else {
+        (*days.start(), *days.end())
     }
 }
 

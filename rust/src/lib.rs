@@ -41,7 +41,8 @@ use core::str::FromStr;
 use ffi::List;
 
 /// The version of the library's calls that this crate is made for. The build
-/// fails where the header or the library beside it is of another.
+/// fails where the header beside the library is of another, and where the
+/// library is an earlier one; of a later one without its header it can not tell.
 pub const VERSION: u32 = 5;
 
 /// The version that the linked library answers.
@@ -236,8 +237,12 @@ pub enum TimeOffset {
 /// Why a field is not read, a date is not written, or another call is refused, and where.
 #[derive(Debug, Clone, Eq, PartialEq, Hash)]
 pub struct TypeError {
-    /// Where in the file; of [`TypeErrorKind::UnsupportedChar`], and of a day that a
-    /// month field holds, where in the field's text. 0 to 0 if the kind names no place.
+    /// Where in the file: the start of the list and a place in its formatted text,
+    /// added up, so that it is exact where the field stands in the file as its text
+    /// does. Of [`TypeErrorKind::UnsupportedChar`], and of a day that a month field
+    /// holds, where in the text alone; behind the second number of a page range from
+    /// there in the text to the end of the piece in the file. 0 to 0 if the kind
+    /// names no place.
     pub span: Span,
     /// Why.
     pub kind: TypeErrorKind,
@@ -712,6 +717,10 @@ impl Display for Datetime {
 /// Year, month, day and time in turn. A part that only one of two has, or times
 /// of which only one has an offset, give none; a part that neither has ends it.
 /// A Datetime with a season stands in no order, not even to itself.
+///
+/// It is the order of biblatex, and not that of `==`, which compares all parts: the
+/// same second by two offsets, or two years of which one has a day and neither a
+/// month, compare as equal and are different.
 impl PartialOrd for Datetime {
     fn partial_cmp(&self, other: &Self) -> Option<Ordering> {
         match ffi::compare(plain_datetime(self), plain_datetime(other)) {

@@ -25,7 +25,8 @@ impl Datetime {
     /// its year, of its month, or its one day. Day 0 is 0000-01-01. The time is
     /// not looked at.
     ///
-    /// It refuses a season, and then what is no date of the years -9999 to 9999.
+    /// It refuses a season, and then what is no date of the years -9999 to 9999; a
+    /// day without a month, which three fields may have, is none.
     ///
     /// ```
     /// # use knobstream::*;
@@ -43,7 +44,7 @@ impl Datetime {
 
     /// The instant of the Datetime.
     ///
-    /// It refuses a season, then what is no date of the years -9999 to 9999, then
+    /// It refuses a season, then what [`Datetime::days`] calls no date, then
     /// a time that is none of a clock or has no day, and then the want of a day,
     /// of a time or of an offset.
     ///

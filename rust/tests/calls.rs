@@ -232,3 +232,23 @@ fn the_versions_are_one() {
     assert!(header.contains(&format!("KNOBSTREAM_VERSION = {} ", knobstream::VERSION)));
     assert_eq!(env!("CARGO_PKG_VERSION_MINOR"), knobstream::VERSION.to_string());
 }
+
+/// The header's numbers that this crate has too.
+#[test]
+fn numbers_of_the_header() {
+    let path = concat!(env!("CARGO_MANIFEST_DIR"), "/../c/knobstream.h");
+    let header = std::fs::read_to_string(path).unwrap();
+    let number = |name: &str| {
+        let behind = header.split(&format!("KNOBSTREAM_{name} = ")).nth(1).unwrap();
+        let digits = behind.split(|c: char| !c.is_ascii_digit()).next().unwrap();
+        digits.parse::<usize>().unwrap()
+    };
+    assert_eq!(number("VERSION"), knobstream::VERSION as usize);
+    assert_eq!(number("TEXT_ROOM"), Date::TEXT_ROOM);
+    assert_eq!(number("FIELDS_ROOM"), Date::FIELDS_ROOM);
+    assert_eq!(number("LEVEL_ONE_ROOM"), Date::LEVEL_ONE_ROOM);
+    assert_eq!(number("TIMED_ROOM"), Date::TIMED_ROOM);
+    assert_eq!(number("RANGE_ROOM"), PageRange::TEXT_ROOM);
+    assert_eq!(number("LINE_ROOM"), knobstream::LINE_ROOM);
+    assert_eq!(number("LIST_ROOM"), Chronology::LIST_ROOM);
+}

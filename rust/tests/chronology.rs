@@ -44,8 +44,10 @@ fn bad_periods() {
     let (first, last) = Chronology::DAYS.into_inner();
     let mut c = Chronology::new();
     assert_eq!(c.add(first..=last, 7), Ok(1));
+    let mut used_up = 10..=20;
+    used_up.by_ref().for_each(drop);
     #[allow(clippy::reversed_empty_ranges)]
-    for days in [1..=0, first - 1..=0, 0..=last + 1, i32::MIN..=i32::MAX, last..=first] {
+    for days in [1..=0, first - 1..=0, 0..=last + 1, i32::MIN..=i32::MAX, last..=first, used_up] {
         // before the identifier is looked at
         refuses(&mut c, |c| c.add(days.clone(), 7), BadPeriod);
         refuses(&mut c, |c| c.any_dated(days.clone()), BadPeriod);
