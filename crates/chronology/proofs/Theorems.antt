@@ -4,13 +4,14 @@ use mathlib.Core.Bool.{Bool, true, false, false≢true}
 use mathlib.Core.List.{List, [], _∷_, _++_}
 use Prim.Native.Nat.{ℕ, suc, _+_, _-_, _*_, _≤_}
 use native.Mathlib.Omega.{arith}
-use lib.Dec.{eqb}
+use lib.Dec.{eqb, leb}
 use lib.IntN.{ℤ}
 use lib.ListN.{length, drop}
 use borrow.Author.Tests.{eqb-true, eqb-false, ne-eqb}
 use Rattle.chars.specs.Pick.{pick}
+use Rattle.chars.proofs.Cases.{of-test}
 use Rattle.refusals.specs.declared.Refusal.{Refusal}
-use Rattle.refusals.specs.declared.Kind.the-variants.{BadPeriod, DuplicateEntry, ChronologyFull, UnknownEntry}
+use Rattle.refusals.specs.declared.Kind.the-variants.{NoRoom, BadPeriod, DuplicateEntry, ChronologyFull, UnknownEntry}
 use Rattle.days.specs.declared.Period.{Period}
 use Rattle.chronology.specs.declared.Entry.{Entry}
 use Rattle.chronology.specs.declared.Answer.{Answer}
@@ -18,14 +19,14 @@ use Rattle.chronology.specs.declared.Answer.the-variants.{Entries, Refus
 use Rattle.chronology.specs.Entries.{beforeNext, goodPeriod, entryOf, goodDays, idsOf, among, has, wellKept, insert, without, listed}
 use Rattle.chronology.specs.Store.{Store, Wide, contents, sound, indexOf}
 use Rattle.chronology.specs.Calls.{refused, accepted, countAnswer, addAnswer, removeAnswer, listAnswer, withEntry, withoutAt, afterAdd, afterRemove, afterList}
-use Rattle.chronology.specs.Asked.{anyTouches, entriesRead, reply}
+use Rattle.chronology.specs.Asked.{anyTouches, entriesRead, untold, reply}
 use Rattle.chronology.specs.declared.Reply.the-variants.{Told as told-it}
 use Rattle.chronology.specs.History.{Call, adds, removes, counts, lists, asks, accepts, afterCall, afterCalls, told, history, Empty, sorted, idTimes}
 use Rattle.chronology.specs.Order.{Before, AllBefore, InOrder}
 use Rattle.chronology.specs.Order.AllBefore.{last, next}
 use Rattle.chronology.specs.Order.InOrder.{empty, first}
 use Rattle.chronology.proofs.Columns.{Room, contents-length}
-use Rattle.chronology.proofs.Answers.{sound-room, sound-well, sound-kept, place-below, add-says, remove-says, add-done, list-done}
+use Rattle.chronology.proofs.Answers.{sound-room, sound-well, sound-kept, place-below, add-says, remove-says, add-done}
 use Rattle.chronology.proofs.Order.{before-yes, before-then, Kept, kept, has-here, has-on, has-none, has-insert, has-without, insert-keeps, without-keeps, without-here, without-on, without-insert, without-other, insert-length}
 use Rattle.chronology.proofs.Contents.{more-room, contents-more, less-room, contents-less}
 
@@ -269,11 +270,6 @@ always-counted h s e =
 always-has : (h : List Call) (s : Store) → Empty s → (d : ℕ) → has d (contents (afterCalls h s)) ≡ has d (history h s)
 always-has h s w d = ap (has d) (always-told h s w) ∙ has-sorted d (history h s)
 
--- an accepted listing
-list-is : (s : Store) (out : List ℤ) {m : ℕ} → listAnswer s (length out) ≡ Entries m → afterList s out ≡ listed (contents s) ++ drop (3 * s .count) out
-unfolding afterList accepted pick
-list-is s out q = let t : accepted (listAnswer s (length out)) ≡ true = ap accepted q in rw t
-
 -- what is answered after any calls, by their history alone
 module _ (h : List Call) (s : Store) (e : Empty s) where
   pub add-by-history : (p : Period) (d : ℕ)
@@ -294,18 +290,25 @@ module _ (h : List Call) (s : Store) (e : Empty s) where
   unfolding countAnswer pick
   count-by-history = rw (always-sound h s e, always-counted h s e)
 
-  pub list-by-history : (out : List ℤ) → 3 * length (history h s) ≤ length out
-      → afterList (afterCalls h s) out ≡ listed (sorted (history h s)) ++ drop (3 * length (history h s)) out
-  list-by-history out k =
-      let n = always-counted h s e in
-      let room : 3 * afterCalls h s .count ≤ length out = rw n k in
-      let yes = sym (list-done (afterCalls h s) (length out) (always-sound h s e) room) in
-      list-is (afterCalls h s) out yes ∙ rw (always-told h s e, n)
+  pub list-answer-by-history : (room : ℕ)
+      → listAnswer (afterCalls h s) room ≡ pick (leb (3 * length (history h s)) room) (Entries (length (history h s))) (refused NoRoom)
+  unfolding listAnswer pick
+  list-answer-by-history room = rw (always-sound h s e, always-counted h s e)
 
-  pub asked-by-history : (p : Period) → goodPeriod p ≡ true
-      → reply (afterCalls h s) p ≡ told-it (anyTouches p (sorted (history h s))) (entriesRead p (sorted (history h s)))
+  pub list-by-history : (out : List ℤ)
+      → afterList (afterCalls h s) out
+      ≡ pick (leb (3 * length (history h s)) (length out)) (listed (sorted (history h s)) ++ drop (3 * length (history h s)) out) out
+  unfolding afterList accepted refused pick
+  list-by-history out =
+      of-test (leb (3 * length (history h s)) (length out))
+      (λ t. rw (list-answer-by-history (length out), t, always-told h s e, always-counted h s e))
+      (λ t. rw (list-answer-by-history (length out), t))
+
+  pub asked-by-history : (p : Period)
+      → reply (afterCalls h s) p
+      ≡ pick (goodPeriod p) (told-it (anyTouches p (sorted (history h s))) (entriesRead p (sorted (history h s)))) (untold BadPeriod)
   unfolding reply pick
-  asked-by-history p g = rw (always-sound h s e, g, always-told h s e)
+  asked-by-history p = rw (always-sound h s e, always-told h s e)
 
 -- what a chronology holds is in order: each entry stands before all behind it
 all-before : (e : Entry) (l : List Entry) → beforeNext e l ≡ true → InOrder l → AllBefore e l
