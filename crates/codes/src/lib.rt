@@ -62,6 +62,9 @@ pub struct Words {
     pub last: u64,
 }
 
+// The words of an answer whose place, where it is a refusal, is one in the text: `moved` alone makes an answer of them, with the place in the file.
+pub struct TextWords(pub Words);
+
 // ---- points
 
 // The number that two digits say; 100 for bytes that are none.
@@ -777,10 +780,11 @@ fn farther(a: u64, b: u64) -> u64
     a + b
 }
 
-// The words of an answer whose refusal moves with a list's span.
-pub fn moved(w: Words, start: u64) -> Words
-    ensures { λ r. ⌜ r ≡ ported_.movedWords start w ⌝ }
+// A text's answer in a list whose span starts at a place: a refusal's place moves with it.
+pub fn moved(text: TextWords, start: u64) -> Words
+    ensures { λ r. ⌜ r ≡ ported_.movedWords start (text .0) ⌝ }
 {
+    let w = text.0;
     if w.last < 4294967296 {
         return w;
     }
@@ -1061,7 +1065,7 @@ fn bad_range(s: &[u8], k: usize) -> Words
 }
 
 // What the ported reader says of a text that is no written one.
-pub fn ported(s: &[u8]) -> Words
+fn ported_text(s: &[u8]) -> Words
     ensures { λ r. ⌜ r ≡ words.wordsOr (ported_.ported (now (s .entry))) ⌝ }
 {
     let n = s.len();
@@ -1084,6 +1088,13 @@ pub fn ported(s: &[u8]) -> Words
         return day_or_days(s);
     }
     bad_range(s, slash_of(s))
+}
+
+// The same, as what has no place in a file yet.
+pub fn ported(s: &[u8]) -> TextWords
+    ensures { λ r. ⌜ r .0 ≡ words.wordsOr (ported_.ported (now (s .entry))) ⌝ }
+{
+    TextWords(ported_text(s))
 }
 
 // ---- fields

@@ -212,11 +212,12 @@ fn ported_from(bytes: &[u8], start: u64) -> Words
     ensures { λ r. ⌜ r ≡ wordsOr (pick (ltb start 0x8000000000000000) (onSome (ported (now (bytes .entry))) λ x. some (movedBy start x)) none) ⌝ }
 {
     if start < 0x8000000000000000 {
-        let w = codes::ported(bytes);
+        let text = codes::ported(bytes);
+        let w = text.0;
         if w.last == NOTHING {
             return w;
         }
-        return codes::moved(w, start);
+        return codes::moved(text, start);
     }
     codes::no_words()
 }

@@ -5,8 +5,8 @@ use Rattle.chars.specs.Pick.{pick}
 use native.Mathlib.Omega.{arith}
 use Rattle.codes.proofs.Half.{slash-below}
 use borrow.Author.Needs.{needs}
-use Rattle.codes.proofs.ported.Statement.{statement}
-use Rattle.codes.proofs.ported.Tie as tie
+use Rattle.codes.proofs.ported_text.Statement.{statement}
+use Rattle.codes.proofs.ported_text.Tie as tie
 
 returns : tie.Need-returns
 unfolding ported refusal pick
@@ -74,8 +74,8 @@ returns-7 c =
     let b8 = b6 .before .before in
     simp (ne-eqb _ _ (b8 .if1 .left), lt-leb _ _ (b6 .if2 .left), ne-eqb _ _ (b5 .if3 .left), ne-eqb _ _ (b4 .if4 .left), ne-eqb _ _ (b3 .if5 .left), ne-eqb _ _ (b2 .if6 .left), ← b1 .slash-of .ensures, ← c .bad-range .ensures)
 
-pub ported-spec : {M : Type 1} → statement M
-ported-spec =
+pub ported-text-spec : {M : Type 1} → statement M
+ported-text-spec =
     tie.close
     (tie.spec
     (λ c κs. search needs)

@@ -15,7 +15,7 @@ use Rattle.reader.proofs.ported_from.Tie as tie
 returns : tie.Need-returns
 unfolding onSome pick
 returns c =
-    let b = c .before .before in
+    let b = c .before .before .before in
     let t = b .before .before .before .args .bytes .now in
     let e = b .ported .ensures in
     let n = untold (ported t) (ap (λ (v : Words). v .last) (sym e) ∙ c .if2 .taken) in
@@ -24,7 +24,7 @@ returns c =
 returns-2 : tie.Need-returns-2
 unfolding onSome pick
 returns-2 c =
-    let b = c .before .before .before in
+    let b = c .before .before .before .before in
     let t = b .before .before .before .args .bytes .now in
     let e = b .ported .ensures in
     let n = told (ported t) (λ z. c .before .if2 .left (ap (λ (v : Words). v .last) e ∙ z)) in
