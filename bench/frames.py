@@ -1,5 +1,6 @@
 #!/usr/bin/env python3
-"""frames.py LIBRARY: what each C call of the library takes of the stack at most, by its machine code, of x86-64 or of Arm.
+"""frames.py LIBRARY: what each C call of the library takes of the stack at most, by its machine code, of x86-64 or of Arm. OBJDUMP may name the
+command that reads it.
 
 A function's frame is what it pushes and what it subtracts from the stack pointer, each counted once, wherever it stands, and the return address
 where a call puts it on the stack. A call takes its frame and the most that any function takes that it calls, or what it keeps below the stack
@@ -7,7 +8,7 @@ pointer, as a function that calls none may on x86-64. That is a bound if no func
 pointer is moved in no other way; what is otherwise ends this with an error. `memset` and `memcpy`, of the C library, count as
 a return address.
 A line each: call, bytes, and the largest frame in it with its function."""
-import collections, re, subprocess, sys
+import collections, os, re, subprocess, sys
 
 # How a processor's code is read. A large frame is taken a page at a time, in a loop up to a place; the page that the loop subtracts counts as the
 # last of them. What is pushed is popped, what is subtracted is added, and where such a loop ends is only compared: that is undone.
@@ -42,7 +43,7 @@ def size(found):
 
 def functions(library):
     """Name to frame, what is kept below it, and callees; and the processor."""
-    command = ['objdump', '-d', '-r', '-w', '--no-show-raw-insn', library]
+    command = [os.environ.get('OBJDUMP', 'objdump'), '-d', '-r', '-w', '--no-show-raw-insn', library]
     lines = subprocess.run(command, capture_output=True, check=True, text=True).stdout.splitlines()
     formats = {m[1] for line in lines if (m := re.search(r'file format (\S+)', line))}
     if len(formats) != 1 or not formats <= PROCESSORS.keys():

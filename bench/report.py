@@ -35,19 +35,32 @@ def measured(folder, name, words):
     numbers = lambda r: [None if x == '-' else float(x) for x in (r[words:-3] if name == 'stack' else r[words:-2])]
     return {tuple(r[:words]): Row(numbers(r), *r[-2:]) for r in rows}
 
+def ratio(ours, theirs):
+    return None if None in (ours, theirs) else ours / theirs
+
 def part(sides):
     """The C call's part of the Rust's cost; the crate's where there is no C call."""
-    ours = sides[0] if sides[0] is not None else sides[1]
-    return None if sides[2] is None else ours / sides[2]
+    return ratio(sides[0] if sides[0] is not None else sides[1], sides[2])
+
+def cost(folder):
+    """What the calls are told by: their times, or else their instructions."""
+    return 'times' if measured(folder, 'times', 2) else 'counts'
+
+def called(folder):
+    """The name of a processor, and that it was not timed."""
+    return PROCESSORS[folder] + {'times': '', 'counts': ', by instructions'}[cost(folder)]
 
 def days(folder, *files):
     """When they were measured."""
     return '; '.join(dict.fromkeys(row.date for name in files for row in measured(folder, name, 2).values()))
 
 def parts(folder):
-    """Each case that the Rust has too, a sort of frames among them, to the part of its time."""
-    there = {case: part(row.numbers) for case, row in measured(folder, 'times', 2).items()}
-    frames = {(sort, ''): row.numbers[1] / row.numbers[0] for (sort,), row in measured(folder, 'frames', 1).items()}
+    """Each case that the Rust has too, a sort of frames among them, to the part of its cost."""
+    there = {case: part(row.numbers) for case, row in measured(folder, cost(folder), 2).items()}
+    frames = {}
+    for (sort,), row in measured(folder, 'frames', 1).items():
+        rust, ours = row.numbers[:2] if cost(folder) == 'times' else row.numbers[2:]
+        frames[sort, ''] = ratio(ours, rust)
     return {case: p for case, p in {**there, **frames}.items() if p is not None}
 
 # ---- tables
@@ -96,8 +109,9 @@ def others(folder):
     rows, first, there = [], {}, measured(folder, 'others', 2)
     for (text, reader), row in sorted(there.items(), key=lambda item: len(item[0][0])):
         ns, n = row.numbers
-        ours = first.setdefault(text, ns)
-        rows.append([f'`{text}`', reader, f'{ns:,.1f}', cell(n, ',.0f'), f'{ours / ns:.2f}', row.date])
+        of = n if cost(folder) == 'counts' else ns
+        ours = first.setdefault(text, of)
+        rows.append([f'`{text}`', reader, cell(ns, ',.1f'), cell(n, ',.0f'), cell(ratio(ours, of), '.2f'), row.date])
     return table(head, rows, 2), there.values()
 
 def lengths(folder):
@@ -122,22 +136,25 @@ def stack(folder):
 
 def frames():
     """All processors in one table."""
-    head, rows = ['frames', 'machine', 'Rust, ns a frame', '`dateframes`, ns a frame', 'part', 'date'], []
+    head = ['frames', 'machine', 'ns a frame, `dateframes`', 'Rust', 'part', 'instructions, `dateframes`', 'Rust', 'part', 'date']
+    rows = []
     for folder, name in PROCESSORS.items():
         for case, row in measured(folder, 'frames', 1).items():
-            rust, ours = row.numbers
-            rows.append([aim(case).what, f'{name}, {row.processor}', f'{rust:.0f}', f'{ours:.0f}', f'{ours / rust:.2f}', row.date])
+            cells = []
+            for rust, ours in (row.numbers[:2], row.numbers[2:]):
+                cells += [cell(ours, ',.0f'), cell(rust, ',.0f'), cell(ratio(ours, rust), '.2f')]
+            rows.append([aim(case).what, f'{name}, {row.processor}'] + cells + [row.date])
     return table(head, rows, 2)
 
 def aims():
     """How many rows meet what is aimed at, and those that do not."""
-    there, rows, missed = {name: parts(folder) for folder, name in PROCESSORS.items()}, [], []
+    there, rows, missed = {called(folder): parts(folder) for folder in PROCESSORS}, [], []
     for a in dict.fromkeys([READING, *AIMS.values()]):
         met = [[p <= a.part for case, p in of.items() if aim(case) == a] for of in there.values()]
         rows.append([a.what, a.words] + [f'{sum(m)} of {len(m)}' if m else 'not measured' for m in met])
     for folder, (name, of) in zip(PROCESSORS, there.items()):
         over = [f'{": ".join(case) if case[1] else aim(case).what} ({p:.3f})' for case, p in of.items() if p > aim(case).part]
-        said = f'{name} ({days(folder, "times", "frames")}): {len(over)} of {len(of)} rows miss their aim{": " if over else ""}{"; ".join(over)}.'
+        said = f'{name} ({days(folder, cost(folder), "frames")}): {len(over)} of {len(of)} rows miss their aim{": " if over else ""}{"; ".join(over)}.'
         missed.append(textwrap.fill(said, 120, break_on_hyphens=False, break_long_words=False) + '\n')
     lines = [['what', 'at most, of the Rust\'s time', *there], ['---', '---'] + ['---:'] * len(there)] + rows
     return ''.join('| ' + ' | '.join(line) + ' |\n' for line in lines) + '\n' + '\n'.join(missed)
@@ -176,7 +193,7 @@ def picture():
                 words.append(number)
         y += 2 * BAR + 4
     width, height = LEFT + int(MOST * UNIT) + 70, y + 16
-    upper, lower = (f'{name} ({days(folder, "times")})' for folder, name in PROCESSORS.items())
+    upper, lower = (f'{called(folder)} ({days(folder, cost(folder))})' for folder in PROCESSORS)
     title = 'The time of this library, as a part of the Rust’s: shorter is faster'
     legend = [f'Upper bar {upper}, lower and lighter bar {lower}', 'Green meets its aim, blue is no slower than the Rust']
     lines = [f'<svg xmlns="http://www.w3.org/2000/svg" width="{width}" height="{height}" viewBox="0 0 {width} {height}" '

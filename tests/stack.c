@@ -1,14 +1,14 @@
-/* What each call of the library takes of the stack, measured: it is called on a thread whose stack is painted,
+/* What each call of the library takes of the stack, measured: it is called on a stack of its own, which is painted,
  * and the paint is gone as far down as the call went. Of many inputs the most counts. It prints a line each: call,
  * and bytes below the caller's frame, with the arguments and the return address that stand there. It ends with 0 if
  * no call took more than the header says. */
 #define _XOPEN_SOURCE 700
 #include "../c/knobstream.h"
 
-#include <pthread.h>
 #include <stdio.h>
 #include <stdlib.h>
 #include <string.h>
+#include <ucontext.h>
 
 enum { STACK = 128 * 1024, LONG = KNOBSTREAM_MAX_BYTES, CHUNKS = KNOBSTREAM_MAX_CHUNKS };
 
@@ -41,14 +41,14 @@ static int64_t list[KNOBSTREAM_LIST_ROOM];
 #define COUNT(array) (sizeof(array) / sizeof *(array))
 #define LENT(l) (l).bytes, (l).length, (l).table, (l).rows
 
-/* A call on a thread. It looks at the stack on the spot: what a thread does at its end goes down too. */
+/* A call on that stack. It looks at the stack on the spot: what is done to leave it goes down too. */
 #if defined __aarch64__
 #define STACK_POINTER "mov %0, sp"
 #else
 #define STACK_POINTER "mov %%rsp, %0"
 #endif
-#define ON_A_THREAD(name, call) \
-    static void *name(void *unused) \
+#define ON_A_STACK(name, call) \
+    static void name(void) \
     { \
         const uint8_t *here; \
         __asm__ volatile(STACK_POINTER : "=r"(here) : : "memory"); \
@@ -56,38 +56,37 @@ static int64_t list[KNOBSTREAM_LIST_ROOM];
         call; \
         for (low = stack; *low == paint; low++) { \
         } \
-        return unused; \
     }
 
-ON_A_THREAD(parse, knobstream_parse(LENT(field), &answer))
-ON_A_THREAD(parse_strict, knobstream_parse_strict(LENT(field), &answer))
-ON_A_THREAD(parse_level_one, knobstream_parse_level_one(LENT(field), &answer))
-ON_A_THREAD(parse_three_fields, knobstream_parse_three_fields(LENT(field), 1, LENT(month), 1, LENT(day), &answer))
-ON_A_THREAD(parse_six_fields, knobstream_parse_six_fields(LENT(field), 1, LENT(month), 1, LENT(day), 1, LENT(field), 1, LENT(month), 1, LENT(day), &answer))
-ON_A_THREAD(parse_pages, knobstream_parse_pages(LENT(field), chunks, pieces, ranges, COUNT(ranges), &pages))
-ON_A_THREAD(write_range, written = knobstream_write_range(UINT32_MAX, UINT32_MAX, out, sizeof out))
-ON_A_THREAD(measure_date, written = knobstream_date_length(&date))
-ON_A_THREAD(write_date, written = knobstream_date_text(&date, out, sizeof out))
-ON_A_THREAD(write_fields, written = knobstream_date_fields(&date, out, sizeof out))
-ON_A_THREAD(measure_level_one, written = knobstream_date_level_one_length(&date))
-ON_A_THREAD(write_level_one, written = knobstream_date_level_one_text(&date, out, sizeof out))
-ON_A_THREAD(measure_timed, written = knobstream_date_timed_length(&date))
-ON_A_THREAD(write_timed, written = knobstream_date_timed_text(&date, out, sizeof out))
-ON_A_THREAD(days, period = knobstream_days(date.first))
-ON_A_THREAD(instant, seconds = knobstream_instant(date.first))
-ON_A_THREAD(compare_instants, order = knobstream_compare_instants(date.first, date.first))
-ON_A_THREAD(answer_frame, written = knobstream_answer_frame(line, digits, out, sizeof out))
-ON_A_THREAD(version, order = (int32_t)knobstream_version())
-ON_A_THREAD(compare, order = knobstream_compare(date.first, date.second))
-ON_A_THREAD(add_entry, counted = knobstream_chronology_add(&entries, 0, 3652424, 1000))
-ON_A_THREAD(remove_entry, counted = knobstream_chronology_remove(&entries, 1000))
-ON_A_THREAD(count_entries, counted = knobstream_chronology_count(&entries))
-ON_A_THREAD(list_entries, counted = knobstream_chronology_list(&entries, list, KNOBSTREAM_LIST_ROOM))
-ON_A_THREAD(any_dated, reply = knobstream_chronology_any_dated(&entries, 3652424, 3652424))
+ON_A_STACK(parse, knobstream_parse(LENT(field), &answer))
+ON_A_STACK(parse_strict, knobstream_parse_strict(LENT(field), &answer))
+ON_A_STACK(parse_level_one, knobstream_parse_level_one(LENT(field), &answer))
+ON_A_STACK(parse_three_fields, knobstream_parse_three_fields(LENT(field), 1, LENT(month), 1, LENT(day), &answer))
+ON_A_STACK(parse_six_fields, knobstream_parse_six_fields(LENT(field), 1, LENT(month), 1, LENT(day), 1, LENT(field), 1, LENT(month), 1, LENT(day), &answer))
+ON_A_STACK(parse_pages, knobstream_parse_pages(LENT(field), chunks, pieces, ranges, COUNT(ranges), &pages))
+ON_A_STACK(write_range, written = knobstream_write_range(UINT32_MAX, UINT32_MAX, out, sizeof out))
+ON_A_STACK(measure_date, written = knobstream_date_length(&date))
+ON_A_STACK(write_date, written = knobstream_date_text(&date, out, sizeof out))
+ON_A_STACK(write_fields, written = knobstream_date_fields(&date, out, sizeof out))
+ON_A_STACK(measure_level_one, written = knobstream_date_level_one_length(&date))
+ON_A_STACK(write_level_one, written = knobstream_date_level_one_text(&date, out, sizeof out))
+ON_A_STACK(measure_timed, written = knobstream_date_timed_length(&date))
+ON_A_STACK(write_timed, written = knobstream_date_timed_text(&date, out, sizeof out))
+ON_A_STACK(days, period = knobstream_days(date.first))
+ON_A_STACK(instant, seconds = knobstream_instant(date.first))
+ON_A_STACK(compare_instants, order = knobstream_compare_instants(date.first, date.first))
+ON_A_STACK(answer_frame, written = knobstream_answer_frame(line, digits, out, sizeof out))
+ON_A_STACK(version, order = (int32_t)knobstream_version())
+ON_A_STACK(compare, order = knobstream_compare(date.first, date.second))
+ON_A_STACK(add_entry, counted = knobstream_chronology_add(&entries, 0, 3652424, 1000))
+ON_A_STACK(remove_entry, counted = knobstream_chronology_remove(&entries, 1000))
+ON_A_STACK(count_entries, counted = knobstream_chronology_count(&entries))
+ON_A_STACK(list_entries, counted = knobstream_chronology_list(&entries, list, KNOBSTREAM_LIST_ROOM))
+ON_A_STACK(any_dated, reply = knobstream_chronology_any_dated(&entries, 3652424, 3652424))
 
 static struct {
     const char *name;
-    void *(*on_a_thread)(void *);
+    void (*on_a_stack)(void);
     size_t allowed, most;
 } calls[] = {
     { "knobstream_version", version, KNOBSTREAM_STACK, 0 },
@@ -117,17 +116,22 @@ static struct {
     { "knobstream_any_dated", any_dated, KNOBSTREAM_STACK, 0 },
 };
 
-static size_t used(void *(*on_a_thread)(void *))
+static size_t used(void (*on_a_stack)(void))
 {
-    pthread_attr_t attr;
-    pthread_t thread;
+    static ucontext_t back, there;
     memset(stack, paint, STACK);
-    if (pthread_attr_init(&attr) != 0 || pthread_attr_setstack(&attr, stack, STACK) != 0
-        || pthread_create(&thread, &attr, on_a_thread, NULL) != 0 || pthread_join(thread, NULL) != 0) {
-        fputs("no thread\n", stderr);
+    if (getcontext(&there) != 0) {
+        fputs("no stack\n", stderr);
         exit(2);
     }
-    pthread_attr_destroy(&attr);
+    there.uc_stack.ss_sp = stack;
+    there.uc_stack.ss_size = STACK;
+    there.uc_link = &back;
+    makecontext(&there, on_a_stack, 0);
+    if (swapcontext(&back, &there) != 0) {
+        fputs("no stack\n", stderr);
+        exit(2);
+    }
     return (size_t)(top - low);
 }
 
@@ -138,7 +142,7 @@ static void measure(void)
     for (size_t i = 0; i < COUNT(calls); i++)
         for (size_t j = 0; j < COUNT(colours); j++) {
             paint = colours[j];
-            const size_t n = used(calls[i].on_a_thread);
+            const size_t n = used(calls[i].on_a_stack);
             if (n > calls[i].most)
                 calls[i].most = n;
         }
