@@ -17,7 +17,6 @@ use Rattle.chunks.specs.declared.Checked.the-variants.{Clean}
 use Rattle.chunks.specs.Chunks.{Chunk, chunksOf, noMath, lengths, fits, isShort}
 use Rattle.chunks.specs.Check.{checked}
 use Rattle.chunks.specs.Format.{chunkOut, chunkFlag, chunksOut, formatted}
-use Rattle.chunks.specs.Upper.{uppercase}
 use Rattle.chunks.specs.Plain.{allAscii, allUnbroken, plainByte, plainText}
 use Rattle.chunks.specs.Standing.{isStanding, allStanding, listStands}
 use Rattle.chunks.specs.Answer.{textOf}
@@ -148,11 +147,6 @@ module _ (u : Bool) (b table : List ℕ) (s : listStands u b table ≡ true) whe
   stands-text =
       plain-text u b table (stands-formatted ∙ sym (unbroken-plain false b (standing-unbroken u b (k .bytes)))) (standing-ascii u b (k .bytes))
       ∙ standing-plain u false b (k .bytes)
-
--- in upper case
-pub stands-upper : (b table : List ℕ) → listStands true b table ≡ true → uppercase (formatted b table) ≡ b
-unfolding textOf pick
-stands-upper b table s = stands-text true b table s
 
 -- byte by byte
 pub standing-step : (u : Bool) (t : List ℕ) (i : ℕ) → i < length t → allStanding u (drop i t) ≡ (isStanding u (getD t i 0) && allStanding u (drop (i + 1) t))

@@ -1,7 +1,7 @@
 -- What is said at once of a text that the ported reader alone reads is what that reader says of the list.
 -- Assumes nothing.
 use mathlib.Core.Path.{_≡_, subst}
-use mathlib.Core.Bool.{true, false, _&&_}
+use mathlib.Core.Bool.{true, _&&_}
 use mathlib.Core.List.{List}
 use mathlib.Core.Option.{Option, none, some}
 use Prim.Native.Nat.{ℕ, _≤_}
@@ -9,17 +9,14 @@ use borrow.Author.Tests.{eqb-true, leb-true, ltb-true}
 use lib.Dec.{eqb, ltb, leb, lit≤}
 use lib.ListN.{length, getD}
 use Rattle.chars.proofs.Cases.{by-test, and-true}
-use Rattle.refusals.specs.declared.FileSpan.{FileSpan}
 use Rattle.refusals.specs.declared.ReadDate.{ReadDate}
-use Rattle.chunks.specs.Plain.{plainText}
-use Rattle.datefield.specs.Value.{parseText}
 use Rattle.reading_laws.specs.Field.{parsed}
 use Rattle.codes.specs.Points.{onSome}
 use Rattle.codes.specs.Texts.{isSlash, slashOf}
 use Rattle.codes.specs.Ported.{isUnknown, dayOrDays, ported, movedBy}
 use Rattle.codes.specs.Lists.{oneNormal, listPorted}
 use Rattle.codes.specs.Typed.{Typed}
-use Rattle.code_laws.proofs.Says.{Early, Near, near-typed, Says, Saying, parsed-says}
+use Rattle.code_laws.proofs.Says.{Early, near-typed, Saying, parsed-says}
 use Rattle.code_laws.proofs.Short.{short-says}
 use Rattle.code_laws.proofs.NoYear.{empty-says, words-say}
 use Rattle.code_laws.proofs.Unknown.{years-say, months-say, days-say}
@@ -46,14 +43,6 @@ ported-says s =
     (λ _. by-test (Saying s) (eqb (length s) 7) (λ n. months-say s (eqb-true _ 7 n))
     (λ _. by-test (Saying s) (eqb (length s) 10) (λ n. days-or-none s (eqb-true _ 10 n))
     (λ _. bad-range-says s (slashOf s) (slash-near s)))))))
-
--- of the text in upper case, in a list that starts anywhere below 2^63
-pub text-ported : (s : List ℕ) {r : ReadDate} → ported s ≡ some r → (span : FileSpan) → Early (span .0) → parseText span (plainText true false s) ≡ movedBy (span .0) r
-text-ported s {r} e span h = let k : Says s r = subst (Saying s) e (ported-says s) in k .text span h
-
--- what is said has numbers of their types, and places that no start below 2^63 makes too large
-pub ported-near : (s : List ℕ) {r : ReadDate} → ported s ≡ some r → Near r
-ported-near s {r} e = let k : Says s r = subst (Saying s) e (ported-says s) in k .near
 
 -- of a list: the ported reader says it, and its numbers are of their types
 module _ (b table : List ℕ) where

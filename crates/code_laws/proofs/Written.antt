@@ -114,10 +114,6 @@ answer-usual (answer t) = usual (t .by-grammar)
 pub written-clear : (s : List ℕ) {r : ReadDate} → written s ≡ some r → Clear s
 written-clear s e = answer-usual (said e) .clear
 
--- it is short enough for what a line holds
-pub written-short : (s : List ℕ) {r : ReadDate} → written s ≡ some r → length s ≤ 54
-written-short s e = answer-usual (said e) .short
-
 -- a list has no fault, and its text is its bytes, in upper case and as it is
 record AsBytes (b table : List ℕ) : Type 0 where
   clean : checked b table ≡ Clean

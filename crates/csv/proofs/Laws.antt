@@ -45,9 +45,6 @@ unfolding upTo
 run-within p [] = omega arith
 run-within p (b ∷ t) = let h = run-within p t in by-test (λ (n : ℕ). n ≤ suc (length t)) _ (λ _. omega arith) (λ _. omega arith)
 
-pub run-inside : (p : ℕ → Bool) (s : List ℕ) (i : ℕ) → i ≤ length s → i + upTo p (drop i s) ≤ length s
-run-inside p s i h = let w = run-within p (drop i s) in let d = length-drop i s in omega arith
-
 -- what is between quotes, by the first quote of it
 pub inner-open : (t : List ℕ) → length t ≤ upTo (equal 34) t → innerLen t ≡ upTo (equal 34) t
 unfolding upTo innerLen pick

@@ -30,17 +30,6 @@ unfolding feeds
 feeds-append [] t = omega arith
 feeds-append (b ∷ s) t = let h = feeds-append s t in omega arith
 
--- so many bytes are well-formed
-from-within : (k : ℕ) (s : List ℕ) → utf8From k s ≤ length s
-unfolding utf8From
-from-within k [] = omega arith
-from-within zero (b ∷ t) = let h = from-within (lenD (first (b ∷ t)) - 1) t in by-test (λ (n : ℕ). n ≤ suc (length t)) (eqb (lenD (first (b ∷ t))) 0) (λ _. omega arith) (λ _. omega arith)
-from-within (suc k) (b ∷ t) = let h = from-within k t in omega arith
-
-pub utf8-within : (s : List ℕ) → utf8End s ≤ length s
-unfolding utf8End
-utf8-within s = from-within 0 s
-
 -- what is skipped: the first line feed of the window
 module _ (last : Bool) (s : List ℕ) where
   by-feed : feedFrom 0 (window s) < length (window s) → skipped last s ≡ Ended (feedFrom 0 (window s) + 1)

@@ -5,9 +5,7 @@ use Prim.Native.Nat.{ℕ, zero, suc, _+_, _-_, _≤_, _<_}
 use native.Mathlib.Nat.{eq-or-lt-of-le, le-of-suc-le-suc}
 use native.Mathlib.Omega.{arith}
 use mathlib.Core.Logic.{⊎-elim}
-use lib.Dec.{ltb}
 use lib.IntN.{ℤ, pos, negsuc, negℤ, sucℤ, _+ℤ_, +ℤ-assoc, +ℤ-idr, +ℤ-invl, negℤ-+ℤ}
-use lib.Signed.{ltZ}
 use Rattle.dates.specs.declared.OptionMonth.{OptionMonth}
 use Rattle.dates.specs.declared.OptionMonth.the-variants.{NoMonth, SomeMonth}
 use Rattle.dates.specs.declared.OptionDay.{OptionDay}
@@ -20,7 +18,7 @@ use Rattle.days.specs.Covered.{yearIn, firstOf, lengthOf, lastOf}
 use Rattle.days.specs.Counts.{counted, daysTo, numbered}
 use Rattle.days.proofs.Years.{year-least, from-next}
 use Rattle.days.proofs.Months.{before-next, before-first, before-last, before-most}
-use Rattle.days.proofs.Numbers.{numbered-on, numbered-less}
+use Rattle.days.proofs.Numbers.{numbered-on}
 use Rattle.days.proofs.Counts.{year-counted, month-counted}
 
 -- Sums, in natural numbers.
@@ -126,8 +124,3 @@ first-at y (SomeMonth m) (SomeDay d) t = ap (λ (z : ℤ). z +ℤ pos (d .0)) (m
 pub last-at : (y : ℤ) (mo : OptionMonth) (da : OptionDay) → yearIn y ≡ true → lastOf y mo da ≡ numbered (beginning y mo da + (lengthOf y mo da - 1))
 unfolding lastOf
 last-at y mo da t = ap (λ (z : ℤ). z +ℤ pos (lengthOf y mo da - 1)) (first-at y mo da t) ∙ numbered-on (beginning y mo da) (lengthOf y mo da - 1)
-
--- whether one ends before another begins
-pub before-test : (y : ℤ) (mo : OptionMonth) (da : OptionDay) (y′ : ℤ) (mo′ : OptionMonth) (da′ : OptionDay) → yearIn y ≡ true → yearIn y′ ≡ true
-    → ltZ (lastOf y mo da) (firstOf y′ mo′ da′) ≡ ltb (beginning y mo da + (lengthOf y mo da - 1)) (beginning y′ mo′ da′)
-before-test y mo da y′ mo′ da′ t t′ = rw (last-at y mo da t, first-at y′ mo′ da′ t′) (numbered-less (beginning y mo da + (lengthOf y mo da - 1)) (beginning y′ mo′ da′))

@@ -8,7 +8,7 @@ use Prim.Native.Nat.{ℕ, zero, suc, _+_, _/_, _%_, _≤_, _<_}
 use native.Mathlib.Omega.{arith}
 use lib.Dec.{leb, ltb, eqb}
 use lib.IntN.{ℤ, pos, negsuc, natAbs}
-use lib.ListN.{length, length-append}
+use lib.ListN.{length}
 use borrow.Author.Tests.{le-leb, leb-true, ltb-false, ne-eqb}
 use Rattle.chars.specs.Pick.{pick}
 use Rattle.chars.specs.Ascii.{ascii}
@@ -350,10 +350,6 @@ pub six-unsaid : (line : ℕ) (key year month day endYear endMonth endDay : List
 unfolding sixLine
 six-unsaid line key year month day endYear endMonth endDay v e =
     unsaid line key (ascii "year") (sixText year month day endYear endMonth endDay) v false e
-
--- a line has at least its line feed
-pub some-bytes : {t : List ℕ} → OneLine t → 0 < length t
-some-bytes {t} o = let e = ap length (o .ended .1) ∙ length-append (o .ended .0) (10 ∷ []) in omega arith
 
 -- which verdicts say something: all but no date and a full one
 pub said-or-not : (v : Verdict) → (isSaid v ≡ false) ↔ ((v ≡ NoDate) ⊎ (v ≡ Full))

@@ -19,11 +19,11 @@ use Rattle.numbers.specs.declared.ReadInt.{ReadInt}
 use Rattle.numbers.proofs.Laws.{IntIn, int, noint, panic, int-in}
 use Rattle.dates.specs.Calendar.{monthLength}
 use Rattle.dates.specs.Clocks.{badTime, hasBadTime, dayBesideMonth}
-use Rattle.dates.specs.Domain.{PartsIn, EndIn}
+use Rattle.dates.specs.Domain.{PartsIn}
 use Rattle.dates.specs.Value.{day, datetime}
 use Rattle.dates.specs.declared.Month.{Month}
 use Rattle.dates.specs.declared.OptionMonth.the-variants.{SomeMonth}
-use Rattle.dates.specs.declared.OptionTime.the-variants.{NoTime, SomeTime}
+use Rattle.dates.specs.declared.OptionTime.the-variants.{SomeTime}
 use Rattle.dates.specs.declared.Datetime.{Datetime}
 use Rattle.points.specs.Step.{monthAt, dayAt, hyphenAt, onPart, onSeparator, orEnd}
 use Rattle.points.specs.Point.{windowed, windowedInt, shortYear, longOf, longYear, shortOr, yearAt, onYear, withTime, timeOr, behindDay, behindMonth, behindYear, point}
@@ -128,7 +128,3 @@ of-good (good w) = w
 pub accepted-date : (s : List ℕ) {d : Datetime} → point s ≡ Point d → Dated d
 unfolding point
 accepted-date s e = of-good (subst Good e (on-year (year-in s 0) λ y next h. year-good s next y h))
-
--- every Datetime that the reader gives can be written and read back, if it has no time
-pub accepted : (s : List ℕ) {d : Datetime} → point s ≡ Point d → d .time ≡ NoTime → EndIn d
-accepted s e t = let g = accepted-date s e in record { year-in = g .year-in; parts-in = g .parts-in; untimed = t; unseasoned = g .unseasoned }

@@ -2,16 +2,16 @@
 use mathlib.Core.Path.{_≡_, refl, sym, ap, _∙_, subst}
 use mathlib.Core.Bool.{Bool, true, false}
 use mathlib.Core.List.{List, [], _∷_, _++_, append-assoc, append-nil}
-use Prim.Native.Nat.{ℕ, _+_, _-_, _≤_, _<_}
+use Prim.Native.Nat.{ℕ, _+_, _≤_, _<_}
 use native.Mathlib.Omega.{arith}
 use lib.Dec.{eqb, leb}
-use lib.ListN.{length, take, drop, length-append, take-append-drop}
+use lib.ListN.{length, take, drop, length-append}
 use lib.Seq.{drop-append-le, drop-append-seam, take-append-seam}
 use Rattle.chars.specs.Pick.{pick}
 use Rattle.chars.proofs.Cases.{of-test}
 use Rattle.runs.specs.Steps.{Outcome}
 use Rattle.runs.specs.Steps.Outcome.{wait, took, over}
-use Rattle.runs.specs.Pieces.{Piece, allBytes, allTexts, Reading}
+use Rattle.runs.specs.Pieces.{Piece, allTexts, Reading}
 use Rattle.runs.specs.Pieces.Reading.{ends, piece}
 use Rattle.runs.proofs.Pieces.{is-read, no-others}
 use Rattle.csv.specs.declared.Separator.{Separator}
@@ -389,10 +389,6 @@ one-sum {k} {m} {n} {w} a b h =
     let z : 0 + k ≡ k = omega arith in
     sym e ∙ b .sum ∙ ap capped f ∙ sym (capped-more n k m (a .sum ∙ ap capped z)) ∙ ap capped g
 
--- below the largest it is the sum
-pub sum-below : {n w : ℕ} → w ≡ capped n → w < 4294967295 → w ≡ n
-sum-below {n} e h = omega (arith, e, capped-is n)
-
 all-sums : {k t t' whole : Tally} → Counts k noTally t' → Counts k t whole → Within t → Sums t t' whole
 all-sums a b w =
     record {
@@ -461,37 +457,6 @@ module _ (h : List ℕ) {st : State} (head : next false h fresh ≡ took (length
       let e : mid ≡ at = sym (nothing-behind (x .reading)) ∙ same-end (then-upto (header-first a) y) (x .reading) r in
       let c = cut-adds (a ++ b) b (then-upto (header-first (a ++ b)) v) p w q in
       rw (← e) c
-
--- what is kept behind pieces
-abbrev pub keptBehind : State → List (Piece State) → State
-keptBehind st [] = st
-keptBehind st (p ∷ ps) = keptBehind (p .behind) ps
-
--- what is left of a file behind some of its pieces
-record Cut (st : State) (s : List ℕ) (ps : List (Piece State)) : Type 0 where
-  rest : List ℕ
-  bytes : s ≡ allBytes ps ++ rest
-  upto : Upto true st s (keptBehind st ps) rest
-
-cut-at : {st at : State} {s left lastly : List ℕ} (ps qs : List (Piece State)) → Reading next st s (ps ++ qs) at left lastly → Cut st s ps
-cut-at {s = s} [] qs r = record { rest = s; bytes = refl; upto = here }
-cut-at (p ∷ ps) qs (piece {s} {n} e r) =
-    let c = cut-at ps qs r in
-    record {
-      rest = c .rest;
-      bytes = sym (take-append-drop n s) ∙ ap (λ (x : List ℕ). take n s ++ x) (c .bytes) ∙ sym (append-assoc (take n s) (allBytes ps) (c .rest));
-      upto = on e (c .upto);
-    }
-
--- a file is cut behind some of its pieces, before a row: it counts what was counted there, and what the rest with the header counts
-pub pieces-add : (h : List ℕ) {st : State} → next false h fresh ≡ took (length h) [] st → (a b : List ℕ) {at at' : State} {left left' lastly lastly' : List ℕ}
-    (ps qs : List (Piece State)) {ps' : List (Piece State)} → Reading next fresh (h ++ (a ++ b)) (ps ++ qs) at left lastly → allBytes ps ≡ h ++ a
-    → keptBehind fresh ps .phase ≡ Rows → Reading next fresh (h ++ b) ps' at' left' lastly' → Sums (keptBehind fresh ps .tally) (at' .tally) (at .tally)
-pieces-add h head a b ps qs r e p q =
-    let c = cut-at ps qs r in
-    let f : (h ++ a) ++ c .rest ≡ (h ++ a) ++ b = ap (λ (x : List ℕ). x ++ c .rest) (sym e) ∙ sym (c .bytes) ∙ sym (append-assoc h a b) in
-    let g : c .rest ≡ b = sym (drop-append-seam (h ++ a) (c .rest)) ∙ ap (λ (x : List ℕ). drop (length (h ++ a)) x) f ∙ drop-append-seam (h ++ a) b in
-    cut-adds h head (a ++ b) b (subst (λ (x : List ℕ). Upto true fresh (h ++ (a ++ b)) (keptBehind fresh ps) x) g (c .upto)) p r q
 
 -- a row that is read to its end is answered
 counted-some : (count end : ℕ) → counted count end ≡ More → ⊥

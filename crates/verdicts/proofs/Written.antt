@@ -1,6 +1,6 @@
 -- The Date of a verdict has a text that is written: the writer knows no season in it and does not panic, and the text is short.
 -- Assumes nothing.
-use mathlib.Core.Path.{_≡_, refl, ap, subst, _∙_}
+use mathlib.Core.Path.{_≡_, refl, subst, _∙_}
 use mathlib.Core.Bool.{Bool, true, false}
 use mathlib.Core.List.{List}
 use Prim.Native.Nat.{ℕ, _≤_}
@@ -25,8 +25,8 @@ use Rattle.chunks.specs.declared.Checked.{Checked}
 use Rattle.chunks.specs.declared.Checked.the-variants.{Clean, Faulty}
 use Rattle.chunks.specs.Lent.{Three, checkOf}
 use Rattle.puts.specs.declared.Measured.the-variants.{Length}
-use Rattle.puts.specs.Answers.{measured, answer, afterwards}
-use Rattle.writer.specs.Answers.{dateMeasured, dateAnswer, dateAfterwards}
+use Rattle.puts.specs.Answers.{measured}
+use Rattle.writer.specs.Answers.{dateMeasured}
 use Rattle.writer.specs.Sizes.{MonthUnder, DayUnder, Narrow, NarrowEnds}
 use Rattle.writer.specs.Texts.{dayParts, monthParts, partsOf, tooLarge, endPanics, valuePanics, panics, dateText}
 use Rattle.writer.proofs.Bounds.{text-short}
@@ -140,11 +140,3 @@ six-other-text start end d e = six-text start end d (six-not-strict start end d 
 pub said-short : {d : Date} → HasText d → length (writtenText d) ≤ 40
 unfolding writtenText textIf
 said-short h = let g = h .short in rw (h .measures) (omega arith)
-
--- So the writer answers and stores as one does to whom no Date is wrong.
-module _ (d : Date) (w : HasText d) where
-  pub answers : (room : ℕ) → dateAnswer d (dateText d) room ≡ answer false (dateText d) room
-  answers room = else-as-before d (dateText d) (w .unseasoned) .1 room ∙ ap (λ (p : Bool). answer p (dateText d) room) (w .calm)
-
-  pub stores : (out : List ℕ) → dateAfterwards d (dateText d) out ≡ afterwards false (dateText d) out
-  stores out = else-as-before d (dateText d) (w .unseasoned) .2 out ∙ ap (λ (p : Bool). afterwards p (dateText d) out) (w .calm)

@@ -6,7 +6,7 @@ use Rattle.sheets.proofs.skip_step.Statement.{statement}
 use Rattle.sheets.proofs.skip_step.Tie as tie
 
 behind-requires : tie.Need-behind-requires
-behind-requires c κs = skip-ended _ _ (sym (c .before .before .before .skip-line .ensures) ∙ c .before .n .given .1) .1
+behind-requires c κs = skip-ended _ _ (sym (c .before .before .before .skip-line .ensures) ∙ c .before .n .given .1)
 
 behind-requires-2 : tie.Need-behind-requires-2
 behind-requires-2 c κs = skip-on _ _ (sym (c .before .before .skip-line .ensures) ∙ c .enum-told .given .1)
