@@ -2,7 +2,7 @@
 use mathlib.Core.Path.{_≡_, refl, sym, ap, _∙_}
 use mathlib.Core.Bool.{Bool, true, false}
 use mathlib.Core.List.{List, [], _∷_, _++_}
-use Prim.Native.Nat.{ℕ, _+_, _*_, _/_, _%_, _≤_, _<_}
+use Prim.Native.Nat.{ℕ, _+_, _*_, _/_, _%_, _<_}
 use native.Mathlib.Nat.{zero-add, add-mul-div-left, add-mul-mod-self-left, div-eq-of-lt, mod-eq-of-lt}
 use native.Mathlib.Omega.{arith}
 use lib.IntN.{ℤ, pos, negsuc}
@@ -29,7 +29,7 @@ use Rattle.refusals.specs.declared.Refusal.{Refusal}
 use Rattle.refusals.specs.declared.ReadDate.the-variants.{Accepted, Refused}
 use Rattle.refusals.specs.Refusal.{number}
 use Rattle.codes.specs.declared.Words.{Words}
-use Rattle.codes.specs.Words.{twos, flag, hasMonth, monthNumber, hasDay, dayNumber, hasTime, clockOf, offsetSort, shiftOf, hoursOf, minutesOf, fourBytes, dayWordOf, timeWordOf, lastWord, dayWord, timeWord, valueWords, wordsOf}
+use Rattle.codes.specs.Words.{twos, flag, hasMonth, monthNumber, hasDay, dayNumber, hasTime, clockOf, offsetSort, shiftOf, hoursOf, minutesOf, fourBytes, timeWordOf, lastWord, dayWord, timeWord, valueWords, wordsOf}
 use Rattle.codes.specs.Typed.{DatetimeTyped, Typed}
 use Rattle.refusals.proofs.Told.{number-in}
 use Rattle.answers.specs.Answer.{wordBytes, monthByte, dayByte, shiftBytes, offsetBytes, timeBytes, datetimeBytes, endBytes, shape, endsBytes, bit, marks, bytesWith, acceptedBytes, refusedBytes, lineOf, acceptedLine, refusedLine}

@@ -1,12 +1,12 @@
 -- Texts of characters up to U+00FF, by their bytes: they have no fault.
 -- Assumes nothing.
-use mathlib.Core.Path.{_≡_, refl, sym, ap, _∙_}
-use mathlib.Core.Bool.{Bool, true, false, not, _&&_, _||_, false≢true}
+use mathlib.Core.Path.{_≡_, _∙_}
+use mathlib.Core.Bool.{true, false, _&&_, _||_, false≢true}
 use mathlib.Core.List.{List, [], _∷_}
 use Prim.Native.Nat.{ℕ, zero, suc, _+_, _≤_, _<_}
 use native.Mathlib.Numerals.{add-one}
 use native.Mathlib.Omega.{arith}
-use borrow.Author.Tests.{ltb-true, leb-true, le-leb, lt-leb, lt-ltb, le-ltb}
+use borrow.Author.Tests.{ltb-true, leb-true, le-leb, lt-leb}
 use lib.Dec.{ltb, leb}
 use lib.ListN.{length, getD, drop}
 use lib.Seq.{drop-cons}
@@ -16,7 +16,7 @@ use Rattle.chars.specs.Classes.{isAdmitted}
 use Rattle.chars.specs.declared.Decoded.the-variants.{Char}
 use Rattle.chars.proofs.Cases.{of-test, and-true}
 use Rattle.chars.proofs.Classes.{ascii-admitted}
-use Rattle.chars.proofs.Laws.{Cont, cont, first-ascii, two-is}
+use Rattle.chars.proofs.Laws.{cont, first-ascii, two-is}
 use Rattle.chunks.specs.declared.Checked.the-variants.{Clean}
 use Rattle.chunks.specs.Characters.{andThen, characters}
 use Rattle.chunks.specs.Check.{faultIn}

@@ -1,13 +1,13 @@
 -- Upper case of characters up to U+00FF, byte by byte.
 -- Assumes nothing.
 use mathlib.Core.Path.{_≡_, refl, sym, ap, _∙_}
-use mathlib.Core.Bool.{Bool, true, false, not, _&&_, _||_}
-use mathlib.Core.List.{List, [], _∷_, _++_}
+use mathlib.Core.Bool.{Bool, true, false, not, _&&_}
+use mathlib.Core.List.{List, [], _∷_}
 use Prim.Native.Nat.{ℕ, zero, suc, _+_, _-_, _/_, _%_, _≤_, _<_}
 use native.Mathlib.Numerals.{add-one}
 use native.Mathlib.Omega.{arith}
 use borrow.Author.Tests.{ltb-true, lt-leb, ne-eqb}
-use lib.Dec.{ltb, leb, eqb}
+use lib.Dec.{ltb, leb}
 use lib.ListN.{length, getD, drop, drop-of-length-le}
 use lib.Seq.{drop-cons}
 use Rattle.chars.specs.Pick.{pick}
@@ -18,10 +18,10 @@ use Rattle.chars.proofs.Below.{agree}
 use Rattle.chars.proofs.Cases.{of-test, and-true}
 use Rattle.chars.proofs.Laws.{cont}
 use Rattle.chars.proofs.Encode.{encode-two}
-use Rattle.chunks.specs.Characters.{characters, codesOf, codes}
+use Rattle.chunks.specs.Characters.{codesOf, codes}
 use Rattle.chunks.specs.Plain.{plainByte}
 use Rattle.chunks.specs.Upper.{upperOut, uppers, uppercase}
-use Rattle.chunks.specs.Latin.{isLead, mayFollow, allLatin, isOdd, noneOdd, raised, raisedAll}
+use Rattle.chunks.specs.Latin.{isLead, allLatin, isOdd, noneOdd, raised, raisedAll}
 use Rattle.chunks.proofs.Plains.{no-characters, upper-ascii}
 use Rattle.chunks.proofs.Room.{upper-long}
 use Rattle.chunks.proofs.Latins.{lead-is, lead-not, latin-rest, begins, continues, open-some, pair-next, pair-characters, low-characters}

@@ -1,7 +1,7 @@
 // Chunk lists: the checks before a list is read, its span, and its formatted text.
 // A list is lent bytes and a lent table of four numbers a chunk: kind (0 Normal, 1 Verbatim, 2 Math), length, span start, span end.
 ghost use mathlib.Core.Path.{_≡_};
-ghost use mathlib.Core.Bool.{true, false, not, _&&_};
+ghost use mathlib.Core.Bool.{true, false, _&&_};
 ghost use Prim.Native.Nat.{_+_, _%_, _^_, _<_, _≤_};
 ghost use lib.Dec.{eqb};
 ghost use lib.ListN.{length};

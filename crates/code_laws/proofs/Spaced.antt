@@ -32,7 +32,7 @@ use Rattle.datefield.specs.Value.{trimmedDate, parseText}
 use Rattle.reading_laws.specs.Field.{parsed}
 use Rattle.reading_laws.proofs.Entries.{parsed-clean}
 use Rattle.codes.specs.Texts.{written, areSpaces, unspaced}
-use Rattle.codes.specs.Lists.{oneNormal, listWritten}
+use Rattle.codes.specs.Lists.{oneNormal}
 use Rattle.codes.specs.Spaced.{listSpaced, listUsual}
 use Rattle.codes.specs.Typed.{Typed}
 use Rattle.roundtrip_laws.proofs.Bytes.{Each, none, more, each-of, IsClear, Clear, low-same, clear-trimmed}

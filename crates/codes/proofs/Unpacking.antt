@@ -32,9 +32,8 @@ use Rattle.dates.specs.Value.{seasonNumber}
 use Rattle.refusals.specs.declared.Refusal.{Refusal}
 use Rattle.refusals.specs.declared.ReadDate.{ReadDate}
 use Rattle.refusals.specs.declared.ReadDate.the-variants.{Accepted, Refused}
-use Rattle.refusals.specs.Refusal.{number, fileSpan}
+use Rattle.refusals.specs.Refusal.{number}
 use Rattle.refusals.proofs.Told.{named, number-in}
-use Rattle.codes.specs.declared.Words.{Words}
 use Rattle.codes.specs.Words.{twos, flag, hasMonth, monthNumber, hasDay, dayNumber, hasTime, clockOf, offsetSort, shiftOf, hoursOf, minutesOf, dayWordOf, timeWordOf, lastWord, dayWord, timeWord, valueWords, wordsOf}
 use Rattle.codes.specs.Typed.{DatetimeTyped, Typed}
 use Rattle.codes.specs.Back.{yearIn, hasMonthIn, monthIn, hasDayIn, dayIn, isSet}

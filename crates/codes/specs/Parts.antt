@@ -1,10 +1,10 @@
 -- Usual fields: a year of one to four digits, or of two to four with BC behind it; a month of one or two digits, or its name; a day of one or two digits.
 use Prim.Native.Char.{code}
-use Prim.Native.Nat.{ℕ, suc, _+_, _-_, _*_}
-use mathlib.Core.Bool.{Bool, true, false, _&&_, _||_}
+use Prim.Native.Nat.{ℕ, _+_, _-_, _*_}
+use mathlib.Core.Bool.{Bool, true, _&&_, _||_}
 use mathlib.Core.List.{List, [], _∷_}
 use lib.Dec.{eqb, ltb, leb}
-use lib.IntN.{ℤ, pos, _-ℤ_}
+use lib.IntN.{ℤ, pos}
 use lib.ListN.{length, getD, take}
 use mathlib.Core.Option.{Option, none, some}
 use Rattle.chars.specs.Pick.{pick}
@@ -12,11 +12,10 @@ use Rattle.chars.specs.Classes.{isAsciiDigit}
 use Rattle.dates.specs.declared.OptionMonth.{OptionMonth}
 use Rattle.dates.specs.declared.OptionMonth.the-variants.{NoMonth, SomeMonth}
 use Rattle.dates.specs.declared.OptionDay.{OptionDay}
-use Rattle.dates.specs.declared.OptionDay.the-variants.{NoDay}
 use Rattle.dates.specs.Value.{month, day}
 use Rattle.fields.specs.Names.{monthFor}
 use Rattle.fields.specs.Year.{beforeChrist}
-use Rattle.codes.specs.Points.{twoAt, onSome}
+use Rattle.codes.specs.Points.{twoAt}
 
 -- digits as a number, behind those that were read; 10000 for other bytes
 unfoldable pub numberFrom : ℕ → List ℕ → ℕ

@@ -16,7 +16,6 @@ use Rattle.csv.specs.Answers.{window, isCut, isOver, placeOf, endLen, counted, 
 use Rattle.csv.specs.Texts.{ownBytes}
 use Rattle.csv.specs.Bytes.{utf8From, utf8End}
 use Rattle.headers.specs.declared.RowFault.the-variants.{Broken, BadUtf8}
-use Rattle.headers.specs.declared.Unusable.{Unusable}
 use Rattle.headers.specs.declared.Unusable.the-variants.{Empty, NoColumn, Twice, Returns, NoRow}
 use Rattle.headers.specs.declared.Columns.{Columns}
 use Rattle.headers.specs.declared.Header.{Header}

@@ -1,8 +1,8 @@
 -- A header that is told before the file's end stays as it is whatever follows, and none is waited for at the end. Assumes nothing.
-use mathlib.Core.Path.{_≡_, refl, sym, ap, _∙_}
+use mathlib.Core.Path.{_≡_, refl, sym, _∙_}
 use mathlib.Core.Bool.{Bool, true, false, false≢true}
 use mathlib.Core.List.{List, [], _∷_, _++_}
-use Prim.Native.Nat.{ℕ, _+_, _-_, _≤_, _<_}
+use Prim.Native.Nat.{ℕ, _-_, _≤_, _<_}
 use native.Mathlib.Omega.{arith}
 use borrow.Author.Tests.{le-leb, le-ltb, ltb-false, leb-true, leb-false}
 use lib.Dec.{eqb, leb, ltb}
@@ -16,7 +16,7 @@ use Rattle.csv.specs.declared.Separator.{Separator}
 use Rattle.csv.specs.declared.Separator.the-variants.{Comma, Semicolon, Tab}
 use Rattle.csv.specs.Reader.{byteOf, Place}
 use Rattle.csv.specs.Answers.{answer, lineOf, InOrder}
-use Rattle.csv.specs.Answers.InOrder.{no-cell, then-cell}
+use Rattle.csv.specs.Answers.InOrder.{then-cell}
 use Rattle.csv.specs.Bytes.{utf8End}
 use Rattle.csv.specs.Texts.{ownBytes}
 use Rattle.csv.proofs.Stable.{stays}

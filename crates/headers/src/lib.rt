@@ -1,8 +1,7 @@
 // The header of a sheet: the columns by their names, and the separator.
 ghost use mathlib.Core.Path.{_≡_};
 ghost use Prim.Native.Nat.{_+_, _-_, _*_, _≤_, _<_};
-ghost use lib.ListN.{length, drop, take};
-ghost use Rattle.chars.specs.Ascii.{ascii};
+ghost use lib.ListN.{length, drop};
 ghost use Rattle.headers.specs.Names as names;
 ghost use Rattle.headers.specs.Columns as columns;
 ghost use Rattle.headers.specs.Tables as tables;

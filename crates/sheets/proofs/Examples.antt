@@ -1,7 +1,7 @@
 -- Worked examples: rows, steps, limits, and the reports on small files, every byte. Each answer is written out. Their dates are such that
 -- the readers are not asked, whose own examples are in `verdicts`. Assumes nothing.
 use mathlib.Core.Path.{_≡_, refl, subst}
-use mathlib.Core.Bool.{Bool, true, false}
+use mathlib.Core.Bool.{true, false}
 use mathlib.Core.List.{List, [], _∷_, _++_, map}
 use Prim.Native.Nat.{ℕ, zero, suc, _+_}
 use native.Mathlib.Omega.{arith}
@@ -26,14 +26,14 @@ use Rattle.chunks.specs.Chunks.{chunksOf, kindsKnown, lengths, fits, isShort}
 use Rattle.chunks.specs.Check.{faultIn, orElse, faultOf, checked as listChecked}
 use Rattle.fields.specs.Names.{lower}
 use Rattle.reading_laws.specs.Field.{onClean, parsed, parsedStrict}
-use Rattle.runs.specs.Steps.{Outcome, told, reportBy, reportOn}
+use Rattle.runs.specs.Steps.{told, reportBy, reportOn}
 use Rattle.runs.specs.Steps.Outcome.{wait, took, over}
 use Rattle.csv.specs.declared.Separator.the-variants.{Comma, Tab}
 use Rattle.csv.specs.declared.Fault.the-variants.{QuoteInside, TooLong}
 use Rattle.csv.specs.declared.RowRead.the-variants.{Row, Faulty, Endless, More as MoreRows, Nothing}
 use Rattle.csv.specs.declared.Skipped.the-variants.{Ended, On, Wait as Unknown, Over as NoMore}
 use Rattle.csv.specs.Reader.{isStop, isSpecial, is, upTo, innerLen, returnOf, stopOf, closed, plainBy, quotedBy, cellOf, lineBy, lineFrom, line}
-use Rattle.csv.specs.Answers.{window, isCut, isOver, placeOf, endLen, counted, rowBy, refused, answerBy, answerOf, lineOf, answer, numbers, listed, tableAfter, skipped}
+use Rattle.csv.specs.Answers.{window, isCut, isOver, placeOf, endLen, counted, rowBy, refused, answerBy, answerOf, lineOf, answer, numbers, listed, tableAfter}
 use Rattle.csv.specs.Texts.{ownBytes, undoubled}
 use Rattle.csv.specs.Bytes.{oneIf, feeds, utf8From, utf8End}
 use Rattle.csv.proofs.Whole.{accepted}
@@ -42,19 +42,16 @@ use Rattle.verdicts.specs.declared.Verdict.the-variants.{NoDate, Full, NotStric
 use Rattle.verdicts.specs.Dates.{otherwise, byReaders, dateVerdict}
 use Rattle.verdicts.specs.Fields.{someGiven, dayAlone, isUnread, givenVerdict, sixVerdict}
 use Rattle.headers.specs.declared.RowFault.the-variants.{Cells, BadUtf8, LongCell}
-use Rattle.headers.specs.declared.Unusable.the-variants.{Empty}
 use Rattle.findings.specs.Escapes.{isHidden, isMarked, shownByte, escaped, quoted}
 use Rattle.findings.specs.Words.{capped, kindWords, placeWords, refusalWords, isSaid, sort, message, faultWords, rowWords}
 use Rattle.findings.specs.Lines.{finding, verdictLine, columnName, dateLine, namedCell, stillFirst, sixText, sixLine, badRowLine, signing, summary, unusableWords, unreadLine}
 use Rattle.headers.specs.declared.Columns.{Columns}
-use Rattle.headers.specs.declared.Header.the-variants.{Wait, Without, With}
 use Rattle.headers.specs.Names.{isSpace, spaces, startsSo, isName}
 use Rattle.headers.specs.Columns.{columnFrom, columnOf, columnsOf, one, sixColumns, checked, known, again, twiceDate, twiceSix, twice, chosen}
-use Rattle.headers.specs.Header.{ownOf, rowCells, namesIn, namesBy, noRow, withCells, withRow, headerIn, headerBy, onNames, headerRow, markLen, headerBehind, header}
+use Rattle.headers.specs.Header.{ownOf, rowCells, namesIn, namesBy, withCells, withRow, headerIn, headerBy, onNames, headerRow, markLen, headerBehind, header}
 use Rattle.sheets.specs.declared.Phase.the-variants.{Start, Rows, Skipping}
 use Rattle.sheets.specs.declared.Tally.{Tally}
 use Rattle.sheets.specs.declared.State.{State}
-use Rattle.sheets.specs.declared.Checked.{Checked}
 use Rattle.sheets.specs.declared.Checked.the-variants.{Good, Bad}
 use Rattle.sheets.specs.declared.Taken.the-variants.{More, NoRoom, Took, Over}
 use Rattle.sheets.specs.Tallies.{oneStrict, oneOtherwise, oneRefused, oneRow, oneBad, oneDate}

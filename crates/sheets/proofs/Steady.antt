@@ -1,17 +1,17 @@
 -- The steps over an import file do not depend on how it comes in blocks. Assumes nothing.
-use mathlib.Core.Path.{_≡_, refl, sym, ap, _∙_}
+use mathlib.Core.Path.{_≡_, refl, sym}
 use mathlib.Core.Bool.{Bool, true, false, false≢true}
-use mathlib.Core.List.{List, [], _++_}
-use Prim.Native.Nat.{ℕ, _+_, _≤_, _<_}
+use mathlib.Core.List.{List, _++_}
+use Prim.Native.Nat.{ℕ, _≤_, _<_}
 use native.Mathlib.Omega.{arith}
-use lib.ListN.{length, take}
+use lib.ListN.{length}
 use lib.Seq.{take-append-le}
 use Rattle.runs.specs.Steps.{Outcome, Steady}
 use Rattle.runs.specs.Steps.Outcome.{wait, took, over}
 use Rattle.csv.specs.declared.RowRead.{RowRead}
 use Rattle.csv.specs.declared.RowRead.the-variants.{Row, Faulty, Endless, More, Nothing}
 use Rattle.csv.specs.declared.Skipped.{Skipped}
-use Rattle.csv.specs.declared.Skipped.the-variants.{Ended, On, Wait as Unknown, Over as NoMore}
+use Rattle.csv.specs.declared.Skipped.the-variants.{Wait as Unknown}
 use Rattle.csv.specs.Reader.{byteOf}
 use Rattle.csv.specs.Answers.{answer, skipped}
 use Rattle.csv.proofs.Stable.{stays}

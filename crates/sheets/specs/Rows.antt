@@ -1,6 +1,6 @@
 -- What is said of a row: its lines, and what it counts. A row is given by the own bytes of its cells.
 use Prim.Native.Nat.{ℕ}
-use mathlib.Core.Bool.{Bool, true, false, not, _||_}
+use mathlib.Core.Bool.{Bool, false, _||_}
 use mathlib.Core.List.{List, [], _++_}
 use lib.Dec.{eqb, ltb}
 use lib.ListN.{length, getD, take}
@@ -14,7 +14,6 @@ use Rattle.verdicts.specs.Windows.{isWindowed}
 use Rattle.verdicts.specs.Fields.{cells, sixVerdict}
 use Rattle.findings.specs.declared.Column.{Column}
 use Rattle.findings.specs.declared.Column.the-variants.{Date, Origdate, Eventdate, Urldate}
-use Rattle.headers.specs.declared.RowFault.{RowFault}
 use Rattle.headers.specs.declared.RowFault.the-variants.{Cells, BadUtf8, LongCell}
 use Rattle.findings.specs.Lines.{dateLine, sixLine, badRowLine}
 use Rattle.headers.specs.declared.Columns.{Columns}

@@ -2,9 +2,7 @@
 use Prim.Native.Nat.{ℕ, _+_}
 use mathlib.Core.Bool.{Bool}
 use mathlib.Core.List.{List, []}
-use lib.Dec.{ltb}
-use lib.ListN.{length, take, drop}
-use Rattle.chars.specs.Pick.{pick}
+use lib.ListN.{take}
 use Rattle.runs.specs.Steps.{Outcome}
 use Rattle.runs.specs.Steps.Outcome.{wait, took, over}
 use Rattle.csv.specs.declared.Separator.the-variants.{Comma}

@@ -1,5 +1,5 @@
 -- What is counted: rows, and their dates by what is said of them. Numbers are of 32 bits, and stay at the largest.
-use Prim.Native.Nat.{ℕ, _+_}
+use Prim.Native.Nat.{_+_}
 use Rattle.verdicts.specs.declared.Verdict.{Verdict}
 use Rattle.verdicts.specs.declared.Verdict.the-variants.{NoDate, Full, NotStrict, ShortYear, Unread, Refused}
 use Rattle.findings.specs.Words.{capped}

@@ -2,19 +2,15 @@
 // a step takes a block and fills a lent buffer.
 ghost use mathlib.Core.Path.{_≡_};
 ghost use mathlib.Core.Bool.{true, false};
-ghost use mathlib.Core.List.{List, [], _++_};
-ghost use Prim.Native.Nat.{ℕ, _+_, _≤_, _<_};
-ghost use lib.ListN.{length, take, drop};
+ghost use Prim.Native.Nat.{_+_, _≤_, _<_};
+ghost use lib.ListN.{length, take};
 ghost use Rattle.csv.specs.Texts.{undoubled};
 ghost use Rattle.csv.specs.Reader as reader_;
 ghost use Rattle.csv.specs.Answers as csv_;
-ghost use Rattle.csv.specs.Bytes as bytes_;
 ghost use Rattle.verdicts.specs.Dates.{dateVerdict};
-ghost use Rattle.verdicts.specs.Fields as six;
 ghost use Rattle.findings.specs.Words.{capped};
 ghost use Rattle.findings.specs.Lines as lines_;
 ghost use Rattle.headers.specs.Tables as tables;
-ghost use Rattle.headers.specs.Header as header_;
 ghost use Rattle.sheets.specs.Tallies as tallies;
 ghost use Rattle.sheets.specs.Rows as rows_;
 ghost use Rattle.sheets.specs.Steps as steps_;

@@ -1,11 +1,8 @@
 use Rattle.chars.specs.Classes.{isWhitespace}
-use Rattle.chars.specs.Utf8.{code2}
 use Rattle.chunks.specs.Characters.{codes}
 use Rattle.chunks.proofs.Lasts.{last-none, last-low, last-pair}
-use lib.ListN.{length, getD}
-use Prim.Native.Nat.{_+_, _-_, _*_, _%_}
 use native.Mathlib.Omega.{arith}
-use mathlib.Core.Path.{_≡_, sym, ap, _∙_}
+use mathlib.Core.Path.{sym, ap, _∙_}
 use borrow.Author.Needs.{needs}
 use Rattle.chunks.proofs.last_white.Statement.{statement}
 use Rattle.chunks.proofs.last_white.Tie as tie

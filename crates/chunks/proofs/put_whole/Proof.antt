@@ -5,8 +5,6 @@ use Rattle.chunks.proofs.Whole.{unbroken-plain, unbroken-upper, unbroke
 use lib.Seq.{sets, length-take-le}
 use lib.ListN.{length}
 use mathlib.Core.Bool.{Bool, false, true}
-use mathlib.Core.List.{List}
-use Prim.Native.Nat.{ℕ}
 use native.Mathlib.Omega.{arith}
 use mathlib.Core.Path.{_≡_, sym, ap, _∙_}
 use borrow.Author.Needs.{needs}

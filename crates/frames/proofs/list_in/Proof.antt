@@ -1,4 +1,4 @@
-use mathlib.Core.Path.{sym, _∙_}
+use mathlib.Core.Path.{sym}
 use lib.Seq.{length-take-le}
 use Rattle.frames.proofs.Parts.{same-list, asks, text-in, table-in, text-is, table-is}
 use Rattle.frames.proofs.Said.{carried}

@@ -1,6 +1,5 @@
-use mathlib.Core.Path.{_≡_, sym, _∙_}
+use mathlib.Core.Path.{sym, _∙_}
 use native.Mathlib.Omega.{arith}
-use Rattle.frames.specs.Frame.{dayAt}
 use Rattle.frames.proofs.Parts.{three-of, formed-read, unformed-read}
 use Rattle.frames.proofs.Said.{carried}
 use borrow.Author.Needs.{needs}

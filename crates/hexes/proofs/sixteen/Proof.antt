@@ -1,10 +1,8 @@
 use mathlib.Core.Path.{_≡_, refl, _∙_}
-use Prim.Native.Nat.{ℕ, _+_, _-_, _*_, _≤_, _<_}
+use Prim.Native.Nat.{ℕ, _+_, _-_, _≤_, _<_}
 use native.Mathlib.Omega.{arith}
 use lib.ListN.{length, getD, length-set}
-use Rattle.hexes.specs.Hex.{digitOf}
 use Rattle.hexes.proofs.Laws.{byteAt, one-more}
-use borrow.Author.Needs.{needs}
 use Rattle.hexes.proofs.sixteen.Statement.{statement}
 use Rattle.hexes.proofs.sixteen.Tie as tie
 

@@ -6,7 +6,7 @@ use native.Mathlib.Decide.{decLt}
 use native.Mathlib.Omega.{arith}
 use borrow.Author.Tests.{ltb-true}
 use lib.Dec.{ltb}
-use lib.ListN.{length, getD}
+use lib.ListN.{getD}
 use Rattle.chars.proofs.Cases.{and-true}
 use Rattle.scanner.proofs.Laws.{not-white}
 use Rattle.numbers.proofs.Trims.{over-ascii}

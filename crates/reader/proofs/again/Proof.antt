@@ -1,5 +1,4 @@
 use mathlib.Core.Path.{refl}
-use borrow.Author.Needs.{needs}
 use Rattle.reader.proofs.again.Statement.{statement}
 use Rattle.reader.proofs.again.Tie as tie
 

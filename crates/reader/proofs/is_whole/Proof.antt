@@ -1,6 +1,4 @@
-use mathlib.Core.Path.{_≡_, refl, sym, _∙_}
-use mathlib.Core.Bool.{true, _||_}
-use Rattle.codes.specs.Lists.{isJoined}
+use mathlib.Core.Path.{refl, sym, _∙_}
 use borrow.Author.Needs.{needs}
 use Rattle.reader.proofs.is_whole.Statement.{statement}
 use Rattle.reader.proofs.is_whole.Tie as tie

@@ -1,4 +1,4 @@
-use mathlib.Core.Path.{_≡_, refl, sym, _∙_}
+use mathlib.Core.Path.{_∙_}
 use native.Mathlib.Omega.{arith}
 use Rattle.chunks.specs.Lent.{Three, lent, optional, three}
 use Rattle.codes.specs.Words.{wordsOr}

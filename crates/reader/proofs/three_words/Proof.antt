@@ -1,4 +1,4 @@
-use Rattle.chunks.specs.Lent.{Three, lent, optional, three}
+use Rattle.chunks.specs.Lent.{lent, optional, three}
 use Rattle.reading_laws.specs.Fields.{threeFields}
 use Rattle.codes.specs.Lists.{listThree}
 use Rattle.code_laws.proofs.Three.{three-said, three-typed}
