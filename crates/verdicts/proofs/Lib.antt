@@ -7,4 +7,10 @@ pub mod Means
 pub mod SixMeans
 pub mod Written
 pub mod Unread
+pub mod Fronts
+pub mod Formed
+pub mod Raised
+pub mod Cut
+pub mod Windowed
+pub mod Years
 pub mod Examples

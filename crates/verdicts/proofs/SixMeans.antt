@@ -187,7 +187,7 @@ six-reads : (start end : Cells) → Plainly start → Plainly end → behindBlan
 unfolding sixRead sixFields
 six-reads start end p q k = on-start start end q k (three-of start p)
 
-or-false : (a b : Bool) → a || b ≡ false → (a ≡ false) × (b ≡ false)
+pub or-false : (a b : Bool) → a || b ≡ false → (a ≡ false) × (b ≡ false)
 or-false true b e = absurd (false≢true (sym e))
 or-false false b e = (refl, e)
 
