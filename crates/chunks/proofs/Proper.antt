@@ -50,7 +50,8 @@ spells-append : {cs ds : List ℕ} → Spells cs → Spells ds → Spells (cs ++
 spells-append spells-none d = d
 spells-append (spells-more s r) d = spells-more s (spells-append r d)
 
-encode-append : (cs ds : List ℕ) → encodeAll (cs ++ ds) ≡ encodeAll cs ++ encodeAll ds
+-- the bytes of two lists of codes
+pub encode-append : (cs ds : List ℕ) → encodeAll (cs ++ ds) ≡ encodeAll cs ++ encodeAll ds
 unfolding encodeAll
 encode-append [] ds = refl
 encode-append (c ∷ cs) ds = rw (encode-append cs ds) (sym (append-assoc (encode c) (encodeAll cs) (encodeAll ds)))
@@ -64,7 +65,7 @@ unfolding andThen
 spelled-characters c r s = characters-are (encode c ++ r) ∙ rw (s .reads r, drop-append-seam (encode c) r)
 
 -- the codes of such bytes are those codes
-spelled-codes : {cs : List ℕ} → Spells cs → codes (encodeAll cs) ≡ cs
+pub spelled-codes : {cs : List ℕ} → Spells cs → codes (encodeAll cs) ≡ cs
 unfolding codes codesOf encodeAll
 spelled-codes spells-none = rw no-characters
 spelled-codes (spells-more {c} {cs} s r) =

@@ -22,11 +22,11 @@ use Rattle.scanner.proofs.Front.{From, from-start, front-past}
 use Rattle.scanner.proofs.Walk.{walk-kept, walk-ended}
 use Rattle.numbers.specs.Trim.{stepBy, stepOver, trimStep, trimFrom, trimEnd}
 use Rattle.numbers.proofs.Trims.{step-fits}
-use Rattle.chunks.proofs.Proper.{Spelled, Spells, spells-none, spells-more}
+use Rattle.chunks.proofs.Proper.{Spelled, Spells, spells-none, spells-more, encode-append}
 use Rattle.datefield.specs.Text.{trimmed, lastByte, isUncertain, isApproximate, unmarked}
 use Rattle.roundtrip_laws.proofs.Bytes.{Each, each-append, each-at, each-of}
 use Rattle.roundtrip_laws.proofs.Bytes.Each.{none, more}
-use Rattle.verdicts.proofs.Fronts.{before, behind, has, front, skip, skipOne, number, apart, front-skip, eaten, eaten-to, skip-spells, encode-append, char-at, char-some}
+use Rattle.verdicts.proofs.Fronts.{before, behind, has, front, skip, skipOne, number, apart, front-skip, eaten, eaten-to, skip-spells, char-at, char-some}
 use Rattle.verdicts.proofs.Formed.{White, numeric-solid, sign-solid}
 
 -- ---- what is cut does not count

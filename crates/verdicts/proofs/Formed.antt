@@ -19,10 +19,10 @@ use Rattle.scanner.specs.declared.Class.the-variants.{Whitespace, Numeric, Sign
 use Rattle.scanner.specs.Class.{inClass}
 use Rattle.chunks.specs.Format.{isBreak, oneOut, normal}
 use Rattle.chunks.proofs.Plains.{break-white}
-use Rattle.chunks.proofs.Proper.{Spells, spells-none, spells-more, spelled-ascii}
+use Rattle.chunks.proofs.Proper.{Spells, spells-none, spells-more, encode-append, spelled-ascii}
 use Rattle.roundtrip_laws.proofs.Bytes.{Each}
 use Rattle.roundtrip_laws.proofs.Bytes.Each.{none, more}
-use Rattle.verdicts.proofs.Fronts.{before, behind, has, front, skip, skipOne, number, Not, before-past, behind-past, has-past, encode-append}
+use Rattle.verdicts.proofs.Fronts.{before, behind, has, front, skip, skipOne, number, Not, before-past, behind-past, has-past}
 
 -- what a character of a cell becomes: a line break a space, or nothing behind white space
 abbrev pub oneCode : Bool → ℕ → List ℕ

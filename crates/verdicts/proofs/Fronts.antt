@@ -2,7 +2,7 @@
 -- Assumes nothing.
 use mathlib.Core.Path.{_≡_, refl, sym, ap, _∙_}
 use mathlib.Core.Bool.{Bool, true, false, _&&_, _||_}
-use mathlib.Core.List.{List, [], _∷_, _++_, append-assoc}
+use mathlib.Core.List.{List, [], _∷_, _++_}
 use Prim.Native.Nat.{ℕ, suc, _+_, _/_, _%_, _≤_, _<_, compare·suc-suc}
 use native.Mathlib.Decide.{decLt}
 use native.Mathlib.Nat.{add-zero}
@@ -31,7 +31,7 @@ use Rattle.numbers.specs.declared.ParsedNumber.{ParsedNumber}
 use Rattle.numbers.specs.declared.ParsedNumber.the-variants.{Value, NoValue}
 use Rattle.numbers.specs.Parse.{digitsFrom}
 use Rattle.numbers.specs.Number.{cursor, admits, runValue, runOf, orKept, behindSign, withSign, signedAt, signedRun, intOf, parseInt}
-use Rattle.chunks.proofs.Proper.{Spelled, Spells, spells-none, spells-more}
+use Rattle.chunks.proofs.Proper.{Spelled, Spells, spells-none, spells-more, encode-append}
 use Rattle.datefield.specs.Text.{firstOf}
 use Rattle.roundtrip_laws.proofs.Bytes.{Each}
 use Rattle.roundtrip_laws.proofs.Bytes.Each.{none, more}
@@ -230,12 +230,6 @@ module _ (k : Class) where
       of-test (inClass k c)
       (λ t. rw t (char-go (encodeAll cs) p f k t ∙ eaten-to r (from-behind (encode c) f) ∙ omega (arith, length-append (encode c) (encodeAll (front k cs)))))
       (λ t. rw t (char-stop (encodeAll cs) p f k t ∙ sym (add-zero i)))
-
--- the bytes of two lists of codes
-pub encode-append : (cs ds : List ℕ) → encodeAll (cs ++ ds) ≡ encodeAll cs ++ encodeAll ds
-unfolding encodeAll
-encode-append [] ds = refl
-encode-append (c ∷ cs) ds = rw (encode-append cs ds) (sym (append-assoc (encode c) (encodeAll cs) (encodeAll ds)))
 
 -- behind a sign
 no-sign : (s : List ℕ) (i : ℕ) → length s ≤ i → behindSign s i ≡ i

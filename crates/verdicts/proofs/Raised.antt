@@ -23,8 +23,8 @@ use Rattle.scanner.specs.Class.{inClass}
 use Rattle.scanner.proofs.Digits.{above-digits, no-numeric}
 use Rattle.scanner.proofs.Laws.{not-white}
 use Rattle.chunks.specs.Upper.{upperOut, uppers}
-use Rattle.chunks.proofs.Proper.{Spelled, Spells, spells-none, spells-more, spelled-ascii}
-use Rattle.verdicts.proofs.Fronts.{before, behind, has, front, skip, skipOne, number, encode-append}
+use Rattle.chunks.proofs.Proper.{Spelled, Spells, spells-none, spells-more, encode-append, spelled-ascii}
+use Rattle.verdicts.proofs.Fronts.{before, behind, has, front, skip, skipOne, number}
 
 -- a character that is none of those that count for the front or the slash
 pub record Letter (c : ℕ) : Type 0 where

@@ -3,16 +3,15 @@
 use Prim.Native.Nat.{ℕ, _+_, _<_}
 use mathlib.Core.Path.{_≡_, refl, sym, ap, subst, _∙_}
 use mathlib.Core.Bool.{Bool, true, false, not, _&&_, _||_}
-use mathlib.Core.List.{List, [], _∷_, _++_, append-nil}
+use mathlib.Core.List.{List, [], _∷_, append-nil}
 use native.Mathlib.Omega.{arith}
 use borrow.Author.Tests.{leb-true, ltb-false, eqb-true}
 use lib.Dec.{eqb, lit<}
 use lib.ListN.{length, getD, take, drop-of-length-le}
-use lib.Seq.{take-all, drop-append-seam}
+use lib.Seq.{take-all}
 use Rattle.chars.specs.Pick.{pick}
 use Rattle.chars.specs.Classes.{within, isWhitespace, isAsciiDigit, isNumeric}
-use Rattle.chars.specs.Utf8.{lenOf, decode, first, decodeAt, encode, encodeAll}
-use Rattle.chars.specs.declared.Decoded.the-variants.{Char}
+use Rattle.chars.specs.Utf8.{lenOf, decode, first, decodeAt, encodeAll}
 use Rattle.chars.proofs.Cases.{of-test, and-true}
 use Rattle.chars.proofs.Spelled.{entries}
 use Rattle.scanner.specs.Class.{inClass}
@@ -26,15 +25,13 @@ use Rattle.refusals.specs.declared.ReadDate.the-variants.{Accepted}
 use Rattle.dates.specs.declared.Date.{Date}
 use Rattle.chunks.specs.declared.Checked.{Checked}
 use Rattle.chunks.specs.declared.Checked.the-variants.{Clean, Faulty}
-use Rattle.chunks.specs.Characters.{andThen, characters, codesOf, codes}
+use Rattle.chunks.specs.Characters.{codes}
 use Rattle.chunks.specs.Chunks.{chunksOf}
 use Rattle.chunks.specs.Check.{faultOf, checked}
 use Rattle.chunks.specs.Format.{isBreak, normal, chunkOut, chunksOut, formatted}
 use Rattle.chunks.specs.Upper.{uppers, uppercase}
 use Rattle.chunks.proofs.Answers.{clean-faultless}
-use Rattle.chunks.proofs.Plains.{no-characters}
-use Rattle.chunks.proofs.Proper.{Spells, spells-none, spells-more, Proper, proper-text}
-use Rattle.chunks.proofs.Walk.{characters-are}
+use Rattle.chunks.proofs.Proper.{Spells, spells-none, spells-more, spelled-codes, Proper, proper-text}
 use Rattle.points.specs.Point.{windowedInt, shortYear}
 use Rattle.datefield.specs.Text.{firstOf, isBlank, isDots, isOpen, trimmed, unmarked}
 use Rattle.reading_laws.specs.Field.{onClean, parsed}
@@ -47,14 +44,6 @@ use Rattle.verdicts.proofs.Raised.{upperAll, upper-bytes, upper-spells,
 use Rattle.verdicts.proofs.Cut.{Cut, text-cut, spells-front, before-cut, behind-cut, has-cut}
 
 -- ---- the reader's text, by codes
-
-codes-of : {cs : List ℕ} → Spells cs → codes (encodeAll cs) ≡ cs
-unfolding codes codesOf encodeAll andThen
-codes-of spells-none = rw no-characters
-codes-of (spells-more {c} {cs} p r) =
-    let here : characters (encode c ++ encodeAll cs) ≡ Char c (length (encode c)) ∷ characters (encodeAll cs) =
-    characters-are (encode c ++ encodeAll cs) ∙ rw (p .reads (encodeAll cs), drop-append-seam (encode c) (encodeAll cs)) in
-    rw here (ap (λ (l : List ℕ). c ∷ l) (codes-of r))
 
 -- a cell without a fault is the bytes of codes, as a Verbatim chunk of it shows
 proper-cell : (s : List ℕ) → checked s (cellTable s) ≡ Clean → Proper s
@@ -70,8 +59,8 @@ formatted-cell s = append-nil (normal false (codes (take (length s) s))) ∙ ap 
 upper-cell : {cs : List ℕ} → Spells cs → uppercase (formatted (encodeAll cs) (cellTable (encodeAll cs))) ≡ encodeAll (upperAll (plainCodes false cs))
 unfolding uppercase
 upper-cell {cs} p =
-    let f = formatted-cell (encodeAll cs) ∙ ap (normal false) (codes-of p) ∙ normal-bytes false cs in
-    ap (λ (t : List ℕ). uppers (codes t)) f ∙ ap uppers (codes-of (plain-spells false p)) ∙ upper-bytes (plainCodes false cs)
+    let f = formatted-cell (encodeAll cs) ∙ ap (normal false) (spelled-codes p) ∙ normal-bytes false cs in
+    ap (λ (t : List ℕ). uppers (codes t)) f ∙ ap uppers (spelled-codes (plain-spells false p)) ∙ upper-bytes (plainCodes false cs)
 
 -- ---- what the reader puts, in the words of what is said of a cell
 
