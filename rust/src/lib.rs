@@ -678,12 +678,14 @@ impl Display for Date {
 }
 
 /// Shows the text of a date; the writer that has no seasons refuses one.
+#[inline(always)] // the date is handed on in registers then
 fn show(date: ffi::Date, f: &mut Formatter) -> fmt::Result {
     let mut out = [0; Date::LEVEL_ONE_ROOM];
-    if let Ok(text) = ffi::write_date(date, &mut out) {
-        return f.pad(text);
+    match ffi::write_date(date, &mut out) {
+        Ok(text) if f.width().is_none() && f.precision().is_none() => f.write_str(text),
+        Ok(text) => f.pad(text),
+        Err(_) => f.pad(ffi::write_level_one(date, &mut out).unwrap_or(NO_TEXT)),
     }
-    f.pad(ffi::write_level_one(date, &mut out).unwrap_or(NO_TEXT))
 }
 
 /// What is shown of a date that has no text.
