@@ -10,7 +10,7 @@ use Rattle.chars.specs.Ascii.{ascii}
 use Rattle.dates.specs.declared.OptionDay.the-variants.{NoDay}
 use Rattle.dates.specs.declared.OptionTime.the-variants.{NoTime}
 use Rattle.dates.specs.declared.OptionSeason.the-variants.{Spring}
-use Rattle.dates.specs.declared.DateValue.the-variants.{At}
+use Rattle.dates.specs.declared.DateValue.the-variants.{At, Between}
 use Rattle.dates.specs.declared.Date.{Date}
 use Rattle.dates.specs.Value.{month, day, datetime, seasonOf, date}
 use Rattle.refusals.specs.declared.Kind.{Kind}
@@ -73,9 +73,12 @@ pub record DateExample : Type 0 where
   pub windowed : Bool
   pub text : String
 
--- a day, a Date that the writer panics at, and one that it refuses
+-- a day, the days of a month as the ported reader has them, a Date that the writer panics at, and one that it refuses
 abbrev someDay : Date
 someDay = date (At (datetime (pos 1951) (month 6) (day 2) NoTime)) false false
+
+abbrev monthDays : Date
+monthDays = date (Between (datetime (pos 2000) (month 1) (day 0) NoTime) (datetime (pos 2000) (month 1) (day 30) NoTime)) false false
 
 abbrev tooLate : Date
 tooLate = date (At (datetime (pos 1951) (month 255) NoDay NoTime)) false false
@@ -88,6 +91,7 @@ dateLines =
     record { line = 1; key = "k"; column = DateColumn; cell = ""; verdict = NoDate; windowed = false; text = "" }
     ∷ record { line = 1; key = "k"; column = DateColumn; cell = "1951-07-03"; verdict = Full; windowed = false; text = "" }
     ∷ record { line = 2; key = "smith"; column = DateColumn; cell = "51-07-03"; verdict = ReadOtherwise someDay; windowed = true; text = "2\tsmith\tdate\t\"51-07-03\"\tnot strict\tnot a full date; the typesetting run would print 1951-07-03; a year of two digits is put into a century\n" }
+    ∷ record { line = 3; key = "k"; column = DateColumn; cell = "2000-02-XX"; verdict = ReadOtherwise monthDays; windowed = false; text = "3\tk\tdate\t\"2000-02-XX\"\tnot strict\tnot a full date; the typesetting run would print 2000-02-01/2000-02-31\n" }
     ∷ record { line = 4294967295; key = ""; column = Origdate; cell = "1951-7-3"; verdict = ReadOtherwise someDay; windowed = false; text = "4294967295\t\torigdate\t\"1951-7-3\"\tnot strict\tnot a full date; the typesetting run would print 1951-07-03\n" }
     ∷ record { line = 10; key = "a\tb"; column = Eventdate; cell = "say \"1951\""; verdict = Refused (refusal InvalidNumber (fileSpan 0 3)); windowed = true; text = "10\ta\\x09b\teventdate\t\"say \\\"1951\\\"\"\trefused\tnot a number, or out of its range, at 0..3\n" }
     ∷ record { line = 11; key = "k"; column = Urldate; cell = "51"; verdict = ShortYear someDay; windowed = true; text = "11\tk\turldate\t\"51\"\tshort year\ta year of fewer than four digits is read as it stands; the typesetting run would print 1951-07-03\n" }

@@ -39,7 +39,7 @@ use Rattle.csv.specs.Bytes.{oneIf, feeds, utf8From, utf8End}
 use Rattle.csv.proofs.Whole.{accepted}
 use Rattle.verdicts.specs.declared.Verdict.{Verdict}
 use Rattle.verdicts.specs.declared.Verdict.the-variants.{NoDate, Full, NotStrict, ShortYear, Unread, Refused}
-use Rattle.verdicts.specs.Dates.{otherwise, byReaders, dateVerdict}
+use Rattle.verdicts.specs.Dates.{byReaders, dateVerdict}
 use Rattle.verdicts.specs.Fields.{someGiven, dayAlone, isUnread, givenVerdict, sixVerdict}
 use Rattle.headers.specs.declared.RowFault.the-variants.{Cells, BadUtf8, LongCell}
 use Rattle.findings.specs.Escapes.{isHidden, isMarked, shownByte, escaped, quoted}
@@ -189,11 +189,11 @@ abbrev row : List (List ℕ)
 row = ascii "k\"\"1" ∷ euro ∷ euro ∷ euro ∷ euro ∷ ascii "1749" ∷ [] ∷ ascii "4" ∷ [] ∷ [] ∷ [] ∷ []
 
 pub row-said : rowSaid 5 all row ≡ (ascii "5\tk\\\"1\tdate\t\"" ++ euro ++ ascii "\"\trefused\ta character that no date has, at 0..3\n") ++ (ascii "5\tk\\\"1\torigdate\t\"" ++ euro ++ ascii "\"\trefused\ta character that no date has, at 0..3\n") ++ (ascii "5\tk\\\"1\teventdate\t\"" ++ euro ++ ascii "\"\trefused\ta character that no date has, at 0..3\n") ++ (ascii "5\tk\\\"1\turldate\t\"" ++ euro ++ ascii "\"\trefused\ta character that no date has, at 0..3\n") ++ ascii "5\tk\\\"1\tyear\tyear \"1749\", day \"4\"\trefused\ta part is not read: a day needs its month, an end its year\n"
-unfolding rowSaid linesBy datesSaid dateSaid windowedIf sixSaid sixOf keyColumn undoubled dateVerdict byReaders otherwise parsed parsedStrict onClean listChecked faultOf orElse faultIn characters charsUpTo andThen fits isShort lengths kindsKnown chunksOf isAdmitted within sixVerdict givenVerdict isUnread dayAlone someGiven dateLine sixLine sixText namedCell stillFirst verdictLine columnName finding sort message isSaid refusalWords kindWords placeWords capped quoted escaped shownByte isHidden isMarked refusal decimal width digitCount count first decodeAt decode decode2 decode3 decode4 lenOf isCont isSurrogate lenD pick
+unfolding rowSaid linesBy datesSaid dateSaid windowedIf sixSaid sixOf keyColumn undoubled dateVerdict byReaders parsed parsedStrict onClean listChecked faultOf orElse faultIn characters charsUpTo andThen fits isShort lengths kindsKnown chunksOf isAdmitted within sixVerdict givenVerdict isUnread dayAlone someGiven dateLine sixLine sixText namedCell stillFirst verdictLine columnName finding sort message isSaid refusalWords kindWords placeWords capped quoted escaped shownByte isHidden isMarked refusal decimal width digitCount count first decodeAt decode decode2 decode3 decode4 lenOf isCont isSurrogate lenD pick
 row-said = refl
 
 pub row-counted : rowCounted all row (tally 1 0 0 0 0) ≡ tally 1 0 0 5 0
-unfolding rowCounted datesCounted sixOf undoubled dateVerdict byReaders otherwise parsed parsedStrict onClean listChecked faultOf orElse faultIn characters charsUpTo andThen fits isShort lengths kindsKnown chunksOf isAdmitted within sixVerdict givenVerdict isUnread dayAlone someGiven oneDate oneRefused capped refusal first decodeAt decode decode2 decode3 decode4 lenOf isCont isSurrogate lenD pick
+unfolding rowCounted datesCounted sixOf undoubled dateVerdict byReaders parsed parsedStrict onClean listChecked faultOf orElse faultIn characters charsUpTo andThen fits isShort lengths kindsKnown chunksOf isAdmitted within sixVerdict givenVerdict isUnread dayAlone someGiven oneDate oneRefused capped refusal first decodeAt decode decode2 decode3 decode4 lenOf isCont isSurrogate lenD pick
 row-counted = refl
 
 -- of a row whose cells are empty nothing is said or counted but the row

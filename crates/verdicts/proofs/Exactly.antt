@@ -5,6 +5,7 @@ use mathlib.Core.List.{List, [], _∷_}
 use mathlib.Core.Logic.{_↔_}
 use Prim.Native.Nat.{ℕ}
 use native.Mathlib.Omega.{arith}
+use lib.ListN.{length}
 use Rattle.chars.specs.Pick.{pick}
 use Rattle.chars.proofs.Cases.{by-test, and-true}
 use Rattle.dates.specs.declared.Date.{Date}
@@ -14,50 +15,47 @@ use Rattle.refusals.specs.declared.ReadDate.the-variants.{Accepted, Refused as 
 use Rattle.reading_laws.specs.Field.{parsed, parsedStrict}
 use Rattle.verdicts.specs.declared.Verdict.{Verdict}
 use Rattle.verdicts.specs.declared.Verdict.the-variants.{NoDate, Full, NotStrict, ShortYear, Unread, Refused}
-use Rattle.verdicts.specs.Dates.{cellTable, otherwise, byReaders, dateVerdict}
+use Rattle.verdicts.specs.Dates.{cellTable, byReaders, dateVerdict}
 use Rattle.verdicts.specs.Plain.{isStrict}
 use Rattle.verdicts.specs.Fields.{Cells, someGiven, isUnread, sixRead, eitherFew, bothPlain, verdictOf, readVerdict, givenVerdict, sixVerdict}
+use Rattle.verdicts.proofs.Both.{Both, both, full-of}
+use Rattle.verdicts.proofs.Both.Both.{agreed, differs, alone, neither}
 use Rattle.verdicts.proofs.Said.{asked}
 use Rattle.verdicts.proofs.Empty.{empty-strict, empty-ported}
 
 -- ---- a date in one cell
 
--- what the readers answered, by the verdict: x is the strict one's, y the ported one's
-full-if : (x y : ReadDate) → byReaders x y ≡ Full → (d : Date) × (x ≡ Accepted d)
-unfolding byReaders otherwise
-full-if (Accepted d) y e = (d, refl)
-full-if (NotRead f) (Accepted a) e = absurd (let z : _≡_ {A = ℕ} 0 1 = cc in omega arith)
-full-if (NotRead f) (NotRead g) e = absurd (let z : _≡_ {A = ℕ} 0 1 = cc in omega arith)
+-- what the readers answered, by the verdict
+full-if : {x y : ReadDate} → Both x y Full → (d : Date) × (x ≡ Accepted d) × (y ≡ Accepted d)
+full-if (agreed {d}) = (d, refl, refl)
 
-full-of : {x : ReadDate} (y : ReadDate) {d : Date} → x ≡ Accepted d → byReaders x y ≡ Full
+strict-if : {x y : ReadDate} {d : Date} → Both x y (NotStrict d) → (y ≡ Accepted d) × (x ≡ Accepted d → ⊥)
+strict-if (differs n) = (refl, λ e. n cc)
+strict-if alone = (refl, λ e. absurd (let z : _≡_ {A = ℕ} 0 1 = cc in omega arith))
+
+refused-if : {x y : ReadDate} {e : Refusal} → Both x y (Refused e) → ((f : Refusal) × (x ≡ NotRead f)) × (y ≡ NotRead e)
+refused-if (neither {f}) = ((f, refl), refl)
+
+none-if : {x y : ReadDate} {v : Verdict} → Both x y v → v ≡ NoDate → ⊥
+none-if agreed e = let z : _≡_ {A = ℕ} 0 1 = cc in omega arith
+none-if (differs n) e = let z : _≡_ {A = ℕ} 0 1 = cc in omega arith
+none-if alone e = let z : _≡_ {A = ℕ} 0 1 = cc in omega arith
+none-if neither e = let z : _≡_ {A = ℕ} 0 1 = cc in omega arith
+
+-- and the verdict, by what they answered
+strict-of : {x y : ReadDate} {v : Verdict} (d : Date) → Both x y v → y ≡ Accepted d → (x ≡ Accepted d → ⊥) → v ≡ NotStrict d
+strict-of d agreed e n = absurd (n e)
+strict-of d (differs k) e n = cc
+strict-of d alone e n = cc
+strict-of d neither e n = absurd (let z : _≡_ {A = ℕ} 0 1 = cc in omega arith)
+
+refused-of : (x : ReadDate) {y : ReadDate} (e : Refusal) → y ≡ NotRead e → byReaders x y ≡ Refused e
 unfolding byReaders
-full-of y e = rw e
+refused-of x e q = rw q
 
-strict-if : (x y : ReadDate) (d : Date) → byReaders x y ≡ NotStrict d → ((e : Refusal) × (x ≡ NotRead e)) × (y ≡ Accepted d)
-unfolding byReaders otherwise
-strict-if (Accepted a) y d e = absurd (let z : _≡_ {A = ℕ} 0 1 = cc in omega arith)
-strict-if (NotRead f) (Accepted a) d e = ((f, refl), cc)
-strict-if (NotRead f) (NotRead g) d e = absurd (let z : _≡_ {A = ℕ} 0 1 = cc in omega arith)
-
-strict-of : {x y : ReadDate} {e : Refusal} (d : Date) → x ≡ NotRead e → y ≡ Accepted d → byReaders x y ≡ NotStrict d
-unfolding byReaders otherwise
-strict-of d p q = rw (p, q)
-
-refused-if : (x y : ReadDate) (e : Refusal) → byReaders x y ≡ Refused e → ((f : Refusal) × (x ≡ NotRead f)) × (y ≡ NotRead e)
-unfolding byReaders otherwise
-refused-if (Accepted a) y e h = absurd (let z : _≡_ {A = ℕ} 0 1 = cc in omega arith)
-refused-if (NotRead f) (Accepted a) e h = absurd (let z : _≡_ {A = ℕ} 0 1 = cc in omega arith)
-refused-if (NotRead f) (NotRead g) e h = ((f, refl), cc)
-
-refused-of : {x y : ReadDate} {f : Refusal} (e : Refusal) → x ≡ NotRead f → y ≡ NotRead e → byReaders x y ≡ Refused e
-unfolding byReaders otherwise
-refused-of e p q = rw (p, q)
-
-none-if : (x y : ReadDate) → byReaders x y ≡ NoDate → ⊥
-unfolding byReaders otherwise
-none-if (Accepted a) y h = let z : _≡_ {A = ℕ} 0 1 = cc in omega arith
-none-if (NotRead f) (Accepted a) h = let z : _≡_ {A = ℕ} 0 1 = cc in omega arith
-none-if (NotRead f) (NotRead g) h = let z : _≡_ {A = ℕ} 0 1 = cc in omega arith
+-- the readers' answers and the verdict of a cell that is not empty
+answered : (s : List ℕ) → (length s ≡ 0 → ⊥) → {v : Verdict} → dateVerdict s ≡ v → Both (parsedStrict s (cellTable s)) (parsed s (cellTable s)) v
+answered s n e = subst (Both (parsedStrict s (cellTable s)) (parsed s (cellTable s))) (sym (asked s n) ∙ e) (both s)
 
 empty : dateVerdict [] ≡ NoDate
 unfolding dateVerdict pick
@@ -67,29 +65,29 @@ empty = refl
 pub no-date : (s : List ℕ) → (dateVerdict s ≡ NoDate) ↔ (s ≡ [])
 no-date [] = (λ e. refl, λ e. empty)
 no-date (b ∷ t) = (
-  λ e. absurd (none-if _ _ (sym (asked (b ∷ t) (λ z. absurd (omega arith))) ∙ e)),
+  λ e. absurd (none-if (answered (b ∷ t) (λ z. absurd (omega arith)) e) refl),
   λ e. absurd (let z : _≡_ {A = ℕ} 0 1 = cc in omega arith),
 )
 
--- a cell is full exactly if the strict reader accepts it
-pub full : (s : List ℕ) → (dateVerdict s ≡ Full) ↔ ((d : Date) × (parsedStrict s (cellTable s) ≡ Accepted d))
+-- a cell is full exactly if both readers give one and the same Date
+pub full : (s : List ℕ) → (dateVerdict s ≡ Full) ↔ ((d : Date) × (parsedStrict s (cellTable s) ≡ Accepted d) × (parsed s (cellTable s) ≡ Accepted d))
 full [] = (
   λ e. absurd (let f = empty in let z : _≡_ {A = ℕ} 0 1 = cc in omega arith),
   λ p. absurd (empty-strict (p .1)),
 )
 full (b ∷ t) =
-    let a = asked (b ∷ t) (λ z. absurd (omega arith)) in
-    (λ e. full-if _ _ (sym a ∙ e), λ p. a ∙ full-of _ (p .1))
+    let n : length (b ∷ t) ≡ 0 → ⊥ = λ z. absurd (omega arith) in
+    (λ e. full-if (answered (b ∷ t) n e), λ p. asked (b ∷ t) n ∙ full-of (p .1) (p .2))
 
--- it is not strict and says a Date exactly if the strict reader refuses it and the ported one gives that Date
-pub not-strict : (s : List ℕ) (d : Date) → (dateVerdict s ≡ NotStrict d) ↔ (((e : Refusal) × (parsedStrict s (cellTable s) ≡ NotRead e)) × (parsed s (cellTable s) ≡ Accepted d))
+-- it is not strict and says a Date exactly if the ported reader gives that Date and the strict one does not
+pub not-strict : (s : List ℕ) (d : Date) → (dateVerdict s ≡ NotStrict d) ↔ ((parsed s (cellTable s) ≡ Accepted d) × (parsedStrict s (cellTable s) ≡ Accepted d → ⊥))
 not-strict [] d = (
   λ e. absurd (let f = empty in let z : _≡_ {A = ℕ} 0 1 = cc in omega arith),
-  λ p. absurd (empty-ported (p .1)),
+  λ p. absurd (empty-ported (p .0)),
 )
 not-strict (b ∷ t) d =
-    let a = asked (b ∷ t) (λ z. absurd (omega arith)) in
-    (λ e. strict-if _ _ d (sym a ∙ e), λ p. a ∙ strict-of d (p .0 .1) (p .1))
+    let n : length (b ∷ t) ≡ 0 → ⊥ = λ z. absurd (omega arith) in
+    (λ e. strict-if (answered (b ∷ t) n e), λ p. strict-of d (answered (b ∷ t) n refl) (p .0) (p .1))
 
 -- and it is refused exactly if it is not empty and both refuse it; the refusal is the ported reader's
 pub refused : (s : List ℕ) (e : Refusal) → (dateVerdict s ≡ Refused e) ↔ ((s ≡ [] → ⊥) × ((f : Refusal) × (parsedStrict s (cellTable s) ≡ NotRead f)) × (parsed s (cellTable s) ≡ NotRead e))
@@ -98,11 +96,11 @@ refused [] e = (
   λ p. absurd (p .0 refl),
 )
 refused (b ∷ t) e =
-    let a = asked (b ∷ t) (λ z. absurd (omega arith)) in (
+    let n : length (b ∷ t) ≡ 0 → ⊥ = λ z. absurd (omega arith) in (
       λ h.
-          let p = refused-if _ _ e (sym a ∙ h) in
+          let p = refused-if (answered (b ∷ t) n h) in
           (λ q. absurd (let z : _≡_ {A = ℕ} 0 1 = cc in omega arith), p .0, p .1),
-      λ p. a ∙ refused-of e (p .1 .1) (p .2),
+      λ p. asked (b ∷ t) n ∙ refused-of _ e (p .2),
     )
 
 -- ---- a date in six cells

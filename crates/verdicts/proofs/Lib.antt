@@ -1,3 +1,4 @@
+pub mod Both
 pub mod Said
 pub mod Texts
 pub mod Empty

@@ -1,8 +1,8 @@
 -- What the code says is what the definitions say: of words, of cells that are empty, of halves of a text. Assumes nothing.
-use mathlib.Core.Path.{_≡_, refl, sym, ap, _∙_}
+use mathlib.Core.Path.{_≡_, refl, sym, subst, ap, _∙_}
 use mathlib.Core.Bool.{false}
 use mathlib.Core.List.{List, [], _∷_}
-use Prim.Native.Nat.{ℕ, _≤_, _<_}
+use Prim.Native.Nat.{ℕ, _≤_, _<_, _%_}
 use native.Mathlib.Omega.{arith}
 use lib.Dec.{eqb}
 use lib.ListN.{length, drop, drop-of-length-le}
@@ -12,16 +12,21 @@ use Rattle.chars.specs.Utf8.{first, decodeAt}
 use Rattle.chars.proofs.Cases.{by-test}
 use Rattle.scanner.specs.Scan.{lenIn, matchLen, walk, eatWhile, eatIf, part, runAt as scannedAt, nextRun}
 use Rattle.refusals.specs.declared.ReadDate.{ReadDate}
+use Rattle.refusals.specs.declared.ReadDate.the-variants.{Accepted}
 use Rattle.codes.specs.declared.Words.{Words}
 use Rattle.codes.specs.Words.{wordsOf}
-use Rattle.codes.proofs.Laws.{last-accepted, last-refused}
+use Rattle.codes.specs.Typed.{Typed}
+use Rattle.codes.specs.Unpacked.{readIn}
+use Rattle.codes.proofs.Laws.{last-accepted}
+use Rattle.codes.proofs.Unpacking.{read-back}
 use Rattle.numbers.specs.Number.{admits, runOf, orKept, behindSign, withSign, signedAt, signedRun, intOf, parseInt}
 use Rattle.datefield.specs.Text.{firstOf}
 use Rattle.reading_laws.specs.Field.{parsed, parsedStrict}
 use Rattle.verdicts.specs.declared.Verdict.{Verdict}
 use Rattle.verdicts.specs.declared.Verdict.the-variants.{Full}
-use Rattle.verdicts.specs.Dates.{cellTable, otherwise, byReaders, dateVerdict}
+use Rattle.verdicts.specs.Dates.{cellTable, byReaders, dateVerdict}
 use Rattle.verdicts.specs.Windows.{isInt, beginsTwo}
+use Rattle.verdicts.proofs.Both.{point-full}
 
 -- the first byte of a value is within the text, or its end
 pub first-within : (b : ℕ) (s : List ℕ) → firstOf b s ≤ length s
@@ -38,29 +43,20 @@ none-two = refl
 pub past-two : (s : List ℕ) (i : ℕ) → length s ≤ i → beginsTwo (drop i s) ≡ false
 past-two s i h = ap beginsTwo (drop-of-length-le s h) ∙ none-two
 
--- what the strict reader accepts is seen from its words
-module _ {w : Words} (x y : ReadDate) (e : w ≡ wordsOf x) where
-  by-strict : w .last < 4294967296 → Full ≡ byReaders x y
-  unfolding byReaders
-  by-strict h =
-      let a = last-accepted x (omega (arith, h, ap (λ (v : Words). v .last) e)) in
-      rw (a .1)
-
-  by-ported : 4294967296 ≤ w .last → otherwise y ≡ byReaders x y
-  unfolding byReaders
-  by-ported h =
-      let a = last-refused x (omega (arith, h, ap (λ (v : Words). v .last) e)) in
-      rw (a .1)
-
 -- of a cell that is not empty the readers are asked
 module _ (s : List ℕ) (n : length s ≡ 0 → ⊥) where
   pub asked : dateVerdict s ≡ byReaders (parsedStrict s (cellTable s)) (parsed s (cellTable s))
   unfolding dateVerdict pick
   asked = rw (ne-eqb (length s) 0 n)
 
-  module _ {w : Words} (e : w ≡ wordsOf (parsedStrict s (cellTable s))) where
-    pub full-said : w .last < 4294967296 → Full ≡ dateVerdict s
-    full-said h = by-strict (parsedStrict s (cellTable s)) (parsed s (cellTable s)) e h ∙ sym asked
+  -- that it is accepted, and no range with both ends, is seen from its words
+  pub full-said : {w : Words} → w ≡ wordsOf (parsedStrict s (cellTable s)) → w .last < 4294967296 → w .last % 256 < 3 → Full ≡ dateVerdict s
+  full-said {w} e h k =
+      let l : w .last ≡ wordsOf (parsedStrict s (cellTable s)) .last = ap (λ (v : Words). v .last) e in
+      let a = last-accepted (parsedStrict s (cellTable s)) (omega (arith, h, l)) in
+      let m : w .last ≡ wordsOf (Accepted (a .0)) .last = l ∙ ap (λ (r : ReadDate). wordsOf r .last) (a .1) in
+      sym (asked ∙ point-full s (a .1) (subst (λ (n : ℕ). n % 256 < 3) m k))
 
-    pub otherwise-said : 4294967296 ≤ w .last → {v : Verdict} → v ≡ otherwise (parsed s (cellTable s)) → v ≡ dateVerdict s
-    otherwise-said h f = f ∙ by-ported (parsedStrict s (cellTable s)) (parsed s (cellTable s)) e h ∙ sym asked
+  pub readers-said : {w : Words} {x y : ReadDate} {v : Verdict} → w ≡ wordsOf (parsedStrict s (cellTable s)) → Typed (parsedStrict s (cellTable s))
+      → x ≡ readIn w → y ≡ parsed s (cellTable s) → v ≡ byReaders x y → v ≡ dateVerdict s
+  readers-said e t f g h = h ∙ rw (f, e, read-back (parsedStrict s (cellTable s)) t, g) (sym asked)

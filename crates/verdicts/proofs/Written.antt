@@ -120,7 +120,7 @@ six-narrow start has end e = subst NarrowRead e (on-three (threeFields start) (�
 -- Of a cell that is not strict,
 pub date-has-text : (s : List ℕ) (d : Date) → dateVerdict s ≡ NotStrict d → HasText d
 date-has-text s d e =
-    let p = not-strict s d .0 e .1 in
+    let p = not-strict s d .0 e .0 in
     has-text d (ported-none _ _ p) (parsed-narrow _ _ p)
 
 -- of six cells that are read,

@@ -1,12 +1,13 @@
 // What is said of the dates of a row of an import file: full, read otherwise, or refused. The text of a cell is read as one Normal chunk.
 ghost use mathlib.Core.Path.{_≡_};
 ghost use Rattle.datefield.specs.Text as text;
-ghost use Rattle.reading_laws.specs.Field.{parsed};
 ghost use Rattle.verdicts.specs.Dates as dates_;
 ghost use Rattle.verdicts.specs.Windows as windows;
 ghost use Rattle.verdicts.specs.Plain as plain;
 ghost use Rattle.verdicts.specs.Fields as six;
 use dates::Date;
+use dates::DateValue;
+use dates::OptionDay;
 use dates::OptionMonth;
 use numbers::Digits;
 use numbers::ReadInt;
@@ -35,17 +36,64 @@ pub enum Verdict {
 
 // ---- a date in one cell
 
-// What the ported reader says of a cell that is not strict.
-fn read_otherwise(cell: &[u8], table: &[u64]) -> Verdict
-    ensures { λ r. ⌜ r ≡ dates_.otherwise (parsed (now (cell .entry)) (now (table .entry))) ⌝ }
+// The day on which a range with both ends ends.
+fn end_day(v: DateValue) -> OptionDay
+    ensures { λ r. ⌜ r ≡ dates_.endDay v ⌝ }
 {
-    match reader::parse(cell, table) {
-        ReadDate::Accepted(d) => Verdict::NotStrict(d),
-        ReadDate::Refused(e) => Verdict::Refused(e),
+    match v {
+        DateValue::At(_) => OptionDay::NoDay,
+        DateValue::After(_) => OptionDay::NoDay,
+        DateValue::Before(_) => OptionDay::NoDay,
+        DateValue::Between(_, b) => b.day,
     }
 }
 
-// A date in one cell. Of a strict one no Date is made: that it is accepted is seen from the words.
+// Whether two days are the same, or both are none.
+fn same_day(a: OptionDay, b: OptionDay) -> bool
+    ensures { λ r. ⌜ r ≡ dates_.sameDay a b ⌝ }
+{
+    match a {
+        OptionDay::NoDay => match b {
+            OptionDay::NoDay => true,
+            OptionDay::SomeDay(_) => false,
+        },
+        OptionDay::SomeDay(x) => match b {
+            OptionDay::NoDay => false,
+            OptionDay::SomeDay(y) => x.0 == y.0,
+        },
+    }
+}
+
+// Whether the strict reader gives the ported reader's Date, too.
+fn is_same(strict: ReadDate, e: Date) -> bool
+    ensures { λ r. ⌜ r ≡ dates_.isSame strict e ⌝ }
+{
+    match strict {
+        ReadDate::Accepted(d) => {
+            let strict_value = d.value;
+            let ported_value = e.value;
+            same_day(end_day(strict_value), end_day(ported_value))
+        }
+        ReadDate::Refused(_) => false,
+    }
+}
+
+// What is said by the answers of both readers.
+fn by_readers(strict: ReadDate, ported: ReadDate) -> Verdict
+    ensures { λ r. ⌜ r ≡ dates_.byReaders strict ported ⌝ }
+{
+    match ported {
+        ReadDate::Accepted(e) => {
+            if is_same(strict, e) {
+                return Verdict::Full;
+            }
+            Verdict::NotStrict(e)
+        }
+        ReadDate::Refused(f) => Verdict::Refused(f),
+    }
+}
+
+// A date in one cell. That it is strict, and no range with both ends, is seen from the words: then the ported reader gives the same Date, and is not asked.
 pub fn date_verdict(cell: &[u8]) -> Verdict
     ensures { λ r. ⌜ r ≡ dates_.dateVerdict (now (cell .entry)) ⌝ }
 {
@@ -56,9 +104,11 @@ pub fn date_verdict(cell: &[u8]) -> Verdict
     let table = [0, n, 0, n];
     let w = reader::parse_strict_words(cell, &table);
     if w.last < 4294967296 {
-        return Verdict::Full;
+        if w.last % 256 < 3 {
+            return Verdict::Full;
+        }
     }
-    read_otherwise(cell, &table)
+    by_readers(codes::unpack(w), reader::parse(cell, &table))
 }
 
 // ---- a year of two digits
