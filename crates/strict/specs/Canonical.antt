@@ -1,4 +1,4 @@
--- The text that a Datetime of the calendar without a time has in the strict grammar.
+-- The text that a Datetime of the calendar without a time has in the strict grammar. No public contract rests on it.
 use Prim.Native.Nat.{ℕ, suc, _+_}
 use Prim.Native.Char.{code}
 use mathlib.Core.List.{List, [], _∷_, _++_}
