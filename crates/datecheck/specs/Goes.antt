@@ -7,6 +7,8 @@ use lib.ListN.{length, take}
 use Rattle.runs.specs.Runs.{Run, Onward}
 use Rattle.runs.specs.Steps.Outcome.{wait, over}
 -- what is kept between steps holds a separator and columns, whose types are of two other crates
+use Rattle.csv.specs.declared.Separator.{Separator}
+use Rattle.headers.specs.declared.Columns.{Columns}
 use Rattle.sheets.specs.declared.State.{State}
 use Rattle.sheets.specs.Steps.{next}
 use Rattle.datecheck.specs.declared.Stop.{Stop}
