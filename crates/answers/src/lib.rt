@@ -1,5 +1,7 @@
 // The answer to a frame, as a line of hexadecimal digits in a buffer that the caller lends. The functions that put a text at a place of
 // a buffer with the room for it give the place behind it.
+#![tactic(auto)]
+
 ghost use Rattle.std.specs.Prelude.{◌≡◌, false, [], ◌∷◌, ◌+◌, ◌*◌, ◌/◌, ◌%◌, ◌≤◌, ◌<◌, ltb, length};
 ghost use Rattle.puts.specs.Answers as writing;
 ghost use Rattle.puts.specs.Answers.{Put, Tried};

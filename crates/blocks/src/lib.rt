@@ -1,4 +1,6 @@
 // Blocks of a stream: what is not taken yet is moved to the front of a block, the next bytes are read behind it, and what was put is written.
+#![tactic(auto)]
+
 ghost use Rattle.std.specs.Prelude.{◌≡◌, true, ◌≤◌, length};
 ghost use Rattle.blocks.specs.Moves.{moved_down};
 ghost use Rattle.blocks.specs.Reads.{MayRead};

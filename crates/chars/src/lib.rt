@@ -1,5 +1,7 @@
 // Characters: UTF-8 at a place of a text, the classes of the characters that are read, and their upper case.
 // With `scanner` it is the lower layer, which the others use by its contracts alone.
+#![tactic(auto)]
+
 ghost use Rattle.std.specs.Prelude.{◌≡◌, ◌+◌, ◌*◌, ◌<◌, ◌%◌, get_or};
 ghost use Rattle.chars.specs.Ascii as ascii_specs;
 ghost use Rattle.chars.specs.Utf8 as utf8;
@@ -7,7 +9,7 @@ ghost use Rattle.chars.specs.Classes as classes;
 ghost use Rattle.chars.specs.Upper as case;
 
 // What stands at a place of a text.
-#[derive(Drop)]
+#[derive(Clone, Copy)]
 pub enum Decoded {
     // A character: its code, and how many bytes it has.
     Char { code: u32, len: usize },
@@ -18,7 +20,7 @@ pub enum Decoded {
 }
 
 // The upper case of a character: one character, or two.
-#[derive(Drop)]
+#[derive(Clone, Copy)]
 pub enum Upper {
     One(u32),
     Two(u32, u32),

@@ -1,5 +1,7 @@
 // A chronology: up to 512 entries, each an identifier and the days from a first to a last, kept in list order in a store that the caller
 // lends: a count and three columns. What stands behind the count is no entry: a store is emptied by the count 0.
+#![tactic(auto)]
+
 ghost use Rattle.std.specs.Prelude.{◌≡◌, not, [], ◌∷◌, ◌+◌, ◌*◌, ◌%◌, ◌≤◌, ◌<◌, length, take, drop};
 ghost use Rattle.std.proofs.lemmas.List.Edits.{sets};
 ghost use Rattle.chronology.specs.Entries as entries;
@@ -21,7 +23,7 @@ const FIRST_DAY: i32 = -3652059;
 const LAST_DAY: i32 = 3652424;
 
 // An entry: its first and its last day, and its identifier.
-#[derive(Drop)]
+#[derive(Clone, Copy)]
 pub struct Entry {
     pub first: i32,
     pub last: i32,
@@ -29,7 +31,7 @@ pub struct Entry {
 }
 
 // What a call answers.
-#[derive(Drop)]
+#[derive(Clone, Copy)]
 pub enum Answer {
     // So many entries: those that there are now, or that were listed.
     Entries(usize),
@@ -37,7 +39,7 @@ pub enum Answer {
 }
 
 // What is answered to the question whether anything is dated in a period.
-#[derive(Drop)]
+#[derive(Clone, Copy)]
 pub enum Reply {
     // Whether an entry touches the period, and how many entries were read to tell.
     Told { found: bool, read: usize },

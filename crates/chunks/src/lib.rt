@@ -1,5 +1,7 @@
 // Chunk lists: the checks before a list is read, its span, and its formatted text.
 // A list is lent bytes and a lent table of four numbers a chunk: kind (0 Normal, 1 Verbatim, 2 Math), length, span start, span end.
+#![tactic(auto)]
+
 ghost use Rattle.std.specs.Prelude.{◌≡◌, true, false, ◌&&◌, ◌+◌, ◌%◌, ◌^◌, ◌<◌, ◌≤◌, eqb, length};
 ghost use Rattle.std.proofs.lemmas.List.Edits.{sets};
 ghost use Rattle.chars.specs.Utf8.{encode, encode_all};
@@ -28,21 +30,21 @@ const LINE_FEED: u32 = b'\n' as u32;
 const CARRIAGE_RETURN: u32 = b'\r' as u32;
 
 // Whether a list may be read, or what is wrong with it.
-#[derive(Drop)]
+#[derive(Clone, Copy)]
 pub enum Checked {
     Clean,
     Faulty(Refusal),
 }
 
 // A text in the lent buffer, with its length; or why there is none.
-#[derive(Drop)]
+#[derive(Clone, Copy)]
 pub enum Formatted {
     Text(usize),
     Refused(Refusal),
 }
 
 // How far a buffer is filled, and whether what was put last was white space.
-#[derive(Drop)]
+#[derive(Clone, Copy)]
 struct Put {
     n: usize,
     prev_was_whitespace: bool,

@@ -1,5 +1,7 @@
 // Usual texts as words: numbers that are handed on in registers, where a Date would go through memory, byte by byte in and word by word out. What is
 // said here at once is what the readers say (`code_laws`); other texts are for them.
+#![tactic(auto)]
+
 ghost use Rattle.std.specs.Prelude.{◌≡◌, ◌+◌, ◌*◌, ◌%◌, ◌≤◌, ◌<◌, length, take, pos, true, [], ◌∷◌};
 ghost use Rattle.std.proofs.Math.Option.{none};
 ghost use Rattle.std.specs.Int.Signed.{mag};
@@ -37,7 +39,7 @@ use refusals::{ReadDate, Refusal, kind_of, lent_span};
 pub const NOTHING: u64 = 0xFFFFFFFFFFFFFFFF;
 
 // What a reader answers, in seven words: the place of a refusal, two words for each Datetime, and the last with the shape, the marks and the refusal.
-#[derive(Drop)]
+#[derive(Clone, Copy)]
 pub struct Words {
     pub start: u64,
     pub end: u64,
@@ -49,7 +51,7 @@ pub struct Words {
 }
 
 // The words of an answer whose place, where it is a refusal, is one in the text: `moved` alone makes an answer of them, with the place in the file.
-#[derive(Drop)]
+#[derive(Clone, Copy)]
 pub struct TextWords(pub Words);
 
 // ---- points

@@ -3,7 +3,7 @@ use Rattle.std.specs.Prelude.{◌≡◌, Bool, true, false, List, ◌++◌, ℕ,
 use Rattle.runs.specs.Runs.{Run, Onward}
 use Rattle.runs.specs.Steps.Outcome.{wait, over}
 -- what is kept between steps holds a separator and columns, whose types are of two other crates
-use Rattle.csv.specs.declared.Separator.{Separator}
+use Rattle.csv_rows.specs.declared.Separator.{Separator}
 use Rattle.headers.specs.declared.Columns.{Columns}
 use Rattle.sheets.specs.declared.State.{State}
 use Rattle.sheets.specs.Steps.{next}

@@ -1,6 +1,8 @@
 // Reads an import file, its name is the argument, or standard input, and writes what is said of it to standard output. Memory is constant: an
 // input block, an output block, and a table. What is said, and that it does not depend on how the file comes in blocks, is proved of the crate
 // sheets; here is only the reading and the writing.
+#![tactic(auto)]
+
 ghost use Rattle.std.specs.Prelude.{◌≡◌, true, ◌-◌, ◌≤◌, ◌<◌, length, take, drop};
 ghost use Rattle.datecheck.specs.Goes.{Went, Refilled, Turned};
 
@@ -8,7 +10,7 @@ use libc::{STDERR_FILENO, STDIN_FILENO};
 use sheets::{State, Taken};
 
 // Why the steps over a block ended: they wait for more of the file, there is no room for what the next may say, or the report is over.
-#[derive(Drop)]
+#[derive(Clone, Copy)]
 enum Stop {
     Waits,
     Full,
@@ -16,7 +18,7 @@ enum Stop {
 }
 
 // Where they ended: the start of what was not taken, how much of the output was put, and what is kept.
-#[derive(Drop)]
+#[derive(Clone, Copy)]
 struct Done {
     from: usize,
     put: usize,
@@ -26,7 +28,7 @@ struct Done {
 
 // What is kept between turns: the bytes of the block from a place to another are not taken yet; whether the file ends behind them, and
 // whether to go on.
-#[derive(Drop)]
+#[derive(Clone, Copy)]
 struct Progress {
     from: usize,
     have: usize,

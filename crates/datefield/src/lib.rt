@@ -1,4 +1,6 @@
 // The text of a date field: its mark, then an X range, two halves or a point. `Date::parse` behind the formatting.
+#![tactic(auto)]
+
 ghost use Rattle.std.specs.Prelude.{◌≡◌, true, ◌+◌, ◌<◌, ◌≤◌, length, take, drop};
 ghost use Rattle.refusals.specs.Offset.{offset};
 ghost use Rattle.datefield.specs.Text as text;
@@ -11,14 +13,14 @@ use scanner::Cursor;
 use xranges::ReadRange;
 
 // A half of a range, or why it is refused.
-#[derive(Drop)]
+#[derive(Clone, Copy)]
 pub enum ReadHalf {
     Half(Datetime),
     NoHalf(Refusal),
 }
 
 // What a text without its mark says, or why it is refused.
-#[derive(Drop)]
+#[derive(Clone, Copy)]
 pub enum ReadValue {
     Read(DateValue),
     NoValue(Refusal),

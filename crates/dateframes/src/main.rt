@@ -1,6 +1,8 @@
 // Reads frames from standard input, one a line in hexadecimal digits, and answers each by one line on standard output, in order.
 // Memory is constant: an input block, an output block, and what one frame needs. What is answered, and that it does not depend on how the
 // input comes in blocks, is proved of the crate lines; here is only the reading and the writing.
+#![tactic(auto)]
+
 ghost use Rattle.std.specs.Prelude.{◌≡◌, true, [], ◌+◌, ◌≤◌, ◌<◌, length, take, drop};
 ghost use Rattle.lines.specs.Lines.{NoFeed};
 ghost use Rattle.lines.specs.Runs.{Onward};
@@ -10,7 +12,7 @@ use libc::STDIN_FILENO;
 
 // What is kept between reads: how many bytes of a line stand at the front of the block, whether that line is too long already, and whether
 // to go on.
-#[derive(Drop)]
+#[derive(Clone, Copy)]
 struct State {
     have: usize,
     long: bool,
@@ -18,7 +20,7 @@ struct State {
 }
 
 // Where the lines of a block end: the start of the rest, whether its line is too long already, and whether all answers were written.
-#[derive(Drop)]
+#[derive(Clone, Copy)]
 struct Done {
     from: usize,
     long: bool,

@@ -1,4 +1,6 @@
 // The values that are read, compared and written, with the names of the ported code; and the calendar.
+#![tactic(auto)]
+
 ghost use Rattle.std.specs.Prelude.{◌≡◌, ◌<◌};
 ghost use Rattle.std.specs.Int.Signed.{mag};
 ghost use Rattle.dates.specs.Calendar.{leap_year, month_length};
@@ -8,35 +10,35 @@ ghost use Rattle.dates.specs.Time as clock;
 ghost use Rattle.dates.specs.Clocks as good;
 
 // A month as it is stored, counted from zero.
-#[derive(Drop)]
+#[derive(Clone, Copy)]
 pub struct Month(pub u8);
 
 // A day as it is stored, counted from zero.
-#[derive(Drop)]
+#[derive(Clone, Copy)]
 pub struct Day(pub u8);
 
 // A month as it is written, counted from one.
-#[derive(Drop)]
+#[derive(Clone, Copy)]
 pub struct WrittenMonth(pub u8);
 
 // A day as it is written, counted from one.
-#[derive(Drop)]
+#[derive(Clone, Copy)]
 pub struct WrittenDay(pub u8);
 
-#[derive(Drop)]
+#[derive(Clone, Copy)]
 pub enum OptionMonth {
     NoMonth,
     SomeMonth(Month),
 }
 
-#[derive(Drop)]
+#[derive(Clone, Copy)]
 pub enum OptionDay {
     NoDay,
     SomeDay(Day),
 }
 
 // A timezone offset: UTC, or hours and minutes ahead of it or behind.
-#[derive(Drop)]
+#[derive(Clone, Copy)]
 pub enum TimeOffset {
     Utc,
     Offset {
@@ -46,14 +48,14 @@ pub enum TimeOffset {
     },
 }
 
-#[derive(Drop)]
+#[derive(Clone, Copy)]
 pub enum OptionOffset {
     NoOffset,
     SomeOffset(TimeOffset),
 }
 
 // A time, with a timezone offset or without.
-#[derive(Drop)]
+#[derive(Clone, Copy)]
 pub struct Time {
     pub hour: u8,
     pub minute: u8,
@@ -61,14 +63,14 @@ pub struct Time {
     pub offset: OptionOffset,
 }
 
-#[derive(Drop)]
+#[derive(Clone, Copy)]
 pub enum OptionTime {
     NoTime,
     SomeTime(Time),
 }
 
 // A season of a year, by the numbers of ISO 8601-2, or none.
-#[derive(Drop)]
+#[derive(Clone, Copy)]
 pub enum OptionSeason {
     NoSeason,
     Spring,
@@ -79,7 +81,7 @@ pub enum OptionSeason {
 
 // A date and time: a year, and perhaps a month, a day and a time, or a season.
 // The year before year 1 is 0, and the one before that -1.
-#[derive(Drop)]
+#[derive(Clone, Copy)]
 pub struct Datetime {
     pub year: i32,
     pub month: OptionMonth,
@@ -89,7 +91,7 @@ pub struct Datetime {
 }
 
 // A single date or a range of dates.
-#[derive(Drop)]
+#[derive(Clone, Copy)]
 pub enum DateValue {
     At(Datetime),
     // A range with a known start and an open end.
@@ -100,7 +102,7 @@ pub enum DateValue {
 }
 
 // A date or a range of dates, and how sure and how exact it is.
-#[derive(Drop)]
+#[derive(Clone, Copy)]
 pub struct Date {
     pub value: DateValue,
     pub uncertain: bool,

@@ -1,5 +1,7 @@
 // Day numbers: the first and the last day that a Datetime covers. Day 0 is 0000-01-01, and the calendar is ISO 8601's for all years.
 // They are counted in two ways, by a formula and from a table, and both give the same.
+#![tactic(auto)]
+
 ghost use Rattle.std.specs.Prelude.{◌≡◌, true, ◌+◌, ◌*◌, ◌<◌, take, drop, get_or};
 ghost use Rattle.dates.specs.Calendar.{month_lengths};
 ghost use Rattle.days.specs.Days.{total, year_length, days_from};
@@ -14,21 +16,21 @@ use dates::{Datetime, Month, OptionDay, OptionMonth, days_in_month, is_leap};
 use refusals::{Kind, Refusal, nowhere};
 
 // The days from a first to a last, both of them included.
-#[derive(Drop)]
+#[derive(Clone, Copy)]
 pub struct Period {
     pub first: i32,
     pub last: i32,
 }
 
 // What a Datetime covers.
-#[derive(Drop)]
+#[derive(Clone, Copy)]
 pub enum Covered {
     Days(Period),
     Refused(Refusal),
 }
 
 // What is counted: from the start of a month of a year on, some days are past, and then so many are covered. The year is counted from -10000.
-#[derive(Drop)]
+#[derive(Clone, Copy)]
 enum Stretch {
     NoDate,
     Part {

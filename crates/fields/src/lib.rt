@@ -1,4 +1,6 @@
 // The fields of a date: year, month and day, each a formatted text. They are not in upper case.
+#![tactic(auto)]
+
 ghost use Rattle.std.specs.Prelude.{◌≡◌, ◌<◌, drop};
 ghost use Rattle.fields.specs.Year as spec;
 ghost use Rattle.fields.specs.Names as names;
@@ -15,14 +17,14 @@ const HYPHEN: u32 = b'-' as u32;
 const PLUS: u32 = b'+' as u32;
 
 // The year of a year field, or why there is none.
-#[derive(Drop)]
+#[derive(Clone, Copy)]
 pub enum ReadYear {
     Year(i32),
     NoYear(TextRefusal),
 }
 
 // The sign before a year.
-#[derive(Drop)]
+#[derive(Clone, Copy)]
 enum Sign {
     NoSign,
     Plus,
@@ -30,7 +32,7 @@ enum Sign {
 }
 
 // What stands behind the digits of a year.
-#[derive(Drop)]
+#[derive(Clone, Copy)]
 enum ReadEra {
     // An era, AD or not, and the place behind it.
     Era { positive: bool, next: Cursor },
@@ -40,21 +42,21 @@ enum ReadEra {
 }
 
 // The month of a month field, absent or stored, and the place behind it; or that the ported code panics.
-#[derive(Drop)]
+#[derive(Clone, Copy)]
 pub enum ReadMonth {
     MonthRead { month: OptionMonth, next: Cursor },
     NoMonthRead(TextRefusal),
 }
 
 // The day that a month field holds, if it holds one; or why there is none.
-#[derive(Drop)]
+#[derive(Clone, Copy)]
 pub enum ReadDay {
     DayRead(OptionDay),
     NoDayRead(TextRefusal),
 }
 
 // The day of a day field, or why there is none. Its place is one in the file.
-#[derive(Drop)]
+#[derive(Clone, Copy)]
 pub enum ReadDayField {
     Given(Day),
     NotGiven(Refusal),

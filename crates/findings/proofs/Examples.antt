@@ -24,7 +24,7 @@ use Rattle.writer.specs.Answers.{date_measured}
 use Rattle.answers.specs.Answer.{glyph}
 use Rattle.verdicts.specs.declared.Verdict.{Verdict}
 use Rattle.verdicts.specs.declared.Verdict.TheVariants.{NoDate, Full, NotStrict as ReadOtherwise, ShortYear, Unread, Refused}
-use Rattle.csv.specs.declared.Fault.TheVariants.{QuoteInside, TextBehind, LoneReturn, NeverClosed, TooLong as TooLongRow, TooMany}
+use Rattle.csv_rows.specs.declared.Fault.TheVariants.{QuoteInside, TextBehind, LoneReturn, NeverClosed, TooLong as TooLongRow, TooMany}
 use Rattle.findings.specs.declared.Column.{Column}
 use Rattle.findings.specs.declared.Column.TheVariants.{Date as DateColumn, Origdate, Eventdate, Urldate}
 use Rattle.headers.specs.declared.RowFault.{RowFault}

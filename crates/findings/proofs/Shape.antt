@@ -30,8 +30,8 @@ use Rattle.writer.specs.Answers.{date_measured}
 use Rattle.answers.specs.Answer.{glyph}
 use Rattle.verdicts.specs.declared.Verdict.{Verdict}
 use Rattle.verdicts.specs.declared.Verdict.TheVariants.{NoDate, Full, NotStrict, ShortYear, Unread, Refused}
-use Rattle.csv.specs.declared.Fault.{Fault}
-use Rattle.csv.specs.declared.Fault.TheVariants.{QuoteInside, TextBehind, LoneReturn, NeverClosed, TooLong, TooMany}
+use Rattle.csv_rows.specs.declared.Fault.{Fault}
+use Rattle.csv_rows.specs.declared.Fault.TheVariants.{QuoteInside, TextBehind, LoneReturn, NeverClosed, TooLong, TooMany}
 use Rattle.findings.specs.declared.Column.{Column}
 use Rattle.findings.specs.declared.Column.TheVariants.{Date as DateColumn, Origdate, Eventdate, Urldate}
 use Rattle.headers.specs.declared.RowFault.{RowFault}

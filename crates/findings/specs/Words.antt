@@ -8,8 +8,8 @@ use Rattle.puts.specs.Numbers.{decimal}
 use Rattle.verdicts.specs.declared.Verdict.{Verdict}
 use Rattle.verdicts.specs.declared.Verdict.TheVariants.{NoDate, Full, NotStrict, ShortYear, Unread, Refused}
 use Rattle.verdicts.specs.Plain.{written_text}
-use Rattle.csv.specs.declared.Fault.{Fault}
-use Rattle.csv.specs.declared.Fault.TheVariants.{QuoteInside, TextBehind, LoneReturn, NeverClosed, TooLong, TooMany}
+use Rattle.csv_rows.specs.declared.Fault.{Fault}
+use Rattle.csv_rows.specs.declared.Fault.TheVariants.{QuoteInside, TextBehind, LoneReturn, NeverClosed, TooLong, TooMany}
 use Rattle.headers.specs.declared.RowFault.{RowFault}
 use Rattle.headers.specs.declared.RowFault.TheVariants.{Broken, Cells, BadUtf8, LongCell}
 

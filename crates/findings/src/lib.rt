@@ -1,6 +1,8 @@
 // The lines that are said of an import file, every byte, in a buffer that the caller lends. Each text is gone through twice: the first time
 // over a buffer of one byte, which measures it, and then, if there is room for all of it, over the lent one. The functions that go through
 // a text give the place behind it, and store what there is room for.
+#![tactic(auto)]
+
 ghost use Rattle.std.specs.Prelude.{◌≡◌, true, false, [], ◌++◌, ◌+◌, ◌<◌, length};
 ghost use Rattle.chars.specs.Ascii.{ascii};
 ghost use Rattle.puts.specs.Answers as writing;
@@ -12,7 +14,7 @@ ghost use Rattle.findings.specs.Lines as lines;
 ghost use Rattle.chars.specs.Pick.{pick};
 ghost use Rattle.findings.specs.Runs.{Moved, Ran, head, tail};
 
-use csv::Fault;
+use csv_rows::Fault;
 use dates::Date;
 use headers::{RowFault, Unusable};
 use puts::{Measured, Written, decide, put_bytes, put_digits, width};
@@ -20,7 +22,7 @@ use refusals::Refusal;
 use verdicts::Verdict;
 
 // The columns that hold a date each.
-#[derive(Drop)]
+#[derive(Clone, Copy)]
 pub enum Column {
     Date,
     Origdate,

@@ -1,4 +1,6 @@
 // Frames: one line of hexadecimal digits is one question to a reader.
+#![tactic(auto)]
+
 ghost use Rattle.std.specs.Prelude.{◌≡◌, true, false, ◌+◌, ◌*◌, ◌≤◌, ◌<◌, length};
 ghost use Rattle.hexes.specs.Hex.{is_hex};
 ghost use Rattle.puts.specs.Answers as writing;
@@ -20,7 +22,7 @@ use puts::Written;
 use refusals::{Kind, ReadDate};
 
 // What a frame asks for.
-#[derive(Drop)]
+#[derive(Clone, Copy)]
 pub enum Operation {
     Ported,
     Strict,
@@ -211,7 +213,7 @@ fn put_texts(f: &[u8], at: usize, n: usize, text: &mut [u8], m: usize) -> usize
 }
 
 // The places behind the bytes and the table of a list.
-#[derive(Drop)]
+#[derive(Clone, Copy)]
 struct Unpacked {
     text: usize,
     table: usize,

@@ -8,13 +8,13 @@ use Rattle.chars.specs.Pick.{pick}
 use Rattle.chars.specs.Ascii.{ascii}
 use Rattle.chars.specs.Utf8.{len_of, is_cont, is_surrogate, decode2, decode3, decode4, decode, first, len_d}
 use Rattle.fields.specs.Names.{lower}
-use Rattle.csv.specs.declared.Separator.{Separator}
-use Rattle.csv.specs.declared.Separator.TheVariants.{Comma, Semicolon, Tab}
-use Rattle.csv.specs.declared.Fault.TheVariants.{QuoteInside, TextBehind, LoneReturn, NeverClosed, TooLong, TooMany}
-use Rattle.csv.specs.Reader.{is_stop, is_special, is, up_to, inner_len, return_of, stop_of, closed, plain_by, quoted_by, cell_of, line_by, line_from, line}
-use Rattle.csv.specs.Answers.{window, is_cut, is_over, place_of, end_len, counted, row_by, refused, answer_by, answer_of, line_of, answer}
-use Rattle.csv.specs.Texts.{own_bytes}
-use Rattle.csv.specs.Bytes.{utf8_from, utf8_end}
+use Rattle.csv_rows.specs.declared.Separator.{Separator}
+use Rattle.csv_rows.specs.declared.Separator.TheVariants.{Comma, Semicolon, Tab}
+use Rattle.csv_rows.specs.declared.Fault.TheVariants.{QuoteInside, TextBehind, LoneReturn, NeverClosed, TooLong, TooMany}
+use Rattle.csv_rows.specs.Reader.{is_stop, is_special, is, up_to, inner_len, return_of, stop_of, closed, plain_by, quoted_by, cell_of, line_by, line_from, line}
+use Rattle.csv_rows.specs.Answers.{window, is_cut, is_over, place_of, end_len, counted, row_by, refused, answer_by, answer_of, line_of, answer}
+use Rattle.csv_rows.specs.Texts.{own_bytes}
+use Rattle.csv_rows.specs.Bytes.{utf8_from, utf8_end}
 use Rattle.headers.specs.declared.RowFault.TheVariants.{Broken, BadUtf8}
 use Rattle.headers.specs.declared.Unusable.TheVariants.{Empty, NoColumn, Twice, Returns, NoRow}
 use Rattle.headers.specs.declared.Columns.{Columns}

@@ -1,23 +1,23 @@
 -- A header has bytes, and lies within the block. Assumes nothing.
-use Rattle.csv.specs.Bytes.{utf8_end}
-use Rattle.csv.proofs.Moves.{row-advances}
+use Rattle.csv_rows.specs.Bytes.{utf8_end}
+use Rattle.csv_rows.proofs.Moves.{row-advances}
 use mathlib.Core.Path.{refl, ◌≡◌}
 use borrow.Author.Tests.{leb-true}
 use Rattle.headers.specs.Header.{header, header_behind, header_by, header_in, header_row, mark_len, names_by, on_names, row_cells, with_cells, with_row}
 use lib.Dec.{eqb, leb, ltb}
 use lib.ListN.{drop, get_or, length, length-drop, take}
 use Rattle.headers.specs.Columns.{checked, chosen, columns_of, twice}
-use Rattle.csv.specs.Reader.{byte_of}
+use Rattle.csv_rows.specs.Reader.{byte_of}
 use Rattle.chars.proofs.Cases.{by-test}
 use native.Mathlib.Omega.{arith}
-use Rattle.csv.specs.Answers.{answer}
+use Rattle.csv_rows.specs.Answers.{answer}
 use mathlib.Core.List.{List}
 use mathlib.Core.Bool.{Bool, false, true}
 use Prim.Native.Nat.{◌+◌, ◌<◌, ℕ, ◌≤◌}
-use Rattle.csv.specs.declared.RowRead.{RowRead}
-use Rattle.csv.specs.declared.RowRead.TheVariants.{Row, Faulty, Endless, More, Nothing}
-use Rattle.csv.specs.declared.Separator.{Separator}
-use Rattle.csv.specs.declared.Separator.TheVariants.{Comma, Semicolon, Tab}
+use Rattle.csv_rows.specs.declared.RowRead.{RowRead}
+use Rattle.csv_rows.specs.declared.RowRead.TheVariants.{Row, Faulty, Endless, More, Nothing}
+use Rattle.csv_rows.specs.declared.Separator.{Separator}
+use Rattle.csv_rows.specs.declared.Separator.TheVariants.{Comma, Semicolon, Tab}
 use Rattle.headers.specs.declared.Columns.{Columns}
 use Rattle.headers.specs.declared.Names.{Names}
 use Rattle.headers.specs.declared.Names.TheVariants.{Undecided, Many}

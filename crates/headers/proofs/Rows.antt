@@ -1,9 +1,9 @@
 -- The cells of a row are those that its table names. Assumes nothing.
-use Rattle.csv.specs.Answers.InOrder.{then_cell}
+use Rattle.csv_rows.specs.Answers.InOrder.{then_cell}
 use Rattle.chars.specs.Pick.{pick}
 use Rattle.headers.specs.Header.{own_of}
-use Rattle.csv.specs.Texts.{own_bytes}
-use Rattle.csv.specs.Answers.{listed, numbers, InOrder}
+use Rattle.csv_rows.specs.Texts.{own_bytes}
+use Rattle.csv_rows.specs.Answers.{listed, numbers, InOrder}
 use borrow.Author.Tests.{le-leb, lt-ltb}
 use lib.Seq.{drop-drop, get_or-drop, sets-eq, take_all}
 use lib.ListN.{drop, get_or, length, take, length-drop}
@@ -11,7 +11,7 @@ use Rattle.headers.specs.Tables.{between, cell_at, cells_from}
 use native.Mathlib.Omega.{arith}
 use mathlib.Core.Path.{ap, refl, sym, ◌∙◌, ◌≡◌}
 use native.Mathlib.Nat.{add-zero}
-use Rattle.csv.specs.Reader.{Line, Place}
+use Rattle.csv_rows.specs.Reader.{Line, Place}
 use mathlib.Core.List.{◌++◌, List, [], ◌∷◌}
 use Prim.Native.Nat.{◌*◌, ◌+◌, suc, ℕ, ◌≤◌, ◌-◌}
 

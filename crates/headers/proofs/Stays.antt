@@ -10,17 +10,17 @@ use lib.ListN.{length, get_or, take, drop, length-append, length-drop}
 use lib.Seq.{take-append-le, drop-append-le}
 use Rattle.chars.specs.Pick.{pick}
 use Rattle.chars.proofs.Cases.{by-test, of_test}
-use Rattle.csv.specs.declared.RowRead.{RowRead}
-use Rattle.csv.specs.declared.RowRead.TheVariants.{Row, Faulty, Endless, More, Nothing}
-use Rattle.csv.specs.declared.Separator.{Separator}
-use Rattle.csv.specs.declared.Separator.TheVariants.{Comma, Semicolon, Tab}
-use Rattle.csv.specs.Reader.{byte_of, Place}
-use Rattle.csv.specs.Answers.{answer, line_of, InOrder}
-use Rattle.csv.specs.Answers.InOrder.{then_cell}
-use Rattle.csv.specs.Bytes.{utf8_end}
-use Rattle.csv.specs.Texts.{own_bytes}
-use Rattle.csv.proofs.Stable.{stays}
-use Rattle.csv.proofs.Moves.{row-advances, more-short, cells-inside}
+use Rattle.csv_rows.specs.declared.RowRead.{RowRead}
+use Rattle.csv_rows.specs.declared.RowRead.TheVariants.{Row, Faulty, Endless, More, Nothing}
+use Rattle.csv_rows.specs.declared.Separator.{Separator}
+use Rattle.csv_rows.specs.declared.Separator.TheVariants.{Comma, Semicolon, Tab}
+use Rattle.csv_rows.specs.Reader.{byte_of, Place}
+use Rattle.csv_rows.specs.Answers.{answer, line_of, InOrder}
+use Rattle.csv_rows.specs.Answers.InOrder.{then_cell}
+use Rattle.csv_rows.specs.Bytes.{utf8_end}
+use Rattle.csv_rows.specs.Texts.{own_bytes}
+use Rattle.csv_rows.proofs.Stable.{stays}
+use Rattle.csv_rows.proofs.Moves.{row-advances, more-short, cells-inside}
 use Rattle.headers.specs.declared.Unusable.{Unusable}
 use Rattle.headers.specs.declared.Columns.{Columns}
 use Rattle.headers.specs.declared.Names.{Names}

@@ -2,8 +2,8 @@
 use Rattle.std.specs.Prelude.{ℕ, suc, ◌+◌, Bool, ◌||◌, List, [], ◌∷◌, ltb, drop}
 use Rattle.chars.specs.Pick.{pick}
 use Rattle.chars.specs.Ascii.{ascii}
-use Rattle.csv.specs.declared.Separator.{Separator}
-use Rattle.csv.specs.declared.Separator.TheVariants.{Comma, Semicolon, Tab}
+use Rattle.csv_rows.specs.declared.Separator.{Separator}
+use Rattle.csv_rows.specs.declared.Separator.TheVariants.{Comma, Semicolon, Tab}
 use Rattle.headers.specs.declared.Columns.{Columns}
 use Rattle.headers.specs.Names.{is_name}
 

@@ -1,16 +1,16 @@
 -- The header of a file: the separator, the columns, and how many cells each row is to have; or why the file can not be read.
 use Rattle.std.specs.Prelude.{ℕ, ◌+◌, Bool, true, false, List, [], ◌∷◌, eqb, leb, ltb, length, get_or, take, drop}
 use Rattle.chars.specs.Pick.{pick}
-use Rattle.csv.specs.declared.Separator.{Separator}
-use Rattle.csv.specs.declared.Separator.TheVariants.{Comma, Semicolon, Tab}
-use Rattle.csv.specs.declared.Fault.{Fault}
-use Rattle.csv.specs.declared.Fault.TheVariants.{QuoteInside, TextBehind, LoneReturn, NeverClosed, TooLong, TooMany}
-use Rattle.csv.specs.declared.RowRead.{RowRead}
-use Rattle.csv.specs.declared.RowRead.TheVariants.{Row, Faulty, Endless, More, Nothing}
-use Rattle.csv.specs.Reader.{byte_of, Place}
-use Rattle.csv.specs.Answers.{answer, line_of}
-use Rattle.csv.specs.Bytes.{utf8_end}
-use Rattle.csv.specs.Texts.{own_bytes}
+use Rattle.csv_rows.specs.declared.Separator.{Separator}
+use Rattle.csv_rows.specs.declared.Separator.TheVariants.{Comma, Semicolon, Tab}
+use Rattle.csv_rows.specs.declared.Fault.{Fault}
+use Rattle.csv_rows.specs.declared.Fault.TheVariants.{QuoteInside, TextBehind, LoneReturn, NeverClosed, TooLong, TooMany}
+use Rattle.csv_rows.specs.declared.RowRead.{RowRead}
+use Rattle.csv_rows.specs.declared.RowRead.TheVariants.{Row, Faulty, Endless, More, Nothing}
+use Rattle.csv_rows.specs.Reader.{byte_of, Place}
+use Rattle.csv_rows.specs.Answers.{answer, line_of}
+use Rattle.csv_rows.specs.Bytes.{utf8_end}
+use Rattle.csv_rows.specs.Texts.{own_bytes}
 use Rattle.headers.specs.declared.RowFault.TheVariants.{Broken, BadUtf8}
 use Rattle.headers.specs.declared.Unusable.{Unusable}
 use Rattle.headers.specs.declared.Unusable.TheVariants.{Empty, NoColumn, Twice, Returns, NoRow}

@@ -1,14 +1,16 @@
 // The header of a sheet: the columns by their names, and the separator.
+#![tactic(auto)]
+
 ghost use Rattle.std.specs.Prelude.{◌≡◌, ◌+◌, ◌-◌, ◌*◌, ◌≤◌, ◌<◌, length, drop};
 ghost use Rattle.headers.specs.Names as names;
 ghost use Rattle.headers.specs.Columns as columns;
 ghost use Rattle.headers.specs.Tables as tables;
 ghost use Rattle.headers.specs.Header as spec;
 
-use csv::{Fault, RowRead, Separator};
+use csv_rows::{Fault, RowRead, Separator};
 
 // The columns that are looked at: the number of each, or 256 if there is none.
-#[derive(Drop)]
+#[derive(Clone, Copy)]
 pub struct Columns {
     pub date: usize,
     pub origdate: usize,
@@ -25,14 +27,14 @@ pub struct Columns {
 }
 
 // How many known names the first row has by a separator; not told yet.
-#[derive(Drop)]
+#[derive(Clone, Copy)]
 enum Names {
     Many(usize),
     Undecided,
 }
 
 // Why a row can not be used.
-#[derive(Drop)]
+#[derive(Clone, Copy)]
 pub enum RowFault {
     // It is none.
     Broken(Fault),
@@ -45,7 +47,7 @@ pub enum RowFault {
 }
 
 // Why a header can not be used.
-#[derive(Drop)]
+#[derive(Clone, Copy)]
 pub enum Unusable {
     // There is none.
     Empty,
@@ -60,7 +62,7 @@ pub enum Unusable {
 }
 
 // The header: not told yet; none that can be used; or so many bytes, with the separator, the columns and the number of cells.
-#[derive(Drop)]
+#[derive(Clone, Copy)]
 pub enum Header {
     Wait,
     Without(Unusable),
@@ -293,7 +295,7 @@ fn names_by(s: &[u8], separator: Separator, last: bool) -> Names
     ensures { result ≡ spec.names_by separator last s.now }
 {
     let mut table = [0usize; 512];
-    match csv::next_row(s, separator, last, &mut table) {
+    match csv_rows::next_row(s, separator, last, &mut table) {
         RowRead::Row { end: _, count } => Names::Many(known(columns_in(s, &table, count))),
         RowRead::Faulty { end: _, fault: _ } => Names::Many(0),
         RowRead::Endless { fault: _ } => Names::Many(0),
@@ -358,7 +360,7 @@ fn with_row(
     requires { (n ≤ 3) × (end ≤ 65536) × (end ≤ length s.now) }
     ensures { result ≡ spec.with_row n separator s.now end count (tables.cells_from s.now table.now 0 count) }
 {
-    let good = csv::utf8_end(&s[..end]);
+    let good = csv_rows::utf8_end(&s[..end]);
     if good < end {
         return Header::Without(Unusable::NoRow(RowFault::BadUtf8(good)));
     }
@@ -371,7 +373,7 @@ fn header_by(s: &[u8], n: usize, separator: Separator, last: bool) -> Header
     ensures { result ≡ spec.header_by n separator last s.now }
 {
     let mut table = [0usize; 512];
-    match csv::next_row(s, separator, last, &mut table) {
+    match csv_rows::next_row(s, separator, last, &mut table) {
         RowRead::Row { end, count } => with_row(s, &table, n, separator, end, count),
         RowRead::Faulty { end: _, fault } => Header::Without(no_row(fault)),
         RowRead::Endless { fault } => Header::Without(no_row(fault)),

@@ -1,5 +1,7 @@
 // Instants: a day, a time and its offset, as seconds from the start of day 0 in UTC, and their order. It stands beside the ported order, which
 // compares the stored days first; what that one says of the calendar is proved in `proofs/Meaning.antt`.
+#![tactic(auto)]
+
 ghost use Rattle.std.specs.Prelude.{◌≡◌};
 ghost use Rattle.instants.specs.Instants as spec;
 
@@ -9,7 +11,7 @@ use order::Compared;
 use refusals::{Kind, Refusal};
 
 // The instant of a Datetime, or why it has none.
-#[derive(Drop)]
+#[derive(Clone, Copy)]
 pub enum Instant {
     Seconds(i64),
     NoSeconds(Refusal),

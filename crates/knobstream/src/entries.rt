@@ -11,7 +11,7 @@ use days::Period;
 
 // What a call answers: how many entries there are now, or were listed, with the refusal 0; or the number of a refusal and 0.
 #[repr(C)]
-#[derive(Drop)]
+#[derive(Clone, Copy)]
 pub struct PlainEntries {
     pub entries: usize,
     pub refusal: u8,
@@ -20,7 +20,7 @@ pub struct PlainEntries {
 // What the question is answered: whether an entry touches the period, and how many were read to tell, with the refusal 0; or the number of a
 // refusal and zeros.
 #[repr(C)]
-#[derive(Drop)]
+#[derive(Clone, Copy)]
 pub struct PlainReply {
     pub read: usize,
     pub found: u8,

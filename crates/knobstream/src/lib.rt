@@ -1,5 +1,7 @@
 // The calls for C and Rust, over numbers, lent slices and plain structs. None has a `requires`: every number and every slice is taken, the
 // empty slice with a null pointer too.
+#![tactic(auto)]
+
 ghost use Rattle.std.specs.Prelude.{◌≡◌, false, ◌≤◌, ◌<◌, length};
 ghost use Rattle.reading_laws.specs.Field.{parsed, parsed_strict, parsed_level_one};
 ghost use Rattle.chunks.specs.Lent.{lent, optional, three};
@@ -35,7 +37,7 @@ mod ranges;
 
 // A Datetime. A part that is absent has 0 in its `has_` number and in its own.
 #[repr(C)]
-#[derive(Drop)]
+#[derive(Clone, Copy)]
 pub struct PlainDatetime {
     pub year: i32,
     pub has_month: u8,
@@ -55,7 +57,7 @@ pub struct PlainDatetime {
 }
 
 // A Date. The second Datetime is all zeros but in a range with both ends.
-#[derive(Drop)]
+#[derive(Clone, Copy)]
 pub struct PlainDate {
     // 0 At, 1 After, 2 Before, 3 Between.
     pub shape: u8,
@@ -67,7 +69,7 @@ pub struct PlainDate {
 
 // What a reader answers: a Date with the refusal 0, or the number of a refusal and its place with a Date that is all zeros. A caller that is
 // not Rattle gets it as seven words, which it lends (`put`).
-#[derive(Drop)]
+#[derive(Clone, Copy)]
 pub struct PlainRead {
     pub start: u64,
     pub end: u64,
@@ -77,7 +79,7 @@ pub struct PlainRead {
 
 // What a writer answers, or measuring: how many bytes it stored, or the text has, with the refusal 0; or the number of a refusal and 0.
 #[repr(C)]
-#[derive(Drop)]
+#[derive(Clone, Copy)]
 pub struct PlainWritten {
     pub length: usize,
     pub refusal: u8,

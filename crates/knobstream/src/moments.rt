@@ -12,7 +12,7 @@ use instants::Instant;
 
 // The first and the last day with the refusal 0, or zeros and the number of a refusal.
 #[repr(C)]
-#[derive(Drop)]
+#[derive(Clone, Copy)]
 pub struct PlainDays {
     pub first: i32,
     pub last: i32,
@@ -21,7 +21,7 @@ pub struct PlainDays {
 
 // The seconds of an instant with the refusal 0, or 0 and the number of a refusal.
 #[repr(C)]
-#[derive(Drop)]
+#[derive(Clone, Copy)]
 pub struct PlainInstant {
     pub seconds: i64,
     pub refusal: u8,

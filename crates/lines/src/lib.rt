@@ -1,4 +1,6 @@
 // The lines of a stream that comes in blocks, and the answers to them. No input or output here: a step takes a block and fills a lent buffer.
+#![tactic(auto)]
+
 ghost use Rattle.std.specs.Prelude.{◌≡◌, false, ◌+◌, ◌≤◌, eqb, ltb, length, drop};
 ghost use Rattle.chars.specs.Pick.{pick};
 ghost use Rattle.puts.specs.Answers as writing;
@@ -15,7 +17,7 @@ const LIMIT: usize = 16384;
 
 // What a step did: how many bytes of the block it took, whether the line that goes on behind them is too long already, how many bytes of
 // answers it put, and whether it stopped because there was no room for the next one.
-#[derive(Drop)]
+#[derive(Clone, Copy)]
 pub struct Taken {
     pub bytes: usize,
     pub long: bool,

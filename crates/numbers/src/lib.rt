@@ -1,4 +1,6 @@
 // Numbers of a text: a run of numeric characters, with white space and a sign before it as the ported code takes them.
+#![tactic(auto)]
+
 ghost use Rattle.std.specs.Prelude.{◌≡◌, true, ◌+◌, ◌<◌, ◌≤◌, ◌-◌, length};
 ghost use Rattle.numbers.specs.Number as spec;
 ghost use Rattle.chars.specs.Signs.{signed};
@@ -12,7 +14,7 @@ use scanner::{Class, Cursor, EatIf, Run};
 const HYPHEN: u32 = b'-' as u32;
 
 // The byte lengths that a run of numeric characters may have, where the ported code gives a range.
-#[derive(Drop)]
+#[derive(Clone, Copy)]
 pub enum Digits {
     // 1..=2
     OneOrTwo,
@@ -23,7 +25,7 @@ pub enum Digits {
 }
 
 // What reading a number gives.
-#[derive(Drop)]
+#[derive(Clone, Copy)]
 pub enum Parsed {
     // The number, and the place behind it.
     Number { value: u32, next: Cursor },
@@ -34,7 +36,7 @@ pub enum Parsed {
 }
 
 // The same, of a number with a sign.
-#[derive(Drop)]
+#[derive(Clone, Copy)]
 pub enum ReadInt {
     Int { value: i32, next: Cursor },
     NoInt { next: Cursor },
@@ -42,7 +44,7 @@ pub enum ReadInt {
 }
 
 // A run of numeric characters, and whether a minus stands before it.
-#[derive(Drop)]
+#[derive(Clone, Copy)]
 pub struct SignedRun {
     pub negative: bool,
     pub numeric: Run,
@@ -136,7 +138,7 @@ pub fn parse_int(s: &[u8], c: Cursor, digits: Digits) -> ReadInt
 // ---- what the ported code uses of Rust's `str`: a text without the white space at its ends, and a whole text as a number
 
 // A whole text as a number: the number, or that it is none.
-#[derive(Drop)]
+#[derive(Clone, Copy)]
 pub enum ParsedNumber {
     Value(u32),
     NoValue,
@@ -192,7 +194,7 @@ fn trim_quick(s: &[u8], i: usize) -> usize
 }
 
 // A place that is reached by steps, and whether no step goes on from it.
-#[derive(Drop)]
+#[derive(Clone, Copy)]
 struct Reached {
     at: usize,
     over: bool,

@@ -1,4 +1,6 @@
 // The two partial orders of the ported code: of times, and of dates with them.
+#![tactic(auto)]
+
 ghost use Rattle.std.specs.Prelude.{◌≡◌};
 ghost use Rattle.order.specs.Order as spec;
 
@@ -6,7 +8,7 @@ use dates::{Datetime, OptionDay, OptionMonth, OptionOffset, OptionTime, Time};
 use refusals::{Kind, Refusal};
 
 // How the first stands to the second.
-#[derive(Drop)]
+#[derive(Clone, Copy)]
 pub enum Order {
     Less,
     Equal,
@@ -16,7 +18,7 @@ pub enum Order {
 }
 
 // How the first stands to the second, or why they are not compared.
-#[derive(Drop)]
+#[derive(Clone, Copy)]
 pub enum Compared {
     Stands(Order),
     Refused(Refusal),

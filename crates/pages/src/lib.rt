@@ -1,5 +1,7 @@
 // Page ranges: up to 64 pieces that are already split, each a chunk list and a range of two numbers; and the text of a range.
 // All pieces are judged before the first number is stored, so that a refusal stores nothing.
+#![tactic(auto)]
+
 ghost use Rattle.std.specs.Prelude.{◌≡◌, true, false, [], ◌∷◌, ◌+◌, ◌*◌, ◌^◌, ◌%◌, ◌≤◌, ◌<◌, eqb, length, drop};
 ghost use Rattle.std.proofs.lemmas.List.Edits.{sets};
 ghost use Rattle.chunks.specs.Chunks.{chunks_of, lengths, is_short};
@@ -24,14 +26,14 @@ const EN_DASH: u32 = 0x2013;
 const EM_DASH: u32 = 0x2014;
 
 // What one piece says: a range from a page to another, or why it is none.
-#[derive(Drop)]
+#[derive(Clone, Copy)]
 pub enum ReadRange {
     Range { start: u32, end: u32 },
     NoRange(Refusal),
 }
 
 // What a call answers.
-#[derive(Drop)]
+#[derive(Clone, Copy)]
 pub enum Answer {
     // So many ranges.
     Ranges(usize),
@@ -39,14 +41,14 @@ pub enum Answer {
 }
 
 // A number and the place behind it, or why there is none.
-#[derive(Drop)]
+#[derive(Clone, Copy)]
 enum ReadNumber {
     NumberIs { value: u32, next: Cursor },
     NoNumber(Refusal),
 }
 
 // What the piece at a place says, and how many bytes it has.
-#[derive(Drop)]
+#[derive(Clone, Copy)]
 struct Taken {
     read: ReadRange,
     len: usize,

@@ -1,5 +1,7 @@
 // A point of a date field, as the ported `Datetime::parse` reads it, with the places of its refusals.
 // Each step gives what it read and the place behind it, or a refusal that is finished: nobody above computes a place again.
+#![tactic(auto)]
+
 ghost use Rattle.std.specs.Prelude.{◌≡◌, ◌<◌};
 ghost use Rattle.std.specs.Int.Signed.{mag};
 ghost use Rattle.numbers.specs.declared.Digits.TheVariants.{Two, Four};
@@ -15,13 +17,13 @@ use numbers::{Digits, Parsed, ReadInt, SignedRun};
 use refusals::{Kind, TextRefusal, panics, refuse_text};
 use scanner::{Class, Cursor, EatIf, Next};
 
-#[derive(Drop)]
+#[derive(Clone, Copy)]
 pub enum ReadPoint {
     Point(Datetime),
     Refused(TextRefusal),
 }
 
-#[derive(Drop)]
+#[derive(Clone, Copy)]
 pub enum ReadYear {
     Year { year: i32, next: Cursor },
     NoYear(TextRefusal),
@@ -38,26 +40,26 @@ const ZED: u32 = b'Z' as u32;
 const PLUS: u32 = b'+' as u32;
 
 // A month, a day, an hour, a minute or a second, counted from the lowest number that it may have.
-#[derive(Drop)]
+#[derive(Clone, Copy)]
 pub enum ReadPart {
     Stored { value: u8, next: Cursor },
     NoPart(TextRefusal),
 }
 
 // A separator: the place behind it.
-#[derive(Drop)]
+#[derive(Clone, Copy)]
 pub enum ReadSeparator {
     Passed(Cursor),
     Missing(TextRefusal),
 }
 
-#[derive(Drop)]
+#[derive(Clone, Copy)]
 pub enum ReadTime {
     Clock(Time),
     NoClock(TextRefusal),
 }
 
-#[derive(Drop)]
+#[derive(Clone, Copy)]
 pub enum ReadOffset {
     Shift(TimeOffset),
     NoShift(TextRefusal),

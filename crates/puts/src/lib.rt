@@ -1,5 +1,7 @@
 // What all writers share: bytes and digits at a place of a lent buffer, and the decision between a refusal and a length. Each of these
 // functions gives the place behind what it put; where there is no room it stores nothing, and gives the place that it was given.
+#![tactic(auto)]
+
 ghost use Rattle.std.specs.Prelude.{◌≡◌, ◌+◌, ◌≤◌, ◌<◌, leb, length};
 ghost use Rattle.puts.specs.Numbers as numbers;
 ghost use Rattle.puts.specs.Answers as spec;
@@ -10,7 +12,7 @@ ghost use Rattle.puts.specs.Marks.{mark_text};
 use refusals::{Kind, Refusal, nowhere};
 
 // What a writer answers.
-#[derive(Drop)]
+#[derive(Clone, Copy)]
 pub enum Written {
     // The text was written, with so many bytes.
     Done(usize),
@@ -18,7 +20,7 @@ pub enum Written {
 }
 
 // How long a text is.
-#[derive(Drop)]
+#[derive(Clone, Copy)]
 pub enum Measured {
     Length(usize),
     NoLength(Refusal),

@@ -2,6 +2,8 @@
 // words, which are handed on in registers; a usual text is answered at once (`codes`), where it stands or formatted, and any other goes the way for
 // all. The same answers as a Date are for who wants one.
 // No call keeps anything, and no refusal changes a lent byte: the lists are lent for reading only.
+#![tactic(auto)]
+
 ghost use Rattle.std.specs.Prelude.{◌≡◌, true, false, ◌&&◌, ◌||◌, [], eqb, ltb, ◌%◌, ◌≤◌, length, take};
 ghost use Rattle.std.proofs.Math.Option.{none, some};
 ghost use Rattle.chunks.specs.Chunks.{is_short, chunks_of, kinds_known, no_math, lengths, span_of};

@@ -1,5 +1,7 @@
 // Refusals: why a call refuses, and where. A place in the formatted text and a place in the file are two types. Only the functions here
 // make one of the other.
+#![tactic(auto)]
+
 ghost use Rattle.std.specs.Prelude.{◌≡◌};
 ghost use Rattle.refusals.specs.Refusal as spec;
 ghost use Rattle.refusals.specs.Offset as move_specs;
@@ -8,7 +10,7 @@ use dates::Date;
 use scanner::Cursor;
 
 // Why a call refuses.
-#[derive(Drop)]
+#[derive(Clone, Copy)]
 pub enum Kind {
     // The date range is open on both sides.
     UndefinedRange,
@@ -66,29 +68,29 @@ pub enum Kind {
 
 // A place in the file, from a byte to another. The last field is private: everyone reads the two numbers, and only the functions here
 // make a place.
-#[derive(Drop)]
+#[derive(Clone, Copy)]
 pub struct FileSpan(pub u64, pub u64, ());
 
 // A place in the formatted text, from a byte to another.
-#[derive(Drop)]
+#[derive(Clone, Copy)]
 pub struct TextSpan(pub usize, pub usize);
 
 // A refusal, with its place in the file.
-#[derive(Drop)]
+#[derive(Clone, Copy)]
 pub struct Refusal {
     pub kind: Kind,
     pub place: FileSpan,
 }
 
 // What a reader of dates answers: a Date, or why there is none.
-#[derive(Drop)]
+#[derive(Clone, Copy)]
 pub enum ReadDate {
     Accepted(Date),
     Refused(Refusal),
 }
 
 // A refusal while the formatted text is read, with its place in that text.
-#[derive(Drop)]
+#[derive(Clone, Copy)]
 pub struct TextRefusal {
     pub kind: Kind,
     pub place: TextSpan,

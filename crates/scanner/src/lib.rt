@@ -1,5 +1,7 @@
 // The scanner: a cursor by value over a lent text, and what the readers eat at it.
 // The names are those of the scanner that the ported code uses; a text is passed beside its cursor. `Scanner` holds both.
+#![tactic(auto)]
+
 ghost use Rattle.std.specs.Prelude.{◌≡◌, true, ◌+◌, ◌≤◌, length};
 ghost use Rattle.scanner.specs.Class.{in_class};
 ghost use Rattle.scanner.specs.Scan as spec;
@@ -16,11 +18,11 @@ const PLUS: u32 = b'+' as u32;
 const NO_BREAK_SPACE: u32 = 0xA0;
 
 // A place in the formatted text, in bytes. It is no place in the file: of a date only the offset rule of `refusals` makes one of it.
-#[derive(Drop)]
+#[derive(Clone, Copy)]
 pub struct Cursor(pub usize);
 
 // What the ported code gives its scanner as a pattern: a predicate, a few characters or one.
-#[derive(Drop)]
+#[derive(Clone, Copy)]
 pub enum Class {
     Whitespace,
     // White space other than the no-break space.
@@ -38,14 +40,14 @@ pub enum Class {
 }
 
 // Whether something was eaten: the place behind it, or not.
-#[derive(Drop)]
+#[derive(Clone, Copy)]
 pub enum EatIf {
     Past(Cursor),
     Kept,
 }
 
 // The next character and the place behind it, if there is one.
-#[derive(Drop)]
+#[derive(Clone, Copy)]
 pub enum Next {
     Ate(u32, Cursor),
     Nothing,
@@ -118,7 +120,7 @@ fn eat_each(s: &[u8], at: usize, class: Class) -> usize
 }
 
 // Bytes from the first to the second; none where the first is above the second.
-#[derive(Drop)]
+#[derive(Clone, Copy)]
 struct Bytes(u8, u8);
 
 // ASCII characters of the class that come in runs: where a run of them ends is cheap to find.
@@ -328,7 +330,7 @@ pub fn from(s: &[u8], start: Cursor, c: Cursor) -> &[u8]
 }
 
 // A run of characters: the place where it starts and the place behind it.
-#[derive(Drop)]
+#[derive(Clone, Copy)]
 pub struct Run {
     pub start: Cursor,
     pub end: Cursor,
@@ -346,7 +348,7 @@ fn run_at(s: &[u8], c: Cursor, class: Class) -> Run
 
 // A text that is lent, and a place in it. Few functions are over it: each takes it apart and leaves the work to a function on the
 // text and the place. Readers call `next_run`, which takes those two.
-#[derive(Drop)]
+#[derive(Clone, Copy)]
 pub struct Scanner<'a> {
     pub text: &'a [u8],
     pub at: Cursor,

@@ -15,14 +15,14 @@ use Rattle.runs.specs.Steps.{Outcome}
 use Rattle.runs.specs.Steps.Outcome.{wait, took, over}
 use Rattle.runs.specs.Runs.{Run}
 use Rattle.runs.specs.Runs.Run.{start, read, end as file_end, step}
-use Rattle.csv.specs.declared.Fault.{Fault}
-use Rattle.csv.specs.declared.RowRead.{RowRead}
-use Rattle.csv.specs.declared.RowRead.TheVariants.{Row, Faulty, Endless, More, Nothing}
-use Rattle.csv.specs.declared.Skipped.{Skipped}
-use Rattle.csv.specs.declared.Skipped.TheVariants.{Ended, On, Wait as Unknown, Over as NoMore}
-use Rattle.csv.specs.Reader.{byte_of}
-use Rattle.csv.specs.Bytes.{feeds}
-use Rattle.csv.specs.Answers.{answer, skipped}
+use Rattle.csv_rows.specs.declared.Fault.{Fault}
+use Rattle.csv_rows.specs.declared.RowRead.{RowRead}
+use Rattle.csv_rows.specs.declared.RowRead.TheVariants.{Row, Faulty, Endless, More, Nothing}
+use Rattle.csv_rows.specs.declared.Skipped.{Skipped}
+use Rattle.csv_rows.specs.declared.Skipped.TheVariants.{Ended, On, Wait as Unknown, Over as NoMore}
+use Rattle.csv_rows.specs.Reader.{byte_of}
+use Rattle.csv_rows.specs.Bytes.{feeds}
+use Rattle.csv_rows.specs.Answers.{answer, skipped}
 use Rattle.headers.specs.declared.RowFault.TheVariants.{Broken}
 use Rattle.headers.specs.declared.Header.{Header}
 use Rattle.headers.specs.declared.Header.TheVariants.{Wait, Without, With}

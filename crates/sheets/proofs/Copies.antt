@@ -9,9 +9,9 @@ use Rattle.chars.proofs.Cases.{by-test}
 use native.Mathlib.Omega.{arith}
 use mathlib.Core.Path.{◌≡◌, ap, refl, ◌∙◌}
 use mathlib.Core.List.{List, [], ◌∷◌}
-use Rattle.csv.specs.declared.Copied.{Copied}
-use Rattle.csv.specs.declared.Copied.TheVariants.{Text, NoRoom}
-use Rattle.csv.specs.Texts.{undoubled, copied, copied_into}
+use Rattle.csv_rows.specs.declared.Copied.{Copied}
+use Rattle.csv_rows.specs.declared.Copied.TheVariants.{Text, NoRoom}
+use Rattle.csv_rows.specs.Texts.{undoubled, copied, copied_into}
 
 -- the text is no longer than the own bytes
 pub undoubled-short : (s : List ℕ) → length (undoubled s) ≤ length s

@@ -10,12 +10,12 @@ use Rattle.runs.specs.Steps.{Outcome}
 use Rattle.runs.specs.Steps.Outcome.{wait, took, over}
 use Rattle.runs.specs.Pieces.{Piece, all_texts, Reading}
 use Rattle.runs.specs.Pieces.Reading.{ends, piece}
-use Rattle.csv.specs.declared.RowRead.{RowRead}
-use Rattle.csv.specs.declared.RowRead.TheVariants.{Row, Faulty, Endless, More, Nothing}
-use Rattle.csv.specs.declared.Skipped.{Skipped}
-use Rattle.csv.specs.declared.Skipped.TheVariants.{Ended, On, Wait as Unknown, Over as NoMore}
-use Rattle.csv.specs.Reader.{byte_of}
-use Rattle.csv.specs.Answers.{answer, skipped}
+use Rattle.csv_rows.specs.declared.RowRead.{RowRead}
+use Rattle.csv_rows.specs.declared.RowRead.TheVariants.{Row, Faulty, Endless, More, Nothing}
+use Rattle.csv_rows.specs.declared.Skipped.{Skipped}
+use Rattle.csv_rows.specs.declared.Skipped.TheVariants.{Ended, On, Wait as Unknown, Over as NoMore}
+use Rattle.csv_rows.specs.Reader.{byte_of}
+use Rattle.csv_rows.specs.Answers.{answer, skipped}
 use Rattle.verdicts.specs.declared.Verdict.{Verdict}
 use Rattle.verdicts.specs.declared.Verdict.TheVariants.{NoDate, Full, NotStrict, ShortYear, Unread, Refused}
 use Rattle.verdicts.specs.Dates.{date_verdict}

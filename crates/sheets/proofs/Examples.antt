@@ -28,15 +28,15 @@ use Rattle.fields.specs.Names.{lower}
 use Rattle.reading_laws.specs.Field.{on_clean, parsed, parsed_strict}
 use Rattle.runs.specs.Steps.{told, report_by, report_on}
 use Rattle.runs.specs.Steps.Outcome.{wait, took, over}
-use Rattle.csv.specs.declared.Separator.TheVariants.{Comma, Tab}
-use Rattle.csv.specs.declared.Fault.TheVariants.{QuoteInside, TooLong}
-use Rattle.csv.specs.declared.RowRead.TheVariants.{Row, Faulty, Endless, More as MoreRows, Nothing}
-use Rattle.csv.specs.declared.Skipped.TheVariants.{Ended, On, Wait as Unknown, Over as NoMore}
-use Rattle.csv.specs.Reader.{is_stop, is_special, is, up_to, inner_len, return_of, stop_of, closed, plain_by, quoted_by, cell_of, line_by, line_from, line}
-use Rattle.csv.specs.Answers.{window, is_cut, is_over, place_of, end_len, counted, row_by, refused, answer_by, answer_of, line_of, answer, numbers, listed, table_after}
-use Rattle.csv.specs.Texts.{own_bytes, undoubled}
-use Rattle.csv.specs.Bytes.{one_if, feeds, utf8_from, utf8_end}
-use Rattle.csv.proofs.Whole.{accepted}
+use Rattle.csv_rows.specs.declared.Separator.TheVariants.{Comma, Tab}
+use Rattle.csv_rows.specs.declared.Fault.TheVariants.{QuoteInside, TooLong}
+use Rattle.csv_rows.specs.declared.RowRead.TheVariants.{Row, Faulty, Endless, More as MoreRows, Nothing}
+use Rattle.csv_rows.specs.declared.Skipped.TheVariants.{Ended, On, Wait as Unknown, Over as NoMore}
+use Rattle.csv_rows.specs.Reader.{is_stop, is_special, is, up_to, inner_len, return_of, stop_of, closed, plain_by, quoted_by, cell_of, line_by, line_from, line}
+use Rattle.csv_rows.specs.Answers.{window, is_cut, is_over, place_of, end_len, counted, row_by, refused, answer_by, answer_of, line_of, answer, numbers, listed, table_after}
+use Rattle.csv_rows.specs.Texts.{own_bytes, undoubled}
+use Rattle.csv_rows.specs.Bytes.{one_if, feeds, utf8_from, utf8_end}
+use Rattle.csv_rows.proofs.Whole.{accepted}
 use Rattle.verdicts.specs.declared.Verdict.{Verdict}
 use Rattle.verdicts.specs.declared.Verdict.TheVariants.{NoDate, Full, NotStrict, ShortYear, Unread, Refused}
 use Rattle.verdicts.specs.Dates.{by_readers, date_verdict}

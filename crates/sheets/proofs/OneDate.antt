@@ -1,7 +1,7 @@
 -- What is said of a date in one cell. Assumes nothing.
 use Rattle.verdicts.specs.Fields.{cells, six_verdict}
 use Prim.Native.Nat.{ℕ, ◌≤◌}
-use Rattle.csv.specs.Texts.{undoubled}
+use Rattle.csv_rows.specs.Texts.{undoubled}
 use Rattle.sheets.specs.Tallies.{one_date}
 use lib.ListN.{length}
 use Rattle.findings.specs.Words.{is_said}

@@ -1,4 +1,4 @@
-use Rattle.csv.specs.Texts.{undoubled}
+use Rattle.csv_rows.specs.Texts.{undoubled}
 use Rattle.chars.specs.Pick.{pick}
 use borrow.Author.Tests.{ne_eqb}
 use lib.ListN.{get_or, length}

@@ -14,22 +14,22 @@ use Rattle.runs.specs.Steps.Outcome.{wait, took, over}
 use Rattle.runs.specs.Pieces.{Piece, all_texts, Reading}
 use Rattle.runs.specs.Pieces.Reading.{ends, piece}
 use Rattle.runs.proofs.Pieces.{is_read, no-others}
-use Rattle.csv.specs.declared.Separator.{Separator}
-use Rattle.csv.specs.declared.Fault.{Fault}
-use Rattle.csv.specs.declared.RowRead.{RowRead}
-use Rattle.csv.specs.declared.RowRead.TheVariants.{Row, Faulty, Endless, More, Nothing}
-use Rattle.csv.specs.declared.Skipped.{Skipped}
-use Rattle.csv.specs.declared.Skipped.TheVariants.{Ended, On, Wait as Unknown, Over as NoMore}
-use Rattle.csv.specs.Reader.{byte_of, Place, line}
-use Rattle.csv.specs.Bytes.{feeds}
-use Rattle.csv.specs.Answers.{counted, row_by, answer_by, answer_of, is_over, answer, skipped}
-use Rattle.csv.specs.Grammar.{Cells, LineEnd, RowAt, Limited}
-use Rattle.csv.specs.Grammar.LineEnd.{feed, return_feed, file_end}
-use Rattle.csv.specs.Grammar.RowAt.{row}
-use Rattle.csv.proofs.Pieces.{Apart, apart}
-use Rattle.csv.proofs.Stable.{stays, answer-whole}
-use Rattle.csv.proofs.Exact.{cells-read, feed-ends, return-ends, end-no-sep}
-use Rattle.csv.proofs.Whole.{accepted}
+use Rattle.csv_rows.specs.declared.Separator.{Separator}
+use Rattle.csv_rows.specs.declared.Fault.{Fault}
+use Rattle.csv_rows.specs.declared.RowRead.{RowRead}
+use Rattle.csv_rows.specs.declared.RowRead.TheVariants.{Row, Faulty, Endless, More, Nothing}
+use Rattle.csv_rows.specs.declared.Skipped.{Skipped}
+use Rattle.csv_rows.specs.declared.Skipped.TheVariants.{Ended, On, Wait as Unknown, Over as NoMore}
+use Rattle.csv_rows.specs.Reader.{byte_of, Place, line}
+use Rattle.csv_rows.specs.Bytes.{feeds}
+use Rattle.csv_rows.specs.Answers.{counted, row_by, answer_by, answer_of, is_over, answer, skipped}
+use Rattle.csv_rows.specs.Grammar.{Cells, LineEnd, RowAt, Limited}
+use Rattle.csv_rows.specs.Grammar.LineEnd.{feed, return_feed, file_end}
+use Rattle.csv_rows.specs.Grammar.RowAt.{row}
+use Rattle.csv_rows.proofs.Pieces.{Apart, apart}
+use Rattle.csv_rows.proofs.Stable.{stays, answer-whole}
+use Rattle.csv_rows.proofs.Exact.{cells-read, feed-ends, return-ends, end-no-sep}
+use Rattle.csv_rows.proofs.Whole.{accepted}
 use Rattle.headers.specs.declared.RowFault.TheVariants.{Broken}
 use Rattle.findings.specs.Words.{capped}
 use Rattle.findings.specs.Lines.{bad_row_line}

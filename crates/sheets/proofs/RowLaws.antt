@@ -1,6 +1,6 @@
 -- A row that is checked: its cells are short, and what is said of it. Assumes nothing.
 use Prim.Native.Nat.{ℕ, ◌≤◌}
-use Rattle.csv.specs.Bytes.{utf8_end}
+use Rattle.csv_rows.specs.Bytes.{utf8_end}
 use Rattle.chars.specs.Pick.{pick}
 use Rattle.sheets.specs.Tallies.{one_bad, one_row}
 use Rattle.chars.proofs.Cases.{of_test}

@@ -17,17 +17,17 @@ use Rattle.runs.specs.Pieces.{Piece, all_bytes, all_texts, Reading}
 use Rattle.runs.specs.Pieces.Reading.{ends, piece}
 use Rattle.runs.proofs.Pieces.{Read}
 use Rattle.puts.specs.Numbers.{digits, digit_count, width, decimal}
-use Rattle.csv.specs.declared.Separator.{Separator}
-use Rattle.csv.specs.declared.Fault.{Fault}
-use Rattle.csv.specs.declared.Fault.TheVariants.{QuoteInside, TextBehind, LoneReturn, NeverClosed, TooLong, TooMany}
-use Rattle.csv.specs.declared.RowRead.{RowRead}
-use Rattle.csv.specs.declared.RowRead.TheVariants.{Row, Faulty, Endless, More, Nothing}
-use Rattle.csv.specs.declared.Skipped.{Skipped}
-use Rattle.csv.specs.Reader.{byte_of}
-use Rattle.csv.specs.Answers.{answer}
-use Rattle.csv.proofs.Moves.{nothing-over}
-use Rattle.csv.proofs.Lines.{skip-moves, Skips}
-use Rattle.csv.proofs.Lines.Skips.{skips_to, skips_on, skips_wait, skips_over}
+use Rattle.csv_rows.specs.declared.Separator.{Separator}
+use Rattle.csv_rows.specs.declared.Fault.{Fault}
+use Rattle.csv_rows.specs.declared.Fault.TheVariants.{QuoteInside, TextBehind, LoneReturn, NeverClosed, TooLong, TooMany}
+use Rattle.csv_rows.specs.declared.RowRead.{RowRead}
+use Rattle.csv_rows.specs.declared.RowRead.TheVariants.{Row, Faulty, Endless, More, Nothing}
+use Rattle.csv_rows.specs.declared.Skipped.{Skipped}
+use Rattle.csv_rows.specs.Reader.{byte_of}
+use Rattle.csv_rows.specs.Answers.{answer}
+use Rattle.csv_rows.proofs.Moves.{nothing-over}
+use Rattle.csv_rows.proofs.Lines.{skip-moves, Skips}
+use Rattle.csv_rows.proofs.Lines.Skips.{skips_to, skips_on, skips_wait, skips_over}
 use Rattle.headers.specs.declared.RowFault.{RowFault}
 use Rattle.headers.specs.declared.RowFault.TheVariants.{Broken, Cells, BadUtf8, LongCell}
 use Rattle.headers.specs.declared.Unusable.{Unusable}

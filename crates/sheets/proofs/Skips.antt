@@ -4,10 +4,10 @@ use mathlib.Core.Bool.{Bool}
 use mathlib.Core.List.{List}
 use Prim.Native.Nat.{ℕ, ◌≤◌}
 use lib.ListN.{length}
-use Rattle.csv.specs.declared.Skipped.TheVariants.{Ended, On}
-use Rattle.csv.specs.Answers.{skipped}
-use Rattle.csv.proofs.Lines.{skip-moves, Skips}
-use Rattle.csv.proofs.Lines.Skips.{skips_to, skips_on}
+use Rattle.csv_rows.specs.declared.Skipped.TheVariants.{Ended, On}
+use Rattle.csv_rows.specs.Answers.{skipped}
+use Rattle.csv_rows.proofs.Lines.{skip-moves, Skips}
+use Rattle.csv_rows.proofs.Lines.Skips.{skips_to, skips_on}
 
 pub skip-ended : (last : Bool) (s : List ℕ) {n : ℕ} → skipped last s ≡ Ended n → n ≤ length s
 skip-ended last s e = of-ended (rw e at (skip-moves last s)) where

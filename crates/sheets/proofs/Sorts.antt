@@ -6,7 +6,7 @@ use Prim.Native.Nat.{ℕ, ◌+◌}
 use native.Mathlib.Omega.{arith}
 use Rattle.chars.specs.Ascii.{ascii}
 use Rattle.runs.specs.Pieces.{Piece, all_texts, Reading}
-use Rattle.csv.specs.declared.Separator.{Separator}
+use Rattle.csv_rows.specs.declared.Separator.{Separator}
 use Rattle.headers.specs.declared.Columns.{Columns}
 use Rattle.headers.specs.declared.Header.TheVariants.{With}
 use Rattle.headers.specs.Header.{header}

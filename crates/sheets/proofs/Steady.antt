@@ -8,16 +8,16 @@ use lib.ListN.{length}
 use lib.Seq.{take-append-le}
 use Rattle.runs.specs.Steps.{Outcome, Steady}
 use Rattle.runs.specs.Steps.Outcome.{wait, took, over}
-use Rattle.csv.specs.declared.RowRead.{RowRead}
-use Rattle.csv.specs.declared.RowRead.TheVariants.{Row, Faulty, Endless, More, Nothing}
-use Rattle.csv.specs.declared.Skipped.{Skipped}
-use Rattle.csv.specs.declared.Skipped.TheVariants.{Wait as Unknown}
-use Rattle.csv.specs.Reader.{byte_of}
-use Rattle.csv.specs.Answers.{answer, skipped}
-use Rattle.csv.proofs.Stable.{stays}
-use Rattle.csv.proofs.Moves.{row-advances, fault-advances, endless-long, more-short}
-use Rattle.csv.proofs.Lines.{skip-stays, skip-moves, Skips}
-use Rattle.csv.proofs.Lines.Skips.{skips_to, skips_on, skips_wait, skips_over}
+use Rattle.csv_rows.specs.declared.RowRead.{RowRead}
+use Rattle.csv_rows.specs.declared.RowRead.TheVariants.{Row, Faulty, Endless, More, Nothing}
+use Rattle.csv_rows.specs.declared.Skipped.{Skipped}
+use Rattle.csv_rows.specs.declared.Skipped.TheVariants.{Wait as Unknown}
+use Rattle.csv_rows.specs.Reader.{byte_of}
+use Rattle.csv_rows.specs.Answers.{answer, skipped}
+use Rattle.csv_rows.proofs.Stable.{stays}
+use Rattle.csv_rows.proofs.Moves.{row-advances, fault-advances, endless-long, more-short}
+use Rattle.csv_rows.proofs.Lines.{skip-stays, skip-moves, Skips}
+use Rattle.csv_rows.proofs.Lines.Skips.{skips_to, skips_on, skips_wait, skips_over}
 use Rattle.headers.specs.declared.Header.{Header}
 use Rattle.headers.specs.declared.Header.TheVariants.{Wait, Without, With}
 use Rattle.headers.specs.Header.{header, row_cells}

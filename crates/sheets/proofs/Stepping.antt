@@ -3,14 +3,14 @@ use Rattle.findings.specs.Lines.{unread_line}
 use Rattle.chars.specs.Pick.{pick}
 use borrow.Author.Tests.{le-ltb, lt-ltb}
 use Rattle.headers.specs.Header.{header, row_cells}
-use Rattle.csv.specs.Reader.{byte_of}
-use Rattle.csv.specs.Answers.{answer, skipped}
+use Rattle.csv_rows.specs.Reader.{byte_of}
+use Rattle.csv_rows.specs.Answers.{answer, skipped}
 use Rattle.sheets.specs.declared.Taken.{Taken}
 use mathlib.Core.Bool.{Bool}
-use Rattle.csv.specs.declared.RowRead.TheVariants.{Row, Faulty, Endless, More as MoreOf, Nothing}
-use Rattle.csv.specs.declared.Skipped.TheVariants.{Ended, On, Wait as Unknown, Over as NoMore}
-use Rattle.csv.specs.declared.Fault.{Fault}
-use Rattle.csv.specs.declared.Separator.{Separator}
+use Rattle.csv_rows.specs.declared.RowRead.TheVariants.{Row, Faulty, Endless, More as MoreOf, Nothing}
+use Rattle.csv_rows.specs.declared.Skipped.TheVariants.{Ended, On, Wait as Unknown, Over as NoMore}
+use Rattle.csv_rows.specs.declared.Fault.{Fault}
+use Rattle.csv_rows.specs.declared.Separator.{Separator}
 use Rattle.headers.specs.declared.Columns.{Columns}
 use Rattle.headers.specs.declared.Header.TheVariants.{Wait, Without, With}
 use Rattle.headers.specs.declared.Unusable.{Unusable}

@@ -1,8 +1,8 @@
 -- What the private functions say of the output. No public contract rests on it.
 use Rattle.runs.specs.Steps.{Outcome}
 use Rattle.runs.specs.Steps.Outcome.{took, over}
-use Rattle.csv.specs.declared.Fault.{Fault}
-use Rattle.csv.specs.declared.RowRead.TheVariants.{Row}
+use Rattle.csv_rows.specs.declared.Fault.{Fault}
+use Rattle.csv_rows.specs.declared.RowRead.TheVariants.{Row}
 use Rattle.headers.specs.declared.RowFault.TheVariants.{Broken}
 use Rattle.sheets.specs.declared.Phase.{Phase}
 use Rattle.sheets.specs.declared.State.{State}
@@ -13,7 +13,7 @@ use Rattle.std.specs.Prelude.{ℕ, ◌+◌, ◌≤◌, ◌≡◌, List, ◌++◌
 use Rattle.puts.specs.declared.Written.{Written}
 use Rattle.puts.specs.declared.Written.TheVariants.{Done, Refused}
 use Rattle.puts.specs.Answers.{Put}
-use Rattle.csv.specs.Texts.{undoubled}
+use Rattle.csv_rows.specs.Texts.{undoubled}
 use Rattle.verdicts.specs.declared.Verdict.{Verdict}
 use Rattle.verdicts.specs.Fields.{cells, six_verdict}
 use Rattle.findings.specs.Lines.{six_line, bad_row_line}

@@ -1,11 +1,11 @@
 -- A file that is cut behind rows, each part with the header again: which rows it is cut behind, and what its parts count together.
 use Rattle.std.specs.Prelude.{◌≡◌, false, List, [], ◌∷◌, ◌++◌, ℕ, ◌+◌, ◌<◌, length}
-use Rattle.csv.specs.declared.Separator.{Separator}
-use Rattle.csv.specs.declared.Fault.{Fault}
-use Rattle.csv.specs.declared.RowRead.TheVariants.{Faulty}
-use Rattle.csv.specs.Reader.{byte_of}
-use Rattle.csv.specs.Answers.{answer}
-use Rattle.csv.specs.Grammar.{Limited}
+use Rattle.csv_rows.specs.declared.Separator.{Separator}
+use Rattle.csv_rows.specs.declared.Fault.{Fault}
+use Rattle.csv_rows.specs.declared.RowRead.TheVariants.{Faulty}
+use Rattle.csv_rows.specs.Reader.{byte_of}
+use Rattle.csv_rows.specs.Answers.{answer}
+use Rattle.csv_rows.specs.Grammar.{Limited}
 use Rattle.findings.specs.Words.{capped}
 use Rattle.sheets.specs.declared.Tally.{Tally}
 use Rattle.sheets.specs.Ends.{EndsWith}

@@ -3,8 +3,8 @@ use Rattle.std.specs.Prelude.{ℕ, Bool, List, [], ◌++◌, ltb, length, drop}
 use Rattle.chars.specs.Pick.{pick}
 use Rattle.runs.specs.Steps.{Outcome, report_on}
 use Rattle.runs.specs.Steps.Outcome.{wait, took, over}
-use Rattle.csv.specs.Reader.{byte_of}
-use Rattle.csv.specs.Answers.{table_after}
+use Rattle.csv_rows.specs.Reader.{byte_of}
+use Rattle.csv_rows.specs.Answers.{table_after}
 use Rattle.sheets.specs.declared.Phase.{Phase}
 use Rattle.sheets.specs.declared.Phase.TheVariants.{Start, Rows, Skipping}
 use Rattle.sheets.specs.declared.State.{State}

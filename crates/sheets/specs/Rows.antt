@@ -1,8 +1,8 @@
 -- What is said of a row: its lines, and what it counts. A row is given by the own bytes of its cells.
 use Rattle.std.specs.Prelude.{ℕ, Bool, false, ◌||◌, List, [], ◌++◌, eqb, ltb, length, get_or, take}
 use Rattle.chars.specs.Pick.{pick}
-use Rattle.csv.specs.Bytes.{utf8_end}
-use Rattle.csv.specs.Texts.{undoubled}
+use Rattle.csv_rows.specs.Bytes.{utf8_end}
+use Rattle.csv_rows.specs.Texts.{undoubled}
 use Rattle.verdicts.specs.declared.Verdict.{Verdict}
 use Rattle.verdicts.specs.declared.Verdict.TheVariants.{NoDate, Full, NotStrict, ShortYear, Unread, Refused}
 use Rattle.verdicts.specs.Dates.{date_verdict}

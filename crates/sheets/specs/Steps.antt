@@ -2,14 +2,14 @@
 use Rattle.std.specs.Prelude.{ℕ, ◌+◌, Bool, List, [], take}
 use Rattle.runs.specs.Steps.{Outcome}
 use Rattle.runs.specs.Steps.Outcome.{wait, took, over}
-use Rattle.csv.specs.declared.Separator.TheVariants.{Comma}
-use Rattle.csv.specs.declared.RowRead.{RowRead}
-use Rattle.csv.specs.declared.RowRead.TheVariants.{Row, Faulty, Endless, More, Nothing}
-use Rattle.csv.specs.declared.Skipped.{Skipped}
-use Rattle.csv.specs.declared.Skipped.TheVariants.{Ended, On, Wait as Unknown, Over as NoMore}
-use Rattle.csv.specs.Reader.{byte_of}
-use Rattle.csv.specs.Answers.{answer, skipped}
-use Rattle.csv.specs.Bytes.{feeds}
+use Rattle.csv_rows.specs.declared.Separator.TheVariants.{Comma}
+use Rattle.csv_rows.specs.declared.RowRead.{RowRead}
+use Rattle.csv_rows.specs.declared.RowRead.TheVariants.{Row, Faulty, Endless, More, Nothing}
+use Rattle.csv_rows.specs.declared.Skipped.{Skipped}
+use Rattle.csv_rows.specs.declared.Skipped.TheVariants.{Ended, On, Wait as Unknown, Over as NoMore}
+use Rattle.csv_rows.specs.Reader.{byte_of}
+use Rattle.csv_rows.specs.Answers.{answer, skipped}
+use Rattle.csv_rows.specs.Bytes.{feeds}
 use Rattle.headers.specs.declared.RowFault.TheVariants.{Broken}
 use Rattle.findings.specs.Words.{capped}
 use Rattle.findings.specs.Lines.{bad_row_line, summary, unread_line}

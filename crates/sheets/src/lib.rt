@@ -1,9 +1,11 @@
 // An import file: its header, its rows, and what is said of them, step by step, however the file comes in blocks. No input or output here:
 // a step takes a block and fills a lent buffer.
+#![tactic(auto)]
+
 ghost use Rattle.std.specs.Prelude.{◌≡◌, true, false, ◌+◌, ◌≤◌, ◌<◌, length, take};
-ghost use Rattle.csv.specs.Texts.{undoubled};
-ghost use Rattle.csv.specs.Reader as reader_specs;
-ghost use Rattle.csv.specs.Answers as csv_specs;
+ghost use Rattle.csv_rows.specs.Texts.{undoubled};
+ghost use Rattle.csv_rows.specs.Reader as reader_specs;
+ghost use Rattle.csv_rows.specs.Answers as csv_specs;
 ghost use Rattle.verdicts.specs.Dates.{date_verdict};
 ghost use Rattle.findings.specs.Words.{capped};
 ghost use Rattle.findings.specs.Lines as lines_specs;
@@ -16,14 +18,14 @@ ghost use Rattle.sheets.specs.declared.Phase.TheVariants as Phase;
 ghost use Rattle.sheets.specs.Inside as inside;
 ghost use Rattle.sheets.specs.Inside.{Going, Told, Short};
 
-use csv::{Copied, Fault, RowRead, Separator, Skipped};
+use csv_rows::{Copied, Fault, RowRead, Separator, Skipped};
 use findings::Column;
 use headers::{Columns, Header, RowFault, Unusable};
 use puts::Written;
 use verdicts::Verdict;
 
 // What is read next: the header, a row, or the rest of a line that is skipped.
-#[derive(Drop)]
+#[derive(Clone, Copy)]
 pub enum Phase {
     Start,
     Rows,
@@ -31,7 +33,7 @@ pub enum Phase {
 }
 
 // What was counted: rows, bad ones too; dates that are strict, read otherwise, refused; bad rows.
-#[derive(Drop)]
+#[derive(Clone, Copy)]
 pub struct Tally {
     pub rows: u32,
     pub strict: u32,
@@ -41,7 +43,7 @@ pub struct Tally {
 }
 
 // What is kept between steps. The line is that on which the next row starts, from 1.
-#[derive(Drop)]
+#[derive(Clone, Copy)]
 pub struct State {
     pub phase: Phase,
     pub separator: Separator,
@@ -53,7 +55,7 @@ pub struct State {
 
 // What a step did: it waits for more of the file; there is no room; it took so many bytes of the block and put so many into the output; the
 // report is over with what it put.
-#[derive(Drop)]
+#[derive(Clone, Copy)]
 pub enum Taken {
     More,
     NoRoom,
@@ -68,14 +70,14 @@ pub enum Taken {
 }
 
 // Whether a row can be used.
-#[derive(Drop)]
+#[derive(Clone, Copy)]
 enum Checked {
     Good,
     Bad(RowFault),
 }
 
 // How much of the output was put, and what was counted.
-#[derive(Drop)]
+#[derive(Clone, Copy)]
 struct Said {
     put: usize,
     tally: Tally,
@@ -198,7 +200,7 @@ fn copy(own: &[u8], text: &mut [u8; 4096]) -> usize
     requires { length own.now ≤ 4096 }
     ensures { (take result text.new ≡ undoubled own.now) × (result ≤ length text.new) }
 {
-    match csv::copy_text(own, text) {
+    match csv_rows::copy_text(own, text) {
         Copied::Text(n) => n,
         Copied::NoRoom => 0,
     }
@@ -277,7 +279,7 @@ fn check_row(
     ensures { result ≡ rows_specs.checked_row c width s.now end count (tables.cells_from s.now table.now 0 count) }
 {
     if count == width {
-        let good = csv::utf8_end(&s[..end]);
+        let good = csv_rows::utf8_end(&s[..end]);
         if good < end {
             return Checked::Bad(RowFault::BadUtf8(good));
         }
@@ -785,7 +787,7 @@ fn behind(st: State, block: &[u8], n: usize, phase: Phase, t: Tally) -> State
     requires { n ≤ length block.now }
     ensures { result ≡ steps_specs.behind st block.now n phase t }
 {
-    let feeds = csv::count_feeds(&block[..n]);
+    let feeds = csv_rows::count_feeds(&block[..n]);
     let separator = st.separator;
     let columns = st.columns;
     State {
@@ -862,7 +864,7 @@ fn row_step(block: &[u8], last: bool, st: State, table: &mut [usize; 512], out: 
 {
     sized(table);
     let separator = st.separator;
-    match csv::next_row(block, separator, last, table) {
+    match csv_rows::next_row(block, separator, last, table) {
         RowRead::Row { end, count } => good_step(block, table, end, count, st, out),
         RowRead::Faulty { end, fault } => bad_step(block, end, fault, Phase::Rows, st, out),
         RowRead::Endless { fault } => bad_step(block, 65536, fault, Phase::Skipping, st, out),
@@ -914,7 +916,7 @@ fn skip_step(block: &[u8], last: bool, st: State, out: &mut [u8]) -> Taken
     ensures { inside.Stepped (steps_specs.step_in Phase.Skipping last block.now st) out.old result out.new }
 {
     let t = st.tally;
-    match csv::skip_line(block, last) {
+    match csv_rows::skip_line(block, last) {
         Skipped::Ended(n) => Taken::Took {
             bytes: n,
             put: 0,

@@ -1,4 +1,6 @@
 // The fields of a start and of an end: three lists each, read by the rules of three fields. The lists are lent for reading only.
+#![tactic(auto)]
+
 ghost use Rattle.std.specs.Prelude.{◌≡◌, true, ◌≤◌, length};
 ghost use Rattle.chunks.specs.Chunks.{is_short};
 ghost use Rattle.chunks.specs.Answer.{room_of};
@@ -12,7 +14,7 @@ use refusals::{ReadDate, Refusal};
 use scanner::Cursor;
 
 // An end year list: blank, with a text, or what is wrong with it.
-#[derive(Drop)]
+#[derive(Clone, Copy)]
 enum EndYear {
     Blank,
     Filled,

@@ -1,6 +1,8 @@
 // The strict reader and the one of level one: a text is taken as it stands, and has a Date exactly if the grammar derives it.
 // Every piece of the strict grammar has a fixed length, so a reader looks at fixed places behind where a point starts. A reader takes as much
 // as the grammar lets it, and what may not follow is refused by the one that looks at what is left.
+#![tactic(auto)]
+
 ghost use Rattle.std.specs.Prelude.{◌≡◌, ◌^◌, ◌≤◌, ◌<◌, take, drop};
 ghost use Rattle.strict.specs.Grammar as grammar;
 ghost use Rattle.strict.specs.Matcher as spec;
@@ -15,56 +17,56 @@ use dates::{
 };
 
 // What the strict grammar says of a text, or the one of level one.
-#[derive(Drop)]
+#[derive(Clone, Copy)]
 pub enum Matched {
     Strict(Date),
     NotStrict,
 }
 
 // A number of two digits.
-#[derive(Drop)]
+#[derive(Clone, Copy)]
 enum OptionTwo {
     NoTwo,
     SomeTwo(u8),
 }
 
 // A number of four digits.
-#[derive(Drop)]
+#[derive(Clone, Copy)]
 enum OptionFour {
     NoFour,
     SomeFour(u16),
 }
 
 // An offset, and the place behind it; if there is none, the place is where it would start.
-#[derive(Drop)]
+#[derive(Clone, Copy)]
 struct ReadOffset {
     offset: OptionOffset,
     next: usize,
 }
 
 // A time, and the place behind it; if there is none, the place is where it would start.
-#[derive(Drop)]
+#[derive(Clone, Copy)]
 struct ReadTime {
     time: OptionTime,
     next: usize,
 }
 
 // Digits, as far as they go or ten of them: how many, and the number that they write.
-#[derive(Drop)]
+#[derive(Clone, Copy)]
 struct ReadDigits {
     count: usize,
     number: u64,
 }
 
 // A point at the front of a text, as long as it goes, and the place behind it.
-#[derive(Drop)]
+#[derive(Clone, Copy)]
 enum ReadPoint {
     Upto { value: Datetime, next: usize },
     NoPoint,
 }
 
 // A range by X at the front of a text, and the place behind it.
-#[derive(Drop)]
+#[derive(Clone, Copy)]
 enum ReadUnknown {
     Within { value: DateValue, next: usize },
     NoUnknown,

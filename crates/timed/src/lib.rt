@@ -1,5 +1,7 @@
 // Writing a date as text with its times, into a buffer that the caller lends. The year, the month and the day of an end are written by the
 // writer that leaves times out, and the time behind them. The length is measured before the first byte is stored.
+#![tactic(auto)]
+
 ghost use Rattle.std.specs.Prelude.{◌≡◌, false, [], ◌∷◌, ◌+◌, ◌≤◌, ◌<◌, length};
 ghost use Rattle.dates.specs.Value.{has_season, any_season};
 ghost use Rattle.puts.specs.Answers.{Put};

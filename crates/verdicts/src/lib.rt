@@ -1,4 +1,6 @@
 // What is said of the dates of a row of an import file: full, read otherwise, or refused. The text of a cell is read as one Normal chunk.
+#![tactic(auto)]
+
 ghost use Rattle.std.specs.Prelude.{◌≡◌};
 ghost use Rattle.datefield.specs.Text as text;
 ghost use Rattle.verdicts.specs.Dates as dates_specs;
@@ -13,7 +15,7 @@ use refusals::{ReadDate, Refusal};
 use scanner::{Class, Cursor, EatIf};
 
 // What is said of a date.
-#[derive(Drop)]
+#[derive(Clone, Copy)]
 pub enum Verdict {
     // There is none.
     NoDate,

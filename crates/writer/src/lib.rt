@@ -1,5 +1,7 @@
 // Writing a date as text, as fields in lines, and as text of level one, into a buffer that the caller lends. The length is measured before the first byte is
 // stored. The writers below put a text at a place of a buffer that has the room, and give the place behind it.
+#![tactic(auto)]
+
 ghost use Rattle.std.specs.Prelude.{◌≡◌, false, [], ◌∷◌, ◌++◌, ◌+◌, ◌≤◌, ◌<◌, ltb, nat_abs, length};
 ghost use Rattle.chars.specs.Ascii.{ascii};
 ghost use Rattle.puts.specs.Numbers as numbers;
@@ -19,7 +21,7 @@ use puts::{Measured, Written, decide, put_bytes, put_digits, put_mark, width};
 use refusals::{Kind, nowhere};
 
 // What is written behind a year.
-#[derive(Drop)]
+#[derive(Clone, Copy)]
 pub enum Parts {
     NoParts,
     WithMonth(WrittenMonth),

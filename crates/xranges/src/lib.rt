@@ -1,4 +1,6 @@
 // X ranges of a date field: a century or a decade, the months of a year, the days of a month.
+#![tactic(auto)]
+
 ghost use Rattle.std.specs.Prelude.{◌≡◌, ◌-◌, ◌+◌, ◌^◌, ◌<◌, pos};
 ghost use Rattle.refusals.specs.Offset.{text_refusal};
 ghost use Rattle.xranges.specs.Range as spec;
@@ -15,14 +17,14 @@ const HYPHEN: u32 = b'-' as u32;
 const LETTER_X: u32 = b'X' as u32;
 
 // The first and the last date of a range, or why there is none.
-#[derive(Drop)]
+#[derive(Clone, Copy)]
 pub enum ReadRange {
     Range(Datetime, Datetime),
     NoRange(TextRefusal),
 }
 
 // The place behind a hyphen, or why there is none.
-#[derive(Drop)]
+#[derive(Clone, Copy)]
 enum ReadHyphen {
     Behind(Cursor),
     NoHyphen(TextRefusal),

@@ -1,4 +1,4 @@
-use Rattle.csv.proofs.Moves.{row-advances}
+use Rattle.csv_rows.proofs.Moves.{row-advances}
 use Rattle.headers.proofs.Csv.{row-cells}
 use mathlib.Core.Path.{sym, ◌∙◌, ap, refl}
 use native.Mathlib.Omega.{arith}

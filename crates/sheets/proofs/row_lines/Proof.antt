@@ -1,4 +1,4 @@
-use Rattle.csv.specs.Texts.{undoubled}
+use Rattle.csv_rows.specs.Texts.{undoubled}
 use Rattle.sheets.specs.Rows.{own_at, row_said}
 use Rattle.sheets.proofs.RowLaws.{key-told}
 use Rattle.headers.specs.Tables.{cells_from}

@@ -1,9 +1,9 @@
-use Rattle.csv.specs.Answers.{table_after}
+use Rattle.csv_rows.specs.Answers.{table_after}
 use Rattle.sheets.proofs.Stepping.{row-endless, row-faulty, row_more, row-nothing, row_read, stepped-wait}
 use Rattle.headers.proofs.Csv.{row-cells}
 use lib.ListN.{length}
-use Rattle.csv.proofs.Moves.{endless-long, fault-advances, row-advances}
-use Rattle.csv.specs.Reader.{byte_of}
+use Rattle.csv_rows.proofs.Moves.{endless-long, fault-advances, row-advances}
+use Rattle.csv_rows.specs.Reader.{byte_of}
 use native.Mathlib.Omega.{arith}
 use mathlib.Core.Path.{ap, sym, ◌∙◌}
 use borrow.Author.Rules.{rules}

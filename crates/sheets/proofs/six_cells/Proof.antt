@@ -1,4 +1,4 @@
-use Rattle.csv.specs.Texts.{undoubled}
+use Rattle.csv_rows.specs.Texts.{undoubled}
 use Rattle.sheets.specs.Rows.{six_of, six_said}
 use Rattle.sheets.proofs.OneDate.{six-as}
 use native.Mathlib.Omega.{arith}
