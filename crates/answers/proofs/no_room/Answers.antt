@@ -1,0 +1,11 @@
+use mathlib.Core.Path.{ap}
+use Rattle.puts.specs.declared.Written.TheVariants.{Refused}
+use Rattle.puts.specs.Answers.{decided}
+use Rattle.refusals.specs.Refusal.{nowhere}
+use Rattle.chars.specs.Pick.{pick}
+use borrow.Author.Rules.{rules}
+use Rattle.answers.proofs.no_room.Goals as goal
+
+pub returns : goal.returns
+unfolding decided pick
+returns c = ap Refused c.nowhere.ensures

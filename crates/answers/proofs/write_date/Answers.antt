@@ -1,0 +1,8 @@
+use Rattle.answers.proofs.Lines.{no-text-line}
+use borrow.Author.Rules.{rules}
+use Rattle.answers.proofs.write_date.Goals as goal
+
+pub returns-in-NoLength : goal.returns-in-NoLength
+returns-in-NoLength c =
+    let e = no-text-line c.args.d c.date_length.ensures.0 c.in-NoLength.is in
+    rw e at c.write_refused.ensures

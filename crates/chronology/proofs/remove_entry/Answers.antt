@@ -1,0 +1,24 @@
+use native.Mathlib.Omega.{arith}
+use mathlib.Core.Path.{sym, ◌∙◌}
+use Rattle.chronology.proofs.Answers.{sound-room, sound-few, place_found, remove-says, remove-leaves, remove-keeps}
+use borrow.Author.Rules.{rules}
+use Rattle.chronology.proofs.remove_entry.Goals as goal
+
+pub find-at-requires : goal.find-at-requires
+find-at-requires c =
+    (omega arith, sound-few _ (remove-says _ _ _ (sym c.remove_answer.ensures ∙ c.in-Entries.is)).was_sound, c.requires.of_ids)
+
+pub remove_row-requires : goal.remove_row-requires
+remove_row-requires c =
+    let w = remove-says _ _ _ (sym c.remove_answer.ensures ∙ c.in-Entries.is) in
+    (place_found _ c.args.id (sound-room _ c.requires w.was_sound) w.id_there c.find-at.ensures.0, sound-few _ w.was_sound, c.requires.of_firsts, c.requires.of_lasts, c.requires.of_ids)
+
+pub returns-in-Entries : goal.returns-in-Entries
+returns-in-Entries c =
+    let q = (sym c.remove_answer.ensures ∙ c.in-Entries.is) in
+    let r = c.remove_row.ensures in
+    (sym q, remove-leaves _ c.args.id c.requires q c.find-at.ensures.0 r.0 r.1 r.2)
+
+pub returns-in-Refused : goal.returns-in-Refused
+returns-in-Refused c =
+    let q = (sym c.remove_answer.ensures ∙ c.in-Refused.is) in (sym q, remove-keeps _ _ q)

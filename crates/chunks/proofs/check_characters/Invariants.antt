@@ -1,0 +1,31 @@
+use Rattle.chunks.specs.declared.Checked.{Checked}
+use Rattle.chunks.specs.Characters.{characters}
+use Rattle.chars.specs.Utf8.{decode_at}
+use Rattle.chars.specs.declared.Decoded.TheVariants.{Char}
+use Rattle.chunks.specs.Check.{fault_in, fault_of, or_else}
+use Rattle.chunks.proofs.Tables.{chunks-over}
+use Rattle.chunks.specs.declared.Checked.TheVariants.{Clean}
+use Rattle.chunks.proofs.Turn.{standing_on, text-length, whole, fault-turn, standing-start, sums, Standing}
+use Rattle.chunks.specs.Chunks.{chunks_of}
+use Rattle.chunks.proofs.Faults.{fault-high, fault-bad, fault-end, fault-on}
+use mathlib.Core.List.{List}
+use native.Mathlib.Nat.{add-zero}
+use lib.ListN.{length, take, drop, get_or}
+use Prim.Native.Nat.{◌+◌, ◌-◌, ◌≤◌, ℕ}
+use borrow.Author.Rules.{rules}
+use native.Mathlib.Omega.{arith}
+use mathlib.Core.Path.{sym, ◌∙◌, refl, ◌≡◌}
+use Rattle.chars.proofs.Laws.{OfChar, found}
+use Rattle.chunks.proofs.check_characters.Given as goal
+
+abbrev pub invariant-characters : goal.invariant-characters
+invariant-characters l = InCharacters l.at l.t l.found l.i
+
+abbrev pub decreases-characters : goal.decreases-characters
+decreases-characters l = length l.t - l.i
+
+abbrev pub invariant-chunks : goal.invariant-chunks
+invariant-chunks l = InChunks l.bytes l.table l.at l.k l.found
+
+abbrev pub decreases-chunks : goal.decreases-chunks
+decreases-chunks l = length l.table - l.k

@@ -1,0 +1,57 @@
+use Rattle.chars.specs.declared.Decoded.TheVariants.{Char}
+use Rattle.chunks.specs.Format.{last_white}
+use Rattle.chars.specs.Utf8.{decode_at}
+use Rattle.chunks.specs.Characters.{codes}
+use Rattle.chars.proofs.Laws.{found, OfChar}
+use Rattle.chunks.proofs.Walk.{code-char, code-end, code-bad}
+use lib.ListN.{length, drop}
+use borrow.Author.Rules.{rules}
+use native.Mathlib.Omega.{arith}
+use Prim.Native.Nat.{ℕ, ◌-◌}
+use mathlib.Core.List.{List}
+use mathlib.Core.Path.{◌≡◌, refl, sym, ◌∙◌}
+use Rattle.chunks.proofs.last_white_each.Goals as goal
+
+-- where a character was found: what it is
+module _ (c : goal.In-Char-2) where
+  abbrev t : List ℕ
+  t = c.args.t.now
+
+  abbrev i : ℕ
+  i = c.loop-code.i
+
+  is-char : decode_at t i ≡ Char c.in-Char.code c.in-Char.len
+  is-char = sym c.decode_at.ensures ∙ c.in-Char.is
+
+  sees : OfChar t i c.in-Char.code c.in-Char.len
+  sees = found t i is-char
+
+pub loop-code-init : goal.loop-code-init
+loop-code-init c = refl
+
+pub enum_known-code : goal.enum_known-code
+enum_known-code c = c.in-Char.in-Char-own.keys1
+
+pub overflow_add-i : goal.overflow_add-i
+overflow_add-i c = omega (arith, (sees c).inside, (sees c).some)
+
+pub loop-code-smaller : goal.loop-code-smaller
+loop-code-smaller c = omega (arith, (sees c).inside, (sees c).some)
+
+pub loop-code-preserved : goal.loop-code-preserved
+unfolding last_white
+loop-code-preserved c = rw c.is_whitespace-w.ensures (rw (code-char _ _ (is-char c)) at c.loop-code.invariant)
+
+pub enum_told-1 : goal.enum_told-1
+enum_told-1 c = c.in-Bad.in-Bad-own.keys2
+
+pub returns-in-Bad : goal.returns-in-Bad
+unfolding last_white
+returns-in-Bad c = rw (code-bad _ _ (sym c.decode_at.ensures ∙ c.in-Bad.is)) at c.loop-code.invariant
+
+pub enum_told-in-End : goal.enum_told-in-End
+enum_told-in-End c = c.in-End.in-End-own.keys3
+
+pub returns-in-End : goal.returns-in-End
+unfolding last_white
+returns-in-End c = rw (code-end _ _ (sym c.decode_at.ensures ∙ c.in-End.is)) at c.loop-code.invariant

@@ -1,0 +1,66 @@
+use native.Mathlib.Omega.{arith}
+use mathlib.Core.Path.{◌≡◌, refl, sym, ap, ◌∙◌}
+use mathlib.Core.Bool.{true}
+use mathlib.Core.List.{List, [], ◌∷◌}
+use Prim.Native.Nat.{ℕ, ◌+◌, ◌-◌, ◌≤◌, ◌<◌}
+use lib.ListN.{length, get_or, drop, drop_of_length-le}
+use borrow.Author.Rules.{rules}
+use lib.Seq.{drop-drop, drop-cons, sets}
+use Rattle.chunks.specs.Upper.{uppercase, uppers}
+use Rattle.chunks.specs.Plain.{all_ascii, plain_byte}
+use Rattle.chunks.proofs.Fill.{Filling, fill_start, fill-put, behind}
+use Rattle.chunks.proofs.Lengths.{ascii-on}
+use Rattle.chunks.proofs.Plains.{ascii-codes}
+use Rattle.chunks.proofs.Whole.{upper-step, low-at}
+use Rattle.chunks.proofs.upper_bytes.Goals as goal
+
+-- what the buffer comes to with the upper case of the bytes that are left, which still stand there
+record Raised (buf₀ buf : List ℕ) (i : ℕ) : Type 0 where
+  fill : Filling buf₀ 0 (uppercase buf₀) buf i (uppers (drop i buf₀))
+  same : drop i buf ≡ drop i buf₀
+  ascii : all_ascii (drop i buf₀) ≡ true
+  inside : i ≤ length buf₀
+
+start : (b : List ℕ) → all_ascii b ≡ true → Raised b b 0
+unfolding uppercase
+start b e = record { fill = rw (ascii-codes b e) (fill_start b 0 (uppers b)); same = refl; ascii = e; inside = omega arith }
+
+-- a byte is raised
+turn : (b₀ b : List ℕ) (i x : ℕ) → Raised b₀ b i → i < length b₀ → x ≡ plain_byte true (get_or b i 0) → (b' : List ℕ) → b' ≡ sets b i (x ∷ []) → Raised b₀ b' (i + 1)
+turn b₀ b i x v h e b' g =
+    let l : length b ≡ length b₀ = v.fill.long in
+    let same_byte : get_or b i 0 ≡ get_or b₀ i 0 = ap (λ (s : List ℕ). get_or s 0 0) (sym (drop-cons b i 0 (omega arith)) ∙ v.same ∙ drop-cons b₀ i 0 h) in
+    let f : uppers (drop i b₀) ≡ x ∷ uppers (drop (i + 1) b₀) = upper-step b₀ i h v.ascii ∙ ap (λ (k : ℕ). k ∷ uppers (drop (i + 1) b₀)) (sym (e ∙ ap (plain_byte true) same_byte)) in
+    record {
+      fill = fill-put (x ∷ []) (rw f at v.fill) refl g;
+      same = ap (drop (i + 1)) g ∙ behind (x ∷ []) b i (omega arith) ∙ sym (drop-drop 1 i b) ∙ ap (drop 1) v.same ∙ drop-drop 1 i b₀;
+      ascii = sym (ascii-on b₀ i h (low-at b₀ i h v.ascii)) ∙ v.ascii;
+      inside = omega arith;
+    }
+
+pub loop-i-init : goal.loop-i-init
+loop-i-init c = start _ c.requires
+
+pub bounds-buf-i : goal.bounds-buf-i
+bounds-buf-i c = omega (arith, c.loop-i.invariant.fill.long)
+
+pub bounds-buf-i-in-loop-i : goal.bounds-buf-i-in-loop-i
+bounds-buf-i-in-loop-i c = omega (arith, c.loop-i.invariant.fill.long)
+
+pub overflow_add-i : goal.overflow_add-i
+overflow_add-i c = omega (arith, c.loop-i.invariant.fill.long)
+
+pub loop-i-smaller : goal.loop-i-smaller
+loop-i-smaller c = omega (arith, c.loop-i.invariant.fill.long)
+
+pub loop-i-preserved : goal.loop-i-preserved
+loop-i-preserved c = turn _ _ _ _ c.loop-i.invariant (omega (arith, c.loop-i.invariant.fill.long)) c.plain_byte.ensures _ refl
+
+pub shape_of-buf : goal.shape_of-buf
+shape_of-buf c = c.loop-i.invariant.fill.long
+
+pub returns : goal.returns
+unfolding uppers
+returns c =
+    let v = c.loop-i.invariant in
+    (rw (drop_of_length-le c.args.buf.now {i = c.loop-i.i} (omega (arith, v.fill.long))) at v.fill).same

@@ -1,0 +1,21 @@
+use native.Mathlib.Omega.{arith}
+use mathlib.Core.Path.{◌≡◌, refl, sym, ap, ◌∙◌}
+use mathlib.Core.Bool.{true}
+use mathlib.Core.List.{List, [], ◌∷◌}
+use Prim.Native.Nat.{ℕ, ◌+◌, ◌-◌, ◌≤◌, ◌<◌}
+use lib.ListN.{length, get_or, drop, drop_of_length-le}
+use borrow.Author.Rules.{rules}
+use lib.Seq.{drop-drop, drop-cons, sets}
+use Rattle.chunks.specs.Upper.{uppercase, uppers}
+use Rattle.chunks.specs.Plain.{all_ascii, plain_byte}
+use Rattle.chunks.proofs.Fill.{Filling, fill_start, fill-put, behind}
+use Rattle.chunks.proofs.Lengths.{ascii-on}
+use Rattle.chunks.proofs.Plains.{ascii-codes}
+use Rattle.chunks.proofs.Whole.{upper-step, low-at}
+use Rattle.chunks.proofs.upper_bytes.Given as goal
+
+abbrev pub invariant-loop-i : goal.invariant-loop-i
+invariant-loop-i l = Raised l.initial.buf l.buf l.i
+
+abbrev pub decreases-loop-i : goal.decreases-loop-i
+decreases-loop-i l = length l.initial.buf - l.i

@@ -1,0 +1,57 @@
+use native.Mathlib.Omega.{arith}
+use mathlib.Core.Path.{◌∙◌, ap}
+use Rattle.codes.proofs.Laws.{accepted-words, refused-words, marks-most}
+use Rattle.codes.specs.Words.{words}
+use borrow.Author.Rules.{rules}
+use Rattle.codes.proofs.pack.Goals as goal
+
+pub one_words-requires : goal.one_words-requires
+one_words-requires c =
+    let d = c.in-Accepted.d in
+    (omega arith, omega (arith, c.marks_word-marks.ensures, marks-most d.uncertain d.approximate))
+
+pub returns-in-At : goal.returns-in-At
+returns-in-At c =
+    let r = c.r-1.given in
+    let e = c.one_words.ensures in
+    accepted-words r.0.0 r.1 c.in-At.is c.marks_word-marks.ensures (e.0 ∙ ap (words 0 0 _ _ 0 0) (omega arith)) e.1
+
+pub one_words-requires-in-After : goal.one_words-requires-in-After
+one_words-requires-in-After c =
+    let d = c.in-Accepted.d in
+    (omega arith, omega (arith, c.marks_word-marks.ensures, marks-most d.uncertain d.approximate))
+
+pub returns-in-After : goal.returns-in-After
+returns-in-After c =
+    let r = c.r-1.given in
+    let e = c.one_words-in-After.ensures in
+    accepted-words r.0.0 r.1 c.in-After.is c.marks_word-marks.ensures e.0 e.1
+
+pub one_words-requires-in-Before : goal.one_words-requires-in-Before
+one_words-requires-in-Before c =
+    let d = c.in-Accepted.d in
+    (omega arith, omega (arith, c.marks_word-marks.ensures, marks-most d.uncertain d.approximate))
+
+pub returns-in-Before : goal.returns-in-Before
+returns-in-Before c =
+    let r = c.r-1.given in
+    let e = c.one_words-in-Before.ensures in
+    accepted-words r.0.0 r.1 c.in-Before.is c.marks_word-marks.ensures e.0 e.1
+
+pub two_words-requires : goal.two_words-requires
+two_words-requires c =
+    let d = c.in-Accepted.d in
+    omega (arith, c.marks_word-marks.ensures, marks-most d.uncertain d.approximate)
+
+pub returns-in-Between : goal.returns-in-Between
+returns-in-Between c =
+    let r = c.r-1.given in
+    let e = c.two_words.ensures in
+    accepted-words r.0.0 r.1 c.in-Between.is c.marks_word-marks.ensures e.0 e.1
+
+pub returns-in-Refused : goal.returns-in-Refused
+returns-in-Refused c =
+    let r = c.r-in-Refused-1.given in
+    let k = c.in-Refused.known_told-in-Refused-1-own.given in
+    let n = rw c.number.ensures at c.four_bytes.ensures.0 in
+    refused-words r.0.0 r.1 n (omega (arith, k)) (omega (arith, k))

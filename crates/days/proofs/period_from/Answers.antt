@@ -1,0 +1,13 @@
+use native.Mathlib.Omega.{arith}
+use Rattle.days.specs.Counts.{period_from}
+use mir.Syntax.{w32}
+use mir.ValLaws.{to_z-of_z}
+use borrow.Author.Rules.{rules}
+use Rattle.days.proofs.period_from.Goals as goal
+
+pub returns : goal.returns
+unfolding period_from
+returns c =
+    let a = c.numbered in
+    let b = c.numbered-2 in
+    rw (to_z-of_z w32 a.result (record { sfits = a.type-inv }), to_z-of_z w32 b.result (record { sfits = b.type-inv }), a.ensures, b.ensures)

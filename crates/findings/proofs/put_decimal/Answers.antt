@@ -1,0 +1,8 @@
+use Rattle.findings.proofs.Runs.{tried-digits}
+use borrow.Author.Rules.{rules}
+use Rattle.findings.proofs.put_decimal.Goals as goal
+
+pub returns : goal.returns
+returns c =
+    let a = c.args in
+    tried-digits a.least a.n c.width-w.ensures.0 c.put_digits.ensures c.forward.ensures

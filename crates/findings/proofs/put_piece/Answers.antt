@@ -1,0 +1,6 @@
+use Rattle.findings.proofs.Runs.{tried}
+use borrow.Author.Rules.{rules}
+use Rattle.findings.proofs.put_piece.Goals as goal
+
+pub returns : goal.returns
+returns c = tried c.put_bytes.ensures c.forward.ensures

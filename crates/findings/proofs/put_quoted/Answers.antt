@@ -1,0 +1,9 @@
+use Rattle.findings.proofs.Runs.{both}
+use Rattle.findings.specs.Escapes.{quoted}
+use borrow.Author.Rules.{rules}
+use Rattle.findings.proofs.put_quoted.Goals as goal
+
+pub returns : goal.returns
+unfolding quoted
+returns c =
+    both c.put_piece.ensures (both c.put_escaped-k.ensures c.put_piece.ensures)

@@ -1,0 +1,8 @@
+use mathlib.Core.Path.{ap}
+use Rattle.refusals.specs.declared.ReadDate.TheVariants.{Refused}
+use Rattle.frames.proofs.Said.{carried}
+use borrow.Author.Rules.{rules}
+use Rattle.frames.proofs.bad_frame.Goals as goal
+
+pub returns : goal.returns
+returns c = carried (ap Refused c.nowhere.ensures) c.pack.ensures

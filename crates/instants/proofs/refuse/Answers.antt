@@ -1,0 +1,7 @@
+use Rattle.instants.specs.Instants.{refused_instant}
+use borrow.Author.Rules.{rules}
+use Rattle.instants.proofs.refuse.Goals as goal
+
+pub returns : goal.returns
+unfolding refused_instant
+returns c = simp (← c.nowhere.ensures)

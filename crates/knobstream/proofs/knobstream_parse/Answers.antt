@@ -1,0 +1,12 @@
+use mathlib.Core.Path.{ap, ◌∙◌}
+use Rattle.reading_laws.specs.Field.{parsed}
+use Rattle.knobstream.specs.Layout.{listed}
+use Rattle.knobstream.proofs.Words.{read-answered}
+use borrow.Author.Rules.{rules}
+use Rattle.knobstream.proofs.knobstream_parse.Goals as goal
+
+pub returns : goal.returns
+returns c =
+    let w = c.parse_words.ensures in
+    let a = c.args in
+    read-answered (parsed a.bytes.now a.table.now) w.1 (c.put.ensures ∙ ap listed w.0)

@@ -1,0 +1,16 @@
+use mathlib.Core.Path.{ap, ◌∙◌}
+use Rattle.chunks.specs.Lent.{lent, optional, three}
+use Rattle.reading_laws.specs.Fields.{three_fields}
+use Rattle.knobstream.specs.Layout.{listed}
+use Rattle.knobstream.proofs.Words.{read-answered}
+use borrow.Author.Rules.{rules}
+use Rattle.knobstream.proofs.knobstream_parse_three_fields.Goals as goal
+
+pub returns : goal.returns
+returns c =
+    let m = c.is_set in
+    let d = c.is_set-2 in
+    let w = c.three_words-words.ensures in
+    let a = c.args in
+    let t = three (lent a.year.now a.year-table.now) (optional m.result a.month.now a.month-table.now) (optional d.result a.day.now a.day-table.now) in
+    simp (← m.ensures, ← d.ensures) (read-answered (three_fields t) w.1 (c.put.ensures ∙ ap listed w.0))

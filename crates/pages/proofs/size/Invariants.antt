@@ -1,0 +1,15 @@
+use Rattle.pages.proofs.Sums.{lengths-at, lengths_none}
+use native.Mathlib.Nat.{zero-add}
+use Rattle.chunks.specs.Chunks.{chunks_of, lengths}
+use mathlib.Core.List.{List}
+use lib.ListN.{length, drop}
+use Prim.Native.Nat.{ℕ, ◌+◌, ◌-◌, ◌%◌, ◌≤◌, ◌<◌}
+use native.Mathlib.Omega.{arith}
+use mathlib.Core.Path.{◌≡◌}
+use Rattle.pages.proofs.size.Given as goal
+
+abbrev pub invariant-loop-k : goal.invariant-loop-k
+invariant-loop-k l = Summed l.table l.sum l.k
+
+abbrev pub decreases-loop-k : goal.decreases-loop-k
+decreases-loop-k l = length l.table - l.k

@@ -1,0 +1,37 @@
+use Rattle.chars.specs.Pick.{pick}
+use Rattle.points.specs.Step.{or_end, on_separator, on_part}
+use Rattle.points.specs.Time.{behind_hour}
+use borrow.Author.Rules.{rules}
+use Rattle.points.proofs.behind_hour.Goals as goal
+
+pub returns-then-done : goal.returns-then-done
+unfolding behind_hour or_end on_separator on_part pick
+returns-then-done c =
+    simp (← c.eat_whitespace-pos.ensures, ← c.done.ensures, c.if-done.true, c.local.ensures)
+
+pub enum_known-minute_start : goal.enum_known-minute_start
+enum_known-minute_start c = c.in-Passed.in-Passed-own.keys1
+
+pub enum_known-minute : goal.enum_known-minute
+enum_known-minute c = c.in-Stored.in-Stored-own.keys1
+
+pub enum_known-e : goal.enum_known-e
+enum_known-e c = c.in-NoPart.in-NoPart-own.keys2
+
+pub enum_known-e-in-Missing-1 : goal.enum_known-e-in-Missing-1
+enum_known-e-in-Missing-1 c = c.in-Missing.in-Missing-own.keys2
+
+pub returns-in-Stored : goal.returns-in-Stored
+unfolding behind_hour or_end on_separator on_part pick
+returns-in-Stored c =
+    simp (← c.eat_whitespace-pos.ensures, ← c.done.ensures, c.if-done.false, ← c.parse_colon.ensures, c.in-Passed.is, ← c.parse_minutes_or_seconds.ensures, c.in-Stored.is, ← c.behind_minute.ensures)
+
+pub returns-in-NoPart : goal.returns-in-NoPart
+unfolding behind_hour or_end on_separator on_part pick
+returns-in-NoPart c =
+    simp (← c.eat_whitespace-pos.ensures, ← c.done.ensures, c.if-done.false, ← c.parse_colon.ensures, c.in-Passed.is, ← c.parse_minutes_or_seconds.ensures, c.in-NoPart.is)
+
+pub returns-in-Missing : goal.returns-in-Missing
+unfolding behind_hour or_end on_separator on_part pick
+returns-in-Missing c =
+    simp (← c.eat_whitespace-pos.ensures, ← c.done.ensures, c.if-done.false, ← c.parse_colon.ensures, c.in-Missing.is)

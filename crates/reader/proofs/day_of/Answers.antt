@@ -1,0 +1,21 @@
+use Rattle.chunks.proofs.Standing.{stands-formatted}
+use mathlib.Core.Bool.{false}
+use native.Mathlib.Omega.{arith}
+use lib.Seq.{length-take-le}
+use mathlib.Core.Path.{sym, ◌∙◌}
+use borrow.Author.Rules.{rules}
+use Rattle.reader.proofs.day_of.Goals as goal
+
+pub returns-then-stands : goal.returns-then-stands
+returns-then-stands c =
+    let a = c.args in
+    let s = sym c.stands.ensures ∙ c.if-stands.true in
+    c.day_field.ensures ∙ rw (c.span.ensures, stands-formatted false a.bytes.now a.table.now s)
+
+pub slice_bounds-day_field-end-2 : goal.slice_bounds-day_field-end-2
+slice_bounds-day_field-end-2 c =
+    let t = c.text_of-n in
+    sym (length-take-le _ t.new.1.1.0 (omega (arith, t.ensures.0)))
+
+pub returns : goal.returns
+returns c = c.day_field-2.ensures ∙ rw (c.span-2.ensures, c.text_of-n.ensures.1)

@@ -1,0 +1,24 @@
+use Rattle.chunks.proofs.Standing.{stands-formatted}
+use mathlib.Core.Bool.{false}
+use Rattle.reading_laws.specs.Fields.{month_alone}
+use native.Mathlib.Omega.{arith}
+use lib.Seq.{length-take-le}
+use mathlib.Core.Path.{sym, ◌∙◌}
+use borrow.Author.Rules.{rules}
+use Rattle.reader.proofs.month_alone.Goals as goal
+
+pub returns-then-stands : goal.returns-then-stands
+unfolding month_alone
+returns-then-stands c =
+    let a = c.args in
+    let s = sym c.stands.ensures ∙ c.if-stands.true in
+    c.month_text.ensures ∙ rw (stands-formatted false a.bytes.now a.table.now s)
+
+pub slice_bounds-month_text-end-2 : goal.slice_bounds-month_text-end-2
+slice_bounds-month_text-end-2 c =
+    let t = c.text_of-n in
+    sym (length-take-le _ t.new.1.1.0 (omega (arith, t.ensures.0)))
+
+pub returns : goal.returns
+unfolding month_alone
+returns c = c.month_text-2.ensures ∙ rw c.text_of-n.ensures.1

@@ -1,0 +1,17 @@
+use Rattle.codes.specs.Lists.{on_normal, month_or}
+use Rattle.chars.specs.Pick.{pick}
+use borrow.Author.Rules.{rules}
+use Rattle.reader.proofs.month_at_once.Goals as goal
+
+pub returns-then-is_one_normal : goal.returns-then-is_one_normal
+unfolding on_normal month_or pick
+returns-then-is_one_normal c =
+    simp (c.if-has.true, ← c.is_one_normal.ensures, c.if-is_one_normal.true, ← c.month_part.ensures)
+
+pub returns-then-has : goal.returns-then-has
+unfolding on_normal month_or pick
+returns-then-has c = simp (c.if-has.true, ← c.is_one_normal.ensures, c.if-is_one_normal.false)
+
+pub returns : goal.returns
+unfolding month_or pick
+returns c = simp c.if-has.false

@@ -1,0 +1,52 @@
+use Rattle.chunks.proofs.Answers.{Given}
+use Rattle.chunks.proofs.Buffers.{is-text, is-fault}
+use Rattle.reading_laws.proofs.Entries.{exact-clean, exact-faulty}
+use mathlib.Core.Bool.{false}
+use mathlib.Core.List.{List}
+use Prim.Native.Nat.{ℕ}
+use native.Mathlib.Omega.{arith}
+use lib.Seq.{length-take-le}
+use mathlib.Core.Path.{sym, ◌∙◌}
+use borrow.Author.Rules.{rules}
+use Rattle.reader.proofs.parse_by_in.Goals as goal
+
+-- the list is clean, and the buffer's front is its text
+module _ (c : goal.In-Text) where
+  abbrev list : List ℕ
+  list = c.args.bytes.now
+
+  abbrev numbers : List ℕ
+  numbers = c.args.table.now
+
+  abbrev room : List ℕ
+  room = c.args.buf.now
+
+  abbrev filled : List ℕ
+  filled = c.format_verbatim.new.1.1.0
+
+  told : Given false list numbers room c.in-Text.n filled
+  told =
+      let e = c.format_verbatim.ensures in
+      is-text false list numbers room e.0 e.1 c.in-Text.is
+
+pub enum_known-n : goal.enum_known-n
+enum_known-n c = c.in-Text.in-Text-own.keys1
+
+pub slice_bounds-match_by-end : goal.slice_bounds-match_by-end
+slice_bounds-match_by-end c = omega (arith, (told c).within)
+
+pub slice_bounds-match_by-end-in-Text : goal.slice_bounds-match_by-end-in-Text
+slice_bounds-match_by-end-in-Text c = sym (length-take-le _ (filled c) (omega (arith, (told c).within)))
+
+pub enum_known-e : goal.enum_known-e
+enum_known-e c = c.in-Refused.in-Refused-own.keys2
+
+pub returns-in-Text : goal.returns-in-Text
+returns-in-Text c =
+    c.match_by.ensures ∙ exact-clean (list c) (numbers c) c.args.level (told c).clean (told c).front
+
+pub returns-in-Refused : goal.returns-in-Refused
+returns-in-Refused c =
+    let a = c.args in
+    let e = c.format_verbatim.ensures in
+    exact-faulty a.bytes.now a.table.now a.level (is-fault false a.bytes.now a.table.now a.buf.now e.0 e.1 c.in-Refused.is c.requires)

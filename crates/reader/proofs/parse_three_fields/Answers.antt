@@ -1,0 +1,8 @@
+use mathlib.Core.Path.{ap, ◌∙◌}
+use Rattle.codes.specs.Unpacked.{read_in}
+use Rattle.codes.proofs.Unpacking.{read_back}
+use borrow.Author.Rules.{rules}
+use Rattle.reader.proofs.parse_three_fields.Goals as goal
+
+pub returns : goal.returns
+returns c = let w = c.three_words-words.ensures in c.unpack.ensures ∙ ap read_in w.0 ∙ read_back _ w.1

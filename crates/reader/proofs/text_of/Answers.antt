@@ -1,0 +1,21 @@
+use Rattle.chunks.proofs.Buffers.{is-fault, is-text}
+use Rattle.chunks.proofs.Proper.{faulty-not}
+use Rattle.reader.proofs.Lists.{as_is}
+use mathlib.Core.Bool.{false}
+use mathlib.Core.Path.{sym, ◌∙◌}
+use borrow.Author.Rules.{rules}
+use Rattle.reader.proofs.text_of.Goals as goal
+
+pub returns-in-Text : goal.returns-in-Text
+returns-in-Text c =
+    let a = c.args in
+    let e = c.format_verbatim.ensures in
+    let t = is-text false a.bytes.now a.table.now a.buf.now e.0 e.1 c.in-Text.is in
+    (t.within, as_is a.bytes.now a.table.now t.front)
+
+pub returns-in-Refused : goal.returns-in-Refused
+returns-in-Refused c =
+    let a = c.args in
+    let e = c.format_verbatim.ensures in
+    let f = is-fault false a.bytes.now a.table.now a.buf.now e.0 e.1 c.in-Refused.is c.requires.roomy in
+    absurd (faulty-not (sym f ∙ c.requires.clean))

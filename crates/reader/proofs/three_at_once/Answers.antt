@@ -1,0 +1,41 @@
+use mathlib.Core.Path.{◌∙◌}
+use native.Mathlib.Omega.{arith}
+use Rattle.chunks.specs.Lent.{Three, lent, optional, three}
+use Rattle.codes.specs.Words.{words_or}
+use Rattle.codes.specs.Lists.{day_or, list_three}
+use Rattle.reader.proofs.Fields.{Joined, joined}
+use borrow.Author.Rules.{rules}
+use Rattle.reader.proofs.three_at_once.Goals as goal
+
+module _ (c : goal.After-day_at_once-d) where
+  abbrev lists : Three
+  lists =
+      let a = c.args in
+      three (lent a.year.now a.year-table.now) (optional a.has-month a.month.now a.month-table.now) (optional a.has-day a.day.now a.day-table.now)
+
+  parts : Joined c.year_at_once-y.result c.month_at_once-m.result c.day_at_once-d.result (words_or (list_three lists))
+  unfolding day_or
+  parts = joined lists c.year_at_once-y.ensures c.month_at_once-m.ensures c.day_at_once-d.ensures
+
+pub returns-then-y : goal.returns-then-y
+returns-then-y c = c.no_words.ensures ∙ (parts c).no_year c.if-y.true
+
+pub returns-then-m : goal.returns-then-m
+returns-then-m c = c.no_words-then-m.ensures ∙ (parts c).no_month c.if-m.true
+
+pub returns-then-d : goal.returns-then-d
+returns-then-d c = c.no_words-then-d.ensures ∙ (parts c).no_day c.if-d.true
+
+pub overflow_add-y : goal.overflow_add-y
+overflow_add-y c =
+    let r = (parts c).room c.if-y.false c.if-m.false c.if-d.false in
+    record { fits = omega arith }
+
+pub overflow_add-y-2 : goal.overflow_add-y-2
+overflow_add-y-2 c =
+    let r = (parts c).room c.if-y.false c.if-m.false c.if-d.false in
+    record { fits = omega arith }
+
+pub returns : goal.returns
+returns c =
+    c.at_word.ensures ∙ (parts c).said c.if-y.false c.if-m.false c.if-d.false

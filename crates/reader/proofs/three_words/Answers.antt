@@ -1,0 +1,16 @@
+use Rattle.chunks.specs.Lent.{lent, optional, three}
+use Rattle.reading_laws.specs.Fields.{three_fields}
+use Rattle.codes.specs.Lists.{list_three}
+use Rattle.code_laws.proofs.Three.{three_said, three-typed}
+use Rattle.reader.proofs.Said.{at_once, carried}
+use borrow.Author.Rules.{rules}
+use Rattle.reader.proofs.three_words.Goals as goal
+
+pub returns-then-w : goal.returns-then-w
+returns-then-w c =
+    let a = c.args in
+    let t = three (lent a.year.now a.year-table.now) (optional a.has-month a.month.now a.month-table.now) (optional a.has-day a.day.now a.day-table.now) in
+    at_once (list_three t) (three_fields t) c.three_at_once-w.ensures c.if-w.true (λ r e. three_said t e) (λ r e. three-typed t e)
+
+pub returns : goal.returns
+returns c = carried _ _ c.any_fields-read.ensures c.pack.ensures

@@ -1,0 +1,60 @@
+use Rattle.chunks.proofs.Answers.{Given}
+use Rattle.chunks.proofs.Buffers.{is-text, is-fault}
+use Rattle.reading_laws.proofs.Entries.{parsed-clean, parsed-faulty}
+use mathlib.Core.Bool.{true}
+use mathlib.Core.List.{List}
+use Prim.Native.Nat.{ℕ}
+use native.Mathlib.Omega.{arith}
+use lib.ListN.{take}
+use lib.Seq.{length-take-le}
+use mathlib.Core.Path.{sym, ap, ◌∙◌}
+use Rattle.refusals.specs.declared.FileSpan.{FileSpan}
+use Rattle.datefield.specs.Value.{parse_text}
+use Rattle.reading_laws.specs.Field.{parsed}
+use Rattle.reader.proofs.Said.{carried}
+use borrow.Author.Rules.{rules}
+use Rattle.reader.proofs.words_in.Goals as goal
+
+-- the list is clean, and the buffer's front is its text
+module _ (c : goal.In-Text) where
+  abbrev list : List ℕ
+  list = c.args.bytes.now
+
+  abbrev numbers : List ℕ
+  numbers = c.args.table.now
+
+  abbrev room : List ℕ
+  room = c.args.buf.now
+
+  abbrev filled : List ℕ
+  filled = c.format_uppercase.new.1.1.0
+
+  told : Given true list numbers room c.in-Text.n filled
+  told =
+      let e = c.format_uppercase.ensures in
+      is-text true list numbers room e.0 e.1 c.in-Text.is
+
+pub enum_known-n : goal.enum_known-n
+enum_known-n c = c.in-Text.in-Text-own.keys1
+
+pub slice_bounds-text_words-end : goal.slice_bounds-text_words-end
+slice_bounds-text_words-end c = omega (arith, (told c).within)
+
+pub slice_bounds-text_words-end-in-Text : goal.slice_bounds-text_words-end-in-Text
+slice_bounds-text_words-end-in-Text c = sym (length-take-le _ (filled c) (omega (arith, (told c).within)))
+
+pub enum_known-e : goal.enum_known-e
+enum_known-e c = c.in-Refused.in-Refused-own.keys2
+
+pub returns-in-Text : goal.returns-in-Text
+returns-in-Text c =
+    let t = take c.in-Text.n (filled c) in
+    carried (parse_text c.span.result t) (parsed (list c) (numbers c)) (ap (λ (z : FileSpan). parse_text z t) c.span.ensures ∙ parsed-clean (list c) (numbers c) (told c).clean (told c).front) c.text_words.ensures
+
+pub returns-in-Refused : goal.returns-in-Refused
+returns-in-Refused c =
+    let a = c.args in
+    let e = c.format_uppercase.ensures in
+    carried _ (parsed a.bytes.now a.table.now)
+    (parsed-faulty a.bytes.now a.table.now (is-fault true a.bytes.now a.table.now a.buf.now e.0 e.1 c.in-Refused.is c.requires))
+    c.pack.ensures

@@ -1,0 +1,8 @@
+use Rattle.sheets.specs.Tallies.{one_bad}
+use borrow.Author.Rules.{rules}
+use Rattle.sheets.proofs.one_bad.Goals as goal
+
+pub returns : goal.returns
+unfolding one_bad
+returns c =
+    simp (← c.plus.ensures, ← c.plus-2.ensures)

@@ -1,0 +1,15 @@
+use Rattle.sheets.proofs.Goings.{going, in-64}
+use Rattle.findings.specs.Lines.{bad_row_line}
+use native.Mathlib.Omega.{arith}
+use borrow.Author.Rules.{rules}
+use Rattle.sheets.proofs.put_bad.Goals as goal
+
+pub advanced-requires : goal.advanced-requires
+advanced-requires c =
+    let a = c.args in
+    in-64 (bad_row_line a.line a.fault) a.out.now a.p (omega arith) c.write_bad_row-w.ensures.0 c.write_bad_row-w.ensures.1 (omega arith)
+
+pub returns : goal.returns
+returns c =
+    let a = c.args in
+    going (bad_row_line a.line a.fault) a.out.now a.p (omega arith) c.write_bad_row-w.ensures.0 c.write_bad_row-w.ensures.1 c.advanced.ensures

@@ -1,0 +1,15 @@
+use Rattle.findings.specs.Lines.{unread_line}
+use Rattle.sheets.proofs.Goings.{going, in-64}
+use native.Mathlib.Omega.{arith}
+use borrow.Author.Rules.{rules}
+use Rattle.sheets.proofs.put_unread.Goals as goal
+
+pub advanced-requires : goal.advanced-requires
+advanced-requires c =
+    let a = c.args in
+    in-64 (unread_line a.why) a.out.now a.p (omega arith) c.write_unread-w.ensures.0 c.write_unread-w.ensures.1 (omega arith)
+
+pub returns : goal.returns
+returns c =
+    let a = c.args in
+    going (unread_line a.why) a.out.now a.p (omega arith) c.write_unread-w.ensures.0 c.write_unread-w.ensures.1 c.advanced.ensures

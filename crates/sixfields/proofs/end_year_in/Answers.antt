@@ -1,0 +1,46 @@
+use mathlib.Core.Path.{sym}
+use mathlib.Core.Bool.{false}
+use mathlib.Core.List.{List}
+use Prim.Native.Nat.{ℕ}
+use lib.Seq.{length-take-le}
+use Rattle.chunks.proofs.Answers.{Given}
+use Rattle.chunks.proofs.Buffers.{is-text, is-fault}
+use Rattle.sixfields.proofs.Judged.{is-blank, is-filled, is-faulty}
+use borrow.Author.Rules.{rules}
+use Rattle.sixfields.proofs.end_year_in.Goals as goal
+
+-- the list is clean, and the buffer's front is its text
+module _ (c : goal.In-Text) where
+  abbrev list : List ℕ
+  list = c.args.bytes.now
+
+  abbrev numbers : List ℕ
+  numbers = c.args.table.now
+
+  abbrev room : List ℕ
+  room = c.args.buf.now
+
+  told : Given false list numbers room c.in-Text.n c.format_verbatim.new.1.1.0
+  told =
+      let e = c.format_verbatim.ensures in
+      is-text false list numbers room e.0 e.1 c.in-Text.is
+
+pub slice_bounds-is_blank-end : goal.slice_bounds-is_blank-end
+slice_bounds-is_blank-end c = (told c).within
+
+pub slice_bounds-is_blank-end-in-Text : goal.slice_bounds-is_blank-end-in-Text
+slice_bounds-is_blank-end-in-Text c = sym (length-take-le _ _ (told c).within)
+
+pub returns-then-is_blank : goal.returns-then-is_blank
+returns-then-is_blank c =
+    is-blank (list c) (numbers c) (told c).clean (told c).front c.is_blank.ensures c.if-is_blank.true
+
+pub returns-else-is_blank : goal.returns-else-is_blank
+returns-else-is_blank c =
+    is-filled (list c) (numbers c) (told c).clean (told c).front c.is_blank.ensures c.if-is_blank.false
+
+pub returns-in-Refused : goal.returns-in-Refused
+returns-in-Refused c =
+    let a = c.args in
+    let e = c.format_verbatim.ensures in
+    is-faulty a.bytes.now a.table.now (is-fault false a.bytes.now a.table.now a.buf.now e.0 e.1 c.in-Refused.is c.requires)

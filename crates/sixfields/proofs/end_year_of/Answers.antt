@@ -1,0 +1,13 @@
+use Rattle.chunks.proofs.Buffers.{large-room, small-room}
+use borrow.Author.Rules.{rules}
+use Rattle.sixfields.proofs.end_year_of.Goals as goal
+
+pub end_year_in-requires : goal.end_year_in-requires
+end_year_in-requires c =
+    let a = c.args in
+    small-room a.bytes.now a.table.now c.if-bytes-le56.true c.if-table-le16.true
+
+pub end_year_in-requires-2 : goal.end_year_in-requires-2
+end_year_in-requires-2 c =
+    let a = c.args in
+    large-room a.bytes.now a.table.now

@@ -1,0 +1,43 @@
+use Rattle.strict.proofs.Digits.{digit, Digit}
+use native.Mathlib.Omega.{arith}
+use mathlib.Core.Path.{sym, ◌∙◌}
+use Rattle.strict.proofs.Places.{here}
+use lib.Seq.{get_or-drop}
+use Rattle.chars.specs.Pick.{pick}
+use Rattle.strict.specs.Matcher.{two}
+use borrow.Author.Rules.{rules}
+use Rattle.strict.proofs.two_at.Goals as goal
+
+-- where both are digits
+first : (c : goal.Then-is_digit-2) → Digit c.byte_at-a.result
+first c = digit _ (sym c.is_digit.ensures ∙ c.if-is_digit.true)
+
+second : (c : goal.Then-is_digit-2) → Digit c.byte_at-b.result
+second c = digit _ (sym c.is_digit-then-is_digit.ensures ∙ c.if-is_digit-2.true)
+
+pub overflow_sub-result : goal.overflow_sub-result
+overflow_sub-result c = omega (arith, first c)
+
+pub overflow_mul-result : goal.overflow_mul-result
+overflow_mul-result c = omega (arith, first c)
+
+pub overflow_sub-result-then-is_digit-2 : goal.overflow_sub-result-then-is_digit-2
+overflow_sub-result-then-is_digit-2 c = omega (arith, second c)
+
+pub overflow_add-result : goal.overflow_add-result
+overflow_add-result c = omega (arith, first c, second c)
+
+pub returns-then-is_digit-2 : goal.returns-then-is_digit-2
+unfolding two pick
+returns-then-is_digit-2 c =
+    simp (here, get_or-drop, ← c.byte_at-a.ensures, ← c.byte_at-b.ensures, ← c.is_digit.ensures, c.if-is_digit.true, ← c.is_digit-then-is_digit.ensures, c.if-is_digit-2.true)
+
+pub returns-else-is_digit-2 : goal.returns-else-is_digit-2
+unfolding two pick
+returns-else-is_digit-2 c =
+    simp (here, get_or-drop, ← c.byte_at-a.ensures, ← c.byte_at-b.ensures, ← c.is_digit.ensures, c.if-is_digit.true, ← c.is_digit-then-is_digit.ensures, c.if-is_digit-2.false)
+
+pub returns-else-is_digit : goal.returns-else-is_digit
+unfolding two pick
+returns-else-is_digit c =
+    simp (here, get_or-drop, ← c.byte_at-a.ensures, ← c.byte_at-b.ensures, ← c.is_digit.ensures, c.if-is_digit.false)

@@ -1,0 +1,8 @@
+use Rattle.strict.specs.Matcher.{years}
+use borrow.Author.Rules.{rules}
+use Rattle.strict.proofs.years.Goals as goal
+
+pub returns : goal.returns
+unfolding years
+returns c =
+    simp (← c.plain-start.ensures, ← c.plain-end.ensures)
