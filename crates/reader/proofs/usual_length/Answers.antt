@@ -9,12 +9,11 @@ use borrow.Author.Rules.{rules}
 use Rattle.reader.proofs.usual_length.Goals as goal
 
 pub returns-then-bytes-le4096 : goal.returns-then-bytes-le4096
-returns-then-bytes-le4096 c =
-    (
-      ap written c.unspaced.ensures.0
-          ∙ spaced-usual _ _ (sym c.is_one_normal.ensures ∙ c.if-is_one_normal.true) (le-leb _ _ c.if-bytes-le4096.true),
-      c.unspaced.ensures.1,
-    )
+returns-then-bytes-le4096 c = (
+  ap written c.unspaced.ensures.0
+      ∙ spaced-usual _ _ (sym c.is_one_normal.ensures ∙ c.if-is_one_normal.true) (le-leb _ _ c.if-bytes-le4096.true),
+  c.unspaced.ensures.1,
+)
 
 pub returns-then-is_one_normal : goal.returns-then-is_one_normal
 returns-then-is_one_normal c =
@@ -25,17 +24,15 @@ returns-then-is_one_normal c =
     )
 
 pub returns-then-is_joined : goal.returns-then-is_joined
-returns-then-is_joined c =
-    (
-      ap written (take-length c.args.bytes.now)
-          ∙ joined-usual _ _ (sym c.is_one_normal.ensures ∙ c.if-is_one_normal.false) (sym c.is_joined.ensures ∙ c.if-is_joined.true),
-      omega arith,
-    )
+returns-then-is_joined c = (
+  ap written (take-length c.args.bytes.now)
+      ∙ joined-usual _ _ (sym c.is_one_normal.ensures ∙ c.if-is_one_normal.false) (sym c.is_joined.ensures ∙ c.if-is_joined.true),
+  omega arith,
+)
 
 pub returns : goal.returns
-returns c =
-    (
-      nothing_written c.args.bytes.now
-          ∙ none-usual _ _ (sym c.is_one_normal.ensures ∙ c.if-is_one_normal.false) (sym c.is_joined.ensures ∙ c.if-is_joined.false),
-      omega arith,
-    )
+returns c = (
+  nothing_written c.args.bytes.now
+      ∙ none-usual _ _ (sym c.is_one_normal.ensures ∙ c.if-is_one_normal.false) (sym c.is_joined.ensures ∙ c.if-is_joined.false),
+  omega arith,
+)
