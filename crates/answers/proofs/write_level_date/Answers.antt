@@ -11,20 +11,20 @@ use Rattle.answers.proofs.write_level_date.Goals as goal
 
 pub slice_bounds-text-end : goal.slice_bounds-text-end
 slice_bounds-text-end c =
-    (level-line c.args.d c.write_level.ensures.1.1 _ refl c.write_level.ensures.0 c.write_level.ensures.1.0 c.in-Done.is).0
+    (level-line c.args.d c.write_level.ensures.d_len_bound _ refl c.write_level.ensures.value c.write_level.ensures.out_after c.in-Done.is).0
 
 pub slice_bounds-write_accepted-end : goal.slice_bounds-write_accepted-end
 slice_bounds-write_accepted-end c =
-    sym (length-take-le _ _ (level-line c.args.d c.write_level.ensures.1.1 _ refl c.write_level.ensures.0 c.write_level.ensures.1.0 c.in-Done.is).0)
+    sym (length-take-le _ _ (level-line c.args.d c.write_level.ensures.d_len_bound _ refl c.write_level.ensures.value c.write_level.ensures.out_after c.in-Done.is).0)
 
 pub returns-in-Done : goal.returns-in-Done
 returns-in-Done c =
-    let l = (level-line c.args.d c.write_level.ensures.1.1 _ refl c.write_level.ensures.0 c.write_level.ensures.1.0 c.in-Done.is).1 in
-    let q = c.write_accepted.ensures in
-    (q.0 ∙ ap (λ (t : List ℕ). answer false t (length c.args.out.now)) l, q.1 ∙ ap (λ (t : List ℕ). afterwards false t c.args.out.now) l)
+    let l = (level-line c.args.d c.write_level.ensures.d_len_bound _ refl c.write_level.ensures.value c.write_level.ensures.out_after c.in-Done.is).1 in
+    let q = (c.write_accepted.ensures.value, c.write_accepted.ensures.out_after) in
+    record { value = q.0 ∙ ap (λ (t : List ℕ). answer false t (length c.args.out.now)) l; out_after = q.1 ∙ ap (λ (t : List ℕ). afterwards false t c.args.out.now) l }
 
 pub returns-in-Refused : goal.returns-in-Refused
 returns-in-Refused c =
-    let l = no-level-line c.args.d c.write_level.ensures.1.1 _ refl c.write_level.ensures.0 c.write_level.ensures.1.0 c.in-Refused.is in
-    let q = c.write_refused.ensures in
-    (q.0 ∙ ap (λ (t : List ℕ). answer false t (length c.args.out.now)) l, q.1 ∙ ap (λ (t : List ℕ). afterwards false t c.args.out.now) l)
+    let l = no-level-line c.args.d c.write_level.ensures.d_len_bound _ refl c.write_level.ensures.value c.write_level.ensures.out_after c.in-Refused.is in
+    let q = (c.write_refused.ensures.value, c.write_refused.ensures.out_after) in
+    record { value = q.0 ∙ ap (λ (t : List ℕ). answer false t (length c.args.out.now)) l; out_after = q.1 ∙ ap (λ (t : List ℕ). afterwards false t c.args.out.now) l }

@@ -9,10 +9,10 @@ pub returns-then-out-lt35 : goal.returns-then-out-lt35
 returns-then-out-lt35 c =
     let a = c.args in
     let t = refusal_bytes a.number a.start a.end in
-    no_line (line_of t) a.out.now (omega (arith, length-line t)) c.no_room.ensures
+    let both = no_line (line_of t) a.out.now (omega (arith, length-line t)) c.no_room.ensures in record { value = both.0; out_after = both.1 }
 
 pub returns : goal.returns
 returns c =
     let a = c.args in
     let t = refusal_bytes a.number a.start a.end in
-    line-done (line_of t) a.out.now (omega (arith, length-line t)) c.put_refused.ensures
+    let both = line-done (line_of t) a.out.now (omega (arith, length-line t)) c.put_refused.ensures in record { value = both.0; out_after = both.1 }

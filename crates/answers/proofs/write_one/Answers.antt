@@ -25,7 +25,7 @@ returns-then-is_short c =
     let t = a.text.now in
     let e = ap (λ (n : ℕ). ltb (length a.out.now) (2 * (3 + n + length t) + 1)) (sym c.end_length.ensures) in
     let h = ltb-true (length a.out.now) (2 * (3 + end_length a.level + length t) + 1) (e ∙ sym c.is_short.ensures ∙ c.if-is_short.true) in
-    no_line (one_line a.level a.shape a.marks a.d t) a.out.now (omega (arith, length-one a.level a.shape a.marks a.d t, h)) c.no_room.ensures
+    let both = no_line (one_line a.level a.shape a.marks a.d t) a.out.now (omega (arith, length-one a.level a.shape a.marks a.d t, h)) c.no_room.ensures in record { value = both.0; out_after = both.1 }
 
 pub put_one-requires : goal.put_one-requires
 put_one-requires c =
@@ -41,4 +41,4 @@ returns c =
     let t = a.text.now in
     let e = ap (λ (n : ℕ). ltb (length a.out.now) (2 * (3 + n + length t) + 1)) (sym c.end_length.ensures) in
     let h = ltb-false (length a.out.now) (2 * (3 + end_length a.level + length t) + 1) (e ∙ sym c.is_short.ensures ∙ c.if-is_short.false) in
-    line-done (one_line a.level a.shape a.marks a.d t) a.out.now (omega (arith, length-one a.level a.shape a.marks a.d t, h)) c.put_one.ensures
+    let both = line-done (one_line a.level a.shape a.marks a.d t) a.out.now (omega (arith, length-one a.level a.shape a.marks a.d t, h)) c.put_one.ensures in record { value = both.0; out_after = both.1 }

@@ -29,7 +29,7 @@ returns-then-is_short c =
     let t = a.text.now in
     let e = ap (λ (n : ℕ). ltb (length a.out.now) (2 * (3 + 2 * n + length t) + 1)) (sym c.end_length.ensures) in
     let h = ltb-true (length a.out.now) (2 * (3 + 2 * end_length a.level + length t) + 1) (e ∙ sym c.is_short.ensures ∙ c.if-is_short.true) in
-    no_line (two_line a.level a.marks a.a a.b t) a.out.now (omega (arith, length_two a.level a.marks a.a a.b t, h)) c.no_room.ensures
+    let both = no_line (two_line a.level a.marks a.a a.b t) a.out.now (omega (arith, length_two a.level a.marks a.a a.b t, h)) c.no_room.ensures in record { value = both.0; out_after = both.1 }
 
 pub put_two-requires : goal.put_two-requires
 put_two-requires c =
@@ -45,4 +45,4 @@ returns c =
     let t = a.text.now in
     let e = ap (λ (n : ℕ). ltb (length a.out.now) (2 * (3 + 2 * n + length t) + 1)) (sym c.end_length.ensures) in
     let h = ltb-false (length a.out.now) (2 * (3 + 2 * end_length a.level + length t) + 1) (e ∙ sym c.is_short.ensures ∙ c.if-is_short.false) in
-    line-done (two_line a.level a.marks a.a a.b t) a.out.now (omega (arith, length_two a.level a.marks a.a a.b t, h)) c.put_two.ensures
+    let both = line-done (two_line a.level a.marks a.a a.b t) a.out.now (omega (arith, length_two a.level a.marks a.a a.b t, h)) c.put_two.ensures in record { value = both.0; out_after = both.1 }

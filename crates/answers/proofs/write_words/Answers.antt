@@ -7,4 +7,4 @@ pub returns : goal.returns
 returns c =
     let a = c.args in
     let t = a.text.now in
-    tried-answer (words_line a.w t) a.out.now (words-some a.w t) c.put_words-n.ensures c.written.ensures
+    let both = tried-answer (words_line a.w t) a.out.now (words-some a.w t) c.put_words-n.ensures c.written.ensures in record { value = both.0; out_after = both.1 }

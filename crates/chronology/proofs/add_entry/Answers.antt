@@ -18,8 +18,8 @@ returns-in-Entries c =
     let q = (sym c.add_answer.ensures ∙ c.in-Entries.is) in
     let p = c.args.period in
     let r = c.insert_row.ensures in
-    (sym q, add-leaves _ p c.args.id q (entry-is p c.args.id (record { sfits = c.struct_told-1.given.0.1 }) (record { sfits = c.struct_told-1.given.1.0.1 })) c.rank-at.ensures.0 r.0 r.1 r.2)
+    record { value = sym q; ids_value = add-leaves _ p c.args.id q (entry-is p c.args.id (record { sfits = c.struct_told-1.given.0.1 }) (record { sfits = c.struct_told-1.given.1.0.1 })) c.rank-at.ensures.0 r.0 r.1 r.2 }
 
 pub returns-in-Refused : goal.returns-in-Refused
 returns-in-Refused c =
-    let q = (sym c.add_answer.ensures ∙ c.in-Refused.is) in (sym q, add-keeps _ _ _ q)
+    let q = (sym c.add_answer.ensures ∙ c.in-Refused.is) in record { value = sym q; ids_value = add-keeps _ _ _ q }

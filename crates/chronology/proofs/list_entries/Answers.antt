@@ -9,8 +9,8 @@ put_entries-requires c =
 
 pub returns-in-Entries : goal.returns-in-Entries
 returns-in-Entries c =
-    let q = (sym c.list_answer.ensures ∙ c.in-Entries.is) in (sym q, list-leaves _ _ c.requires q c.put_entries.ensures)
+    let q = (sym c.list_answer.ensures ∙ c.in-Entries.is) in record { value = sym q; out_after = list-leaves _ _ c.requires q c.put_entries.ensures }
 
 pub returns-in-Refused : goal.returns-in-Refused
 returns-in-Refused c =
-    let q = (sym c.list_answer.ensures ∙ c.in-Refused.is) in (sym q, list-keeps _ _ q)
+    let q = (sym c.list_answer.ensures ∙ c.in-Refused.is) in record { value = sym q; out_after = list-keeps _ _ q }

@@ -17,8 +17,8 @@ pub returns-in-Entries : goal.returns-in-Entries
 returns-in-Entries c =
     let q = (sym c.remove_answer.ensures ∙ c.in-Entries.is) in
     let r = c.remove_row.ensures in
-    (sym q, remove-leaves _ c.args.id c.requires q c.find-at.ensures.0 r.0 r.1 r.2)
+    record { value = sym q; ids_value = remove-leaves _ c.args.id c.requires q c.find-at.ensures.0 r.0 r.1 r.2 }
 
 pub returns-in-Refused : goal.returns-in-Refused
 returns-in-Refused c =
-    let q = (sym c.remove_answer.ensures ∙ c.in-Refused.is) in (sym q, remove-keeps _ _ q)
+    let q = (sym c.remove_answer.ensures ∙ c.in-Refused.is) in record { value = sym q; ids_value = remove-keeps _ _ q }

@@ -11,7 +11,7 @@ pub returns-then-buf-bytes : goal.returns-then-buf-bytes
 returns-then-buf-bytes c =
     let a = c.args in
     let p = plainly a.bytes.now a.table.now (of_plain a.bytes.now a.table.now (sym c.is_plain.ensures ∙ c.if-is_plain.true)) in
-    no_room a.bytes.now a.table.now a.upper a.buf.now p.clean (omega (arith, p.room)) c.nowhere.ensures
+    let both = no_room a.bytes.now a.table.now a.upper a.buf.now p.clean (omega (arith, p.room)) c.nowhere.ensures in record { value = both.0; buf_after = both.1 }
 
 pub put_plain-requires : goal.put_plain-requires
 put_plain-requires c =
@@ -25,4 +25,4 @@ returns-then-is_plain c =
     let p = plainly a.bytes.now a.table.now (of_plain a.bytes.now a.table.now (sym c.is_plain.ensures ∙ c.if-is_plain.true)) in
     let e = c.put_plain.ensures in
     let t = p.text a.upper in
-    texted a.bytes.now a.table.now a.upper a.buf.now _ _ p.clean (omega (arith, p.room)) (e.0 ∙ ap length (sym t)) (e.1 ∙ ap (sets a.buf.now 0) (sym t))
+    let both = texted a.bytes.now a.table.now a.upper a.buf.now _ _ p.clean (omega (arith, p.room)) (e.0 ∙ ap length (sym t)) (e.1 ∙ ap (sets a.buf.now 0) (sym t)) in record { value = both.0; buf_after = both.1 }

@@ -17,13 +17,13 @@ enum_told-1 c = c.in-Clean.in-Clean-own.keys2
 pub returns-then-buf-bytes : goal.returns-then-buf-bytes
 returns-then-buf-bytes c =
     let a = c.args in
-    no_room a.bytes.now a.table.now a.upper a.buf.now (sym c.check.ensures ∙ c.in-Clean.is) (omega (arith, room-is a.bytes.now a.table.now)) c.nowhere.ensures
+    let both = no_room a.bytes.now a.table.now a.upper a.buf.now (sym c.check.ensures ∙ c.in-Clean.is) (omega (arith, room-is a.bytes.now a.table.now)) c.nowhere.ensures in record { value = both.0; buf_after = both.1 }
 
 pub put_list-n-requires : goal.put_list-n-requires
 put_list-n-requires c =
     let a = c.args in
     let h = sym c.check.ensures ∙ c.in-Clean.is in
-    (clean-fits a.bytes.now a.table.now h, (omega (arith, room-is a.bytes.now a.table.now), clean-faultless a.bytes.now a.table.now h))
+    record { table_value = clean-fits a.bytes.now a.table.now h; table_in_bounds = omega (arith, room-is a.bytes.now a.table.now); table_value_2 = clean-faultless a.bytes.now a.table.now h }
 
 pub slice_bounds-upper_all-end-then-upper : goal.slice_bounds-upper_all-end-then-upper
 slice_bounds-upper_all-end-then-upper c =
@@ -33,7 +33,7 @@ slice_bounds-upper_all-end-then-upper c =
 pub returns-in-Faulty : goal.returns-in-Faulty
 returns-in-Faulty c =
     let a = c.args in
-    faulted a.bytes.now a.table.now a.upper a.buf.now (sym c.check.ensures ∙ c.in-Faulty.is)
+    let both = faulted a.bytes.now a.table.now a.upper a.buf.now (sym c.check.ensures ∙ c.in-Faulty.is) in record { value = both.0; buf_after = both.1 }
 
 pub returns-then-upper : goal.returns-then-upper
 returns-then-upper c =
@@ -44,8 +44,8 @@ returns-then-upper c =
     let e = c.put_list-n.ensures in
     let up : text_of a.upper b t ≡ uppercase (formatted b t) = raised-text b t c.if-upper.true in
     let n = upper-same b t h in
-    texted b t a.upper a.buf.now _ _ h (omega (arith, room-is b t)) (e.0 ∙ sym (same-long b t a.upper h))
-    (raised a.buf.now _ _ (formatted b t) _ e.0 (omega (arith, e.0, e.2)) e.1 n c.upper_all.ensures ∙ ap (sets a.buf.now 0) (sym up))
+    let both = texted b t a.upper a.buf.now _ _ h (omega (arith, room-is b t)) (e.0 ∙ sym (same-long b t a.upper h))
+    (raised a.buf.now _ _ (formatted b t) _ e.0 (omega (arith, e.0, e.2)) e.1 n c.upper_all.ensures ∙ ap (sets a.buf.now 0) (sym up)) in record { value = both.0; buf_after = both.1 }
 
 pub returns-else-upper : goal.returns-else-upper
 returns-else-upper c =
@@ -55,4 +55,4 @@ returns-else-upper c =
     let h = (sym c.check.ensures ∙ c.in-Clean.is) in
     let e = c.put_list-n.ensures in
     let as_is : text_of a.upper b t ≡ formatted b t = plain-as-is b t c.if-upper.false in
-    texted b t a.upper a.buf.now _ _ h (omega (arith, room-is b t)) (e.0 ∙ sym (same-long b t a.upper h)) (e.1 ∙ ap (sets a.buf.now 0) (sym as_is))
+    let both = texted b t a.upper a.buf.now _ _ h (omega (arith, room-is b t)) (e.0 ∙ sym (same-long b t a.upper h)) (e.1 ∙ ap (sets a.buf.now 0) (sym as_is)) in record { value = both.0; buf_after = both.1 }

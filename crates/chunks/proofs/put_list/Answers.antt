@@ -51,7 +51,7 @@ module _ (c : goal.In-loop-k) where
 
 pub loop-k-init : goal.loop-k-init
 unfolding formatted room_of
-loop-k-init c = let q = c.requires in record { fill = fill_start _ _ _; stands = standing-start _ _ q.0; clean = q.1.1; room = omega (arith, q.1.0) }
+loop-k-init c = let q = (c.requires.table_value, (c.requires.table_in_bounds, c.requires.table_value_2)) in record { fill = fill_start _ _ _; stands = standing-start _ _ q.0; clean = q.1.1; room = omega (arith, q.1.0) }
 
 pub offset_bounds-table-k-in-loop-k : goal.offset_bounds-table-k-in-loop-k
 offset_bounds-table-k-in-loop-k c = omega (arith, whole (st c) c.loop-k-test.true)
@@ -69,7 +69,7 @@ pub put_chunk-p-requires : goal.put_chunk-p-requires
 put_chunk-p-requires c =
     let n = text-length (st c) c.loop-k-test.true in
     let m = ap length (chunks-at (table c) (k c) (whole (st c) c.loop-k-test.true)) in
-    (omega (arith, n, m, sums (st c) c.loop-k-test.true, c.loop-k.invariant.room), clean_is (at c) (text c) (faultless c).0)
+    record { t_in_bounds = omega (arith, n, m, sums (st c) c.loop-k-test.true, c.loop-k.invariant.room); t_value = clean_is (at c) (text c) (faultless c).0 }
 
 pub overflow_add-at-in-loop-k : goal.overflow_add-at-in-loop-k
 overflow_add-at-in-loop-k c = omega (arith, sums (st c) c.loop-k-test.true)

@@ -11,6 +11,6 @@ returns-then-all_unbroken c =
     let t = c.args.t.now in
     let w = c.args.white in
     let h = sym c.all_unbroken.ensures ∙ c.if-all_unbroken.true in
-    let out : normal w (codes t) ≡ t = unbroken-codes w (codes t) (ap all_unbroken c.requires.1 ∙ h) ∙ c.requires.1 in
+    let out : normal w (codes t) ≡ t = unbroken-codes w (codes t) (ap all_unbroken c.requires.t_value ∙ h) ∙ c.requires.t_value in
     let e = c.put_bytes-m.ensures in
     rw out (e.0, c.last_white-w.ensures, e.1)

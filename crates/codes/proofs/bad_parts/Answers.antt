@@ -31,12 +31,12 @@ pub returns-then-d-days_in_month : goal.returns-then-d-days_in_month
 unfolding bad_parts refusal pick
 returns-then-d-days_in_month c =
     let y = c.signed in
-    let l = rw (to_z-of_z w32 y.result (record { sfits = y.type-inv }), y.ensures) at c.days_in_month.ensures in
+    let l = rw (to_z-of_z w32 y.result (record { sfits = y.type_inv }), y.ensures) at c.days_in_month.ensures in
     simp (ne_eqb _ _ c.if-m-eq0.false, le-ltb _ _ c.if-m-gt12.false, ne_eqb _ _ c.if-d-eq0.false, le-ltb _ _ c.if-d-gt31.false, ← l, lt-ltb _ _ c.if-d-days_in_month.true, c.no_words.ensures)
 
 pub returns : goal.returns
 unfolding bad_parts refusal pick
 returns c =
     let y = c.signed in
-    let l = rw (to_z-of_z w32 y.result (record { sfits = y.type-inv }), y.ensures) at c.days_in_month.ensures in
+    let l = rw (to_z-of_z w32 y.result (record { sfits = y.type_inv }), y.ensures) at c.days_in_month.ensures in
     simp (ne_eqb _ _ c.if-m-eq0.false, le-ltb _ _ c.if-m-gt12.false, ne_eqb _ _ c.if-d-eq0.false, le-ltb _ _ c.if-d-gt31.false, ← l, le-ltb _ _ c.if-d-days_in_month.false, c.refused-2.ensures)

@@ -10,4 +10,4 @@ returns c =
     let m = c.month_number in
     let d = c.day_number in
     let e = rw (to_z-of_z w32 c.args.d.year (record { sfits = y })) at c.twos.ensures in
-    (rw (e, c.four_bytes.ensures.0, c.has_month.ensures, m.ensures, c.has_day.ensures, d.ensures), (omega (arith, y), (omega (arith, m.type-inv, m.ensures), omega (arith, d.type-inv, d.ensures))))
+    record { value = rw (e, c.four_bytes.ensures.0, c.has_month.ensures, m.ensures, c.has_day.ensures, d.ensures); year_bound = (omega (arith, y), (omega (arith, m.type_inv, m.ensures), omega (arith, d.type_inv, d.ensures))) }

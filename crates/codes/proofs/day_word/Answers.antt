@@ -11,14 +11,14 @@ pub returns-then-d-days_in_month : goal.returns-then-d-days_in_month
 unfolding day_point pick twos
 returns-then-d-days_in_month c =
     let y = c.signed in
-    let l = rw (to_z-of_z w32 y.result (record { sfits = y.type-inv }), y.ensures) at c.days_in_month.ensures in
+    let l = rw (to_z-of_z w32 y.result (record { sfits = y.type_inv }), y.ensures) at c.days_in_month.ensures in
     simp (← c.year-y.ensures, ← c.part_at-m.ensures, ← c.part_at-d.ensures, lt-ltb _ _ c.if-y-lt10000.true, lt-ltb _ _ c.if-m-lt12.true, ← l, lt-ltb _ _ c.if-d-days_in_month.true, ← c.with_day.ensures)
 
 pub returns-else-d-days_in_month : goal.returns-else-d-days_in_month
 unfolding day_point pick twos
 returns-else-d-days_in_month c =
     let y = c.signed in
-    let l = rw (to_z-of_z w32 y.result (record { sfits = y.type-inv }), y.ensures) at c.days_in_month.ensures in
+    let l = rw (to_z-of_z w32 y.result (record { sfits = y.type_inv }), y.ensures) at c.days_in_month.ensures in
     simp (← c.year-y.ensures, ← c.part_at-m.ensures, ← c.part_at-d.ensures, lt-ltb _ _ c.if-y-lt10000.true, lt-ltb _ _ c.if-m-lt12.true, ← l, le-ltb _ _ c.if-d-days_in_month.false)
 
 pub returns-else-m-lt12 : goal.returns-else-m-lt12

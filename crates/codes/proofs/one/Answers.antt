@@ -3,7 +3,7 @@ use borrow.Author.Rules.{rules}
 use Rattle.codes.proofs.one.Goals as goal
 
 pub returns-then-w-eq-NOTHING : goal.returns-then-w-eq-NOTHING
-returns-then-w-eq-NOTHING c = (λ _. c.no_words.ensures, λ n. absurd (n c.if-w-eq-NOTHING.true))
+returns-then-w-eq-NOTHING c = record { value = λ _. c.no_words.ensures; value_2 = λ n. absurd (n c.if-w-eq-NOTHING.true) }
 
 pub returns : goal.returns
-returns c = (λ e. absurd (c.if-w-eq-NOTHING.false e), λ _. refl)
+returns c = record { value = λ e. absurd (c.if-w-eq-NOTHING.false e); value_2 = λ _. refl }

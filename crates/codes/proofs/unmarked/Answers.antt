@@ -44,7 +44,7 @@ pub returns-then-s-lt19 : goal.returns-then-s-lt19
 unfolding value_of pick
 returns-then-s-lt19 c =
     let a = c.args in
-    let l = one_side (point_of a.s.now) (plain-point a.s.now) At 0 a.marks (λ d. ap (words 0 0 (day_word d) (time_word d) 0 0) (omega arith)) c.point.ensures c.one.ensures.0 c.one.ensures.1 in
+    let l = one_side (point_of a.s.now) (plain-point a.s.now) At 0 a.marks (λ d. ap (words 0 0 (day_word d) (time_word d) 0 0) (omega arith)) c.point.ensures c.one.ensures.value c.one.ensures.value_2 in
     simp (← c.slash_of-k.ensures, ← c.slash_at.ensures, c.if-slash_at.false, lt-ltb _ _ c.if-s-lt19.true, ← l)
 
 pub returns : goal.returns

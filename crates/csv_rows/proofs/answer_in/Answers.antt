@@ -9,4 +9,4 @@ unfolding is_over
 returns c =
     let a = c.args in
     let f = c.read_cells-f in
-    (c.answer_by.ensures ∙ by-scan a.last a.cut a.s.now _ f.ensures, f.ensures.table_is)
+    record { value = c.answer_by.ensures ∙ by-scan a.last a.cut a.s.now _ f.ensures; table_after = f.ensures.table_is }

@@ -25,4 +25,4 @@ pub shape_of-out : goal.shape_of-out
 shape_of-out c = c.loop-i.invariant.long
 
 pub returns : goal.returns
-returns c = copy-end c.args.raw.now c.loop-i.i c.loop-i-test.false c.loop-i.invariant
+returns c = let both = copy-end c.args.raw.now c.loop-i.i c.loop-i-test.false c.loop-i.invariant in record { value = both.0; out_after = both.1 }

@@ -10,8 +10,8 @@ pub returns-then-raw-out : goal.returns-then-raw-out
 unfolding copied copied_into pick
 returns-then-raw-out c =
     let t = le-leb _ _ c.if-raw-out.true in
-    (rw t (ap Text c.copy_in.ensures.0), rw t c.copy_in.ensures.1)
+    record { value = rw t (ap Text c.copy_in.ensures.value); out_after = rw t c.copy_in.ensures.out_after }
 
 pub returns : goal.returns
 unfolding copied copied_into pick
-returns c = let t = lt-leb _ _ c.if-raw-out.false in (rw t, rw t)
+returns c = let t = lt-leb _ _ c.if-raw-out.false in record { value = rw t; out_after = rw t }

@@ -14,9 +14,9 @@ answer_in-requires c = (c.requires, omega (arith, length-take-le 65536 c.args.s.
 pub returns-then-s-gt65536 : goal.returns-then-s-gt65536
 returns-then-s-gt65536 c =
     let a = c.args in
-    (answer-cut a.sep a.last a.s.now c.if-s-gt65536.true c.answer_in.ensures.0, table-cut a.sep a.last a.s.now c.if-s-gt65536.true a.table.now c.answer_in.ensures.1)
+    record { value = answer-cut a.sep a.last a.s.now c.if-s-gt65536.true c.answer_in.ensures.value; table_after = table-cut a.sep a.last a.s.now c.if-s-gt65536.true a.table.now c.answer_in.ensures.table_after }
 
 pub returns : goal.returns
 returns c =
     let a = c.args in
-    (answer-all a.sep a.last a.s.now c.if-s-gt65536.false c.answer_in-2.ensures.0, table-all a.sep a.last a.s.now c.if-s-gt65536.false a.table.now c.answer_in-2.ensures.1)
+    record { value = answer-all a.sep a.last a.s.now c.if-s-gt65536.false c.answer_in-2.ensures.value; table_after = table-all a.sep a.last a.s.now c.if-s-gt65536.false a.table.now c.answer_in-2.ensures.table_after }

@@ -18,4 +18,4 @@ returns-in-NoOffset c = (ap ahead_of (sym c.in-NoOffset.is), omega arith)
 
 pub returns-in-SomeOffset : goal.returns-in-SomeOffset
 unfolding ahead_of
-returns-in-SomeOffset c = rw (to_z-of_z w64 c.to_seconds.result (record { sfits = c.to_seconds.type-inv })) (c.to_seconds.ensures.0 ∙ ap ahead_of (sym c.in-SomeOffset.is), c.to_seconds.ensures.1)
+returns-in-SomeOffset c = rw (to_z-of_z w64 c.to_seconds.result (record { sfits = c.to_seconds.type_inv })) (c.to_seconds.ensures.0 ∙ ap ahead_of (sym c.in-SomeOffset.is), c.to_seconds.ensures.1)

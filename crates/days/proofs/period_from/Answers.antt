@@ -10,4 +10,4 @@ unfolding period_from
 returns c =
     let a = c.numbered in
     let b = c.numbered-2 in
-    rw (to_z-of_z w32 a.result (record { sfits = a.type-inv }), to_z-of_z w32 b.result (record { sfits = b.type-inv }), a.ensures, b.ensures)
+    rw (to_z-of_z w32 a.result (record { sfits = a.type_inv }), to_z-of_z w32 b.result (record { sfits = b.type_inv }), a.ensures, b.ensures)

@@ -23,7 +23,7 @@ returns-then-n-eq0 c =
 pub returns-then-positive : goal.returns-then-positive
 unfolding behind_digits with_era pick
 returns-then-positive c =
-    let e = rw (to_z-of_z w32 c.signed.result (record { sfits = c.signed.type-inv }) ∙ c.signed.ensures) at c.ended.ensures in
+    let e = rw (to_z-of_z w32 c.signed.result (record { sfits = c.signed.type_inv }) ∙ c.signed.ensures) at c.ended.ensures in
     simp (← c.parse_era_marker.ensures, c.in-Era.is, ← c.has_sign.ensures, c.if-has_sign.false, ne_eqb _ _ c.if-n-eq0.false, c.if-positive.true, ← e)
 
 pub enum_known-next : goal.enum_known-next
@@ -35,12 +35,12 @@ enum_known-e c = c.in-BadEra.in-BadEra-own.keys3
 pub returns-else-positive : goal.returns-else-positive
 unfolding behind_digits with_era pick
 returns-else-positive c =
-    simp (← c.parse_era_marker.ensures, c.in-Era.is, ← c.has_sign.ensures, c.if-has_sign.false, ne_eqb _ _ c.if-n-eq0.false, c.if-positive.false, to_z-of_z w32 c.before_christ.result (record { sfits = c.before_christ.type-inv }) ∙ c.before_christ.ensures)
+    simp (← c.parse_era_marker.ensures, c.in-Era.is, ← c.has_sign.ensures, c.if-has_sign.false, ne_eqb _ _ c.if-n-eq0.false, c.if-positive.false, to_z-of_z w32 c.before_christ.result (record { sfits = c.before_christ.type_inv }) ∙ c.before_christ.ensures)
 
 pub returns-in-NoEra : goal.returns-in-NoEra
 unfolding behind_digits with_era pick
 returns-in-NoEra c =
-    let e = rw (to_z-of_z w32 c.signed-in-NoEra.result (record { sfits = c.signed-in-NoEra.type-inv }) ∙ c.signed-in-NoEra.ensures) at c.ended-in-NoEra.ensures in
+    let e = rw (to_z-of_z w32 c.signed-in-NoEra.result (record { sfits = c.signed-in-NoEra.type_inv }) ∙ c.signed-in-NoEra.ensures) at c.ended-in-NoEra.ensures in
     simp (← c.parse_era_marker.ensures, c.in-NoEra.is, ← e)
 
 pub returns-in-BadEra : goal.returns-in-BadEra

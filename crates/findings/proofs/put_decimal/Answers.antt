@@ -5,4 +5,4 @@ use Rattle.findings.proofs.put_decimal.Goals as goal
 pub returns : goal.returns
 returns c =
     let a = c.args in
-    tried-digits a.least a.n c.width-w.ensures.0 c.put_digits.ensures c.forward.ensures
+    tried-digits a.least a.n c.width-w.ensures.value c.put_digits.ensures c.forward.ensures

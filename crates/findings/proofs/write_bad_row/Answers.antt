@@ -5,8 +5,8 @@ use Rattle.findings.proofs.write_bad_row.Goals as goal
 
 pub returns-in-Done : goal.returns-in-Done
 returns-in-Done c =
-    stored c.put_bad_row.ensures c.args.out.now (omega (arith, c.well-formed)) c.decide.ensures c.in-Done.is c.put_bad_row.ensures
+    let both = stored c.put_bad_row.ensures c.args.out.now (omega (arith, c.well_formed)) c.decide.ensures c.in-Done.is c.put_bad_row.ensures in record { value = both.0; out_after = both.1 }
 
 pub returns-in-Refused : goal.returns-in-Refused
 returns-in-Refused c =
-    refused c.put_bad_row-n.ensures c.args.out.now (omega (arith, c.well-formed)) c.decide.ensures c.in-Refused.is
+    let both = refused c.put_bad_row-n.ensures c.args.out.now (omega (arith, c.well_formed)) c.decide.ensures c.in-Refused.is in record { value = both.0; out_after = both.1 }

@@ -13,10 +13,10 @@ pub returns-then-line-le512 : goal.returns-then-line-le512
 returns-then-line-le512 c =
     let a = c.args in
     let l = a.line.now in
-    tried-answer (line_answer l) a.out.now (frames-some l) c.answer_line.ensures c.written.ensures
+    let both = tried-answer (line_answer l) a.out.now (frames-some l) c.answer_line.ensures c.written.ensures in record { value = both.0; out_after = both.1 }
 
 pub returns : goal.returns
 returns c =
     let a = c.args in
     let l = a.line.now in
-    tried-answer (line_answer l) a.out.now (frames-some l) c.answer_line-2.ensures c.written-2.ensures
+    let both = tried-answer (line_answer l) a.out.now (frames-some l) c.answer_line-2.ensures c.written-2.ensures in record { value = both.0; out_after = both.1 }

@@ -5,4 +5,4 @@ use borrow.Author.Rules.{rules}
 use Rattle.frames.proofs.bad_frame.Goals as goal
 
 pub returns : goal.returns
-returns c = carried (ap Refused c.nowhere.ensures) c.pack.ensures
+returns c = let both = carried (ap Refused c.nowhere.ensures) (c.pack.ensures.value, c.pack.ensures.typed) in record { value = both.0; typed = both.1 }

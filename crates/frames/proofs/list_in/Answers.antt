@@ -11,22 +11,22 @@ unpack_list-u-requires c =
 
 pub slice_bounds-read_by-end : goal.slice_bounds-read_by-end
 slice_bounds-read_by-end c =
-    text_in c.requires.0 c.requires.1 c.unpack_list-u.ensures.0
+    text_in c.requires.0 c.requires.1 c.unpack_list-u.ensures.put
 
 pub slice_bounds-read_by-end-2 : goal.slice_bounds-read_by-end-2
 slice_bounds-read_by-end-2 c =
-    sym (length-take-le _ _ (text_in c.requires.0 c.requires.1 c.unpack_list-u.ensures.0))
+    sym (length-take-le _ _ (text_in c.requires.0 c.requires.1 c.unpack_list-u.ensures.put))
 
 pub slice_bounds-read_by-end-3 : goal.slice_bounds-read_by-end-3
 slice_bounds-read_by-end-3 c =
-    table-in c.requires.0 c.requires.1 c.unpack_list-u.ensures.1.0
+    table-in c.requires.0 c.requires.1 c.unpack_list-u.ensures.put_2
 
 pub slice_bounds-read_by-end-4 : goal.slice_bounds-read_by-end-4
 slice_bounds-read_by-end-4 c =
-    sym (length-take-le _ _ (table-in c.requires.0 c.requires.1 c.unpack_list-u.ensures.1.0))
+    sym (length-take-le _ _ (table-in c.requires.0 c.requires.1 c.unpack_list-u.ensures.put_2))
 
 pub returns : goal.returns
 returns c =
-    let t = text_is c.requires.0 c.requires.1 c.unpack_list-u.ensures.0 in
-    let u = table_is c.requires.0 c.requires.1 c.unpack_list-u.ensures.1.0 in
-    carried (same-list c.args.op t u) c.read_by.ensures
+    let t = text_is c.requires.0 c.requires.1 c.unpack_list-u.ensures.put in
+    let u = table_is c.requires.0 c.requires.1 c.unpack_list-u.ensures.put_2 in
+    let both = carried (same-list c.args.op t u) (c.read_by.ensures.value, c.read_by.ensures.typed) in record { value = both.0; typed = both.1 }

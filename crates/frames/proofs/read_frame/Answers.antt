@@ -27,4 +27,4 @@ read_three-requires c =
 pub returns-in-Unknown : goal.returns-in-Unknown
 returns-in-Unknown c =
     let f = c.args.f.now in
-    carried (unformed-read f (op-is f c.byte_at.ensures c.asked-op.ensures c.in-Unknown.is) (none-formed f)) c.bad_frame.ensures
+    let both = carried (unformed-read f (op-is f c.byte_at.ensures c.asked-op.ensures c.in-Unknown.is) (none-formed f)) (c.bad_frame.ensures.value, c.bad_frame.ensures.typed) in record { value = both.0; typed = both.1 }

@@ -40,30 +40,30 @@ unfolding reads_list
 returns-in-Ported c =
     let f = c.args.f.now in
     let e = op-is f c.byte_at.ensures c.asked-op.ensures refl in
-    carried (list-by f c.asked-op.result (ap reads_list c.in-Ported.is) ∙ ap (λ (x : Operation). read_of x f) (sym e)) c.list_in.ensures
+    let both = carried (list-by f c.asked-op.result (ap reads_list c.in-Ported.is) ∙ ap (λ (x : Operation). read_of x f) (sym e)) (c.list_in.ensures.value, c.list_in.ensures.typed) in record { value = both.0; typed = both.1 }
 
 pub returns-in-Strict : goal.returns-in-Strict
 unfolding reads_list
 returns-in-Strict c =
     let f = c.args.f.now in
     let e = op-is f c.byte_at.ensures c.asked-op.ensures refl in
-    carried (list-by f c.asked-op.result (ap reads_list c.in-Strict.is) ∙ ap (λ (x : Operation). read_of x f) (sym e)) c.list_in-in-Strict.ensures
+    let both = carried (list-by f c.asked-op.result (ap reads_list c.in-Strict.is) ∙ ap (λ (x : Operation). read_of x f) (sym e)) (c.list_in-in-Strict.ensures.value, c.list_in-in-Strict.ensures.typed) in record { value = both.0; typed = both.1 }
 
 pub returns-in-LevelOne : goal.returns-in-LevelOne
 unfolding reads_list
 returns-in-LevelOne c =
     let f = c.args.f.now in
     let e = op-is f c.byte_at.ensures c.asked-op.ensures refl in
-    carried (list-by f c.asked-op.result (ap reads_list c.in-LevelOne.is) ∙ ap (λ (x : Operation). read_of x f) (sym e)) c.list_in-in-LevelOne.ensures
+    let both = carried (list-by f c.asked-op.result (ap reads_list c.in-LevelOne.is) ∙ ap (λ (x : Operation). read_of x f) (sym e)) (c.list_in-in-LevelOne.ensures.value, c.list_in-in-LevelOne.ensures.typed) in record { value = both.0; typed = both.1 }
 
 pub returns-in-ThreeFields : goal.returns-in-ThreeFields
 returns-in-ThreeFields c =
     let f = c.args.f.now in
     let e = op-is f c.byte_at.ensures c.asked-op.ensures c.in-ThreeFields.is in
-    carried (ap (λ (x : Operation). read_of x f) (sym e)) c.three_in.ensures
+    let both = carried (ap (λ (x : Operation). read_of x f) (sym e)) (c.three_in.ensures.value, c.three_in.ensures.typed) in record { value = both.0; typed = both.1 }
 
 pub returns-in-Unknown : goal.returns-in-Unknown
 returns-in-Unknown c =
     let f = c.args.f.now in
     let e = op-is f c.byte_at.ensures c.asked-op.ensures c.in-Unknown.is in
-    carried (nothing_read f ∙ ap (λ (x : Operation). read_of x f) (sym e)) c.bad_frame.ensures
+    let both = carried (nothing_read f ∙ ap (λ (x : Operation). read_of x f) (sym e)) (c.bad_frame.ensures.value, c.bad_frame.ensures.typed) in record { value = both.0; typed = both.1 }

@@ -20,7 +20,7 @@ slice_bounds-read_by-start c =
 pub returns-then-byte_at-eq1 : goal.returns-then-byte_at-eq1
 returns-then-byte_at-eq1 c =
     let o = single c.args.f.now c.requires.1 c.byte_at.ensures c.if-byte_at-eq1.true in
-    carried (same-list c.args.op o.text_there (c.row_at-row.ensures ∙ o.row_there)) c.read_by.ensures
+    let both = carried (same-list c.args.op o.text_there (c.row_at-row.ensures ∙ o.row_there)) (c.read_by.ensures.value, c.read_by.ensures.typed) in record { value = both.0; typed = both.1 }
 
 pub list_in-requires : goal.list_in-requires
 list_in-requires c =
@@ -34,4 +34,4 @@ read_large-requires c =
 pub returns : goal.returns
 returns c =
     let f = c.args.f.now in
-    carried (ap (λ (x : Operation). read_of x f) c.requires.3 ∙ sym (list-by f c.args.op c.requires.2)) c.read_large.ensures
+    let both = carried (ap (λ (x : Operation). read_of x f) c.requires.3 ∙ sym (list-by f c.args.op c.requires.2)) (c.read_large.ensures.value, c.read_large.ensures.typed) in record { value = both.0; typed = both.1 }

@@ -7,12 +7,12 @@ use Rattle.frames.proofs.read_lists.Goals as goal
 
 pub slice_bounds-three_words-end : goal.slice_bounds-three_words-end
 slice_bounds-three_words-end c =
-    sym (length-take-le _ _ (omega (arith, c.requires.0)))
+    sym (length-take-le _ _ (omega (arith, c.requires.text_le_text)))
 
 pub slice_bounds-three_words-end-2 : goal.slice_bounds-three_words-end-2
 slice_bounds-three_words-end-2 c =
-    sym (length-take-le _ _ (omega (arith, c.requires.1)))
+    sym (length-take-le _ _ (omega (arith, c.requires.table_le_table)))
 
 pub returns : goal.returns
 unfolding read_lists
-returns c = c.three_words.ensures
+returns c = record { value = c.three_words.ensures.value; typed = c.three_words.ensures.typed }

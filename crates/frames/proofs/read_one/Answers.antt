@@ -12,9 +12,9 @@ pub returns-then-one_fills : goal.returns-then-one_fills
 returns-then-one_fills c =
     let f = c.args.f.now in
     let op = c.args.op in
-    carried (list-by f op c.requires.1 ∙ formed-read f c.requires.2 (list-formed f op c.requires.1 ∙ sym c.one_fills.ensures ∙ c.if-one_fills.true)) c.read_list.ensures
+    let both = carried (list-by f op c.requires.1 ∙ formed-read f c.requires.2 (list-formed f op c.requires.1 ∙ sym c.one_fills.ensures ∙ c.if-one_fills.true)) (c.read_list.ensures.value, c.read_list.ensures.typed) in record { value = both.0; typed = both.1 }
 
 pub returns : goal.returns
 returns c =
     let f = c.args.f.now in
-    carried (unformed-read f c.requires.2 (list-formed f c.args.op c.requires.1 ∙ sym c.one_fills.ensures ∙ c.if-one_fills.false)) c.bad_frame.ensures
+    let both = carried (unformed-read f c.requires.2 (list-formed f c.args.op c.requires.1 ∙ sym c.one_fills.ensures ∙ c.if-one_fills.false)) (c.bad_frame.ensures.value, c.bad_frame.ensures.typed) in record { value = both.0; typed = both.1 }

@@ -15,14 +15,14 @@ pub three_at-requires : goal.three_at-requires
 three_at-requires c =
     let m = c.list_end-month_at.ensures in
     let d = c.optional_end-day_at.ensures in
-    ((c.requires.0, sym c.three_fill.ensures ∙ c.if-three_fill.true, c.requires.1), (m.0, rw (← m.0) d.0, omega (arith, m.1, d.1)))
+    record { f_len_bound = (c.requires.0, sym c.three_fill.ensures ∙ c.if-three_fill.true, c.requires.1); month_at_value = (m.0, rw (← m.0) d.0, omega (arith, m.1, d.1)) }
 
 pub returns-then-three_fill : goal.returns-then-three_fill
 returns-then-three_fill c =
     let f = c.args.f.now in
-    carried (formed-read f c.requires.1 (three-of f ∙ sym c.three_fill.ensures ∙ c.if-three_fill.true)) c.three_at.ensures
+    let both = carried (formed-read f c.requires.1 (three-of f ∙ sym c.three_fill.ensures ∙ c.if-three_fill.true)) (c.three_at.ensures.value, c.three_at.ensures.typed) in record { value = both.0; typed = both.1 }
 
 pub returns : goal.returns
 returns c =
     let f = c.args.f.now in
-    carried (unformed-read f c.requires.1 (three-of f ∙ sym c.three_fill.ensures ∙ c.if-three_fill.false)) c.bad_frame.ensures
+    let both = carried (unformed-read f c.requires.1 (three-of f ∙ sym c.three_fill.ensures ∙ c.if-three_fill.false)) (c.bad_frame.ensures.value, c.bad_frame.ensures.typed) in record { value = both.0; typed = both.1 }

@@ -96,4 +96,4 @@ slice_bounds-three_words-end-6 c = sym (length-take-le _ _ (row-taken c.args.f.n
 
 pub returns : goal.returns
 returns c =
-    carried (there-read c.requires c.has_list-has_month.ensures c.has_list-has_day.ensures c.text_start-m.ensures c.text_start-d.ensures c.row_length-i.ensures c.row_length-j.ensures c.row_at-year.ensures c.row_at-month.ensures c.row_at-day.ensures) c.three_words.ensures
+    let both = carried (there-read c.requires c.has_list-has_month.ensures c.has_list-has_day.ensures c.text_start-m.ensures c.text_start-d.ensures c.row_length-i.ensures c.row_length-j.ensures c.row_at-year.ensures c.row_at-month.ensures c.row_at-day.ensures) (c.three_words.ensures.value, c.three_words.ensures.typed) in record { value = both.0; typed = both.1 }

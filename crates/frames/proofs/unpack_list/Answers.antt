@@ -34,4 +34,4 @@ returns c =
     let q = as-text (ap (λ (n : ℕ). table_of a.f.now (a.at + 1) n) e) c.put_rows.ensures in
     let t = text_behind c.requires.0 a.at a.m a.k c.requires.1 c.requires.2 c.requires.3 in
     let u = table-behind c.requires.0 a.at a.m a.k c.requires.1 c.requires.2 c.requires.3 in
-    (p, (q, (omega (arith, t, p.behind), omega (arith, u, q.behind))))
+    record { put = p; put_2 = q; text_bound = (omega (arith, t, p.behind), omega (arith, u, q.behind)) }

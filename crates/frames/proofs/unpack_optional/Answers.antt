@@ -18,8 +18,8 @@ unpack_list-requires c =
 
 pub returns-then-has_list : goal.returns-then-has_list
 returns-then-has_list c =
-    present-puts c.args.f.now c.args.at (sym c.has_list.ensures ∙ c.if-has_list.true) c.unpack_list.ensures.0 c.unpack_list.ensures.1.0 c.unpack_list.ensures.1.1.0 c.unpack_list.ensures.1.1.1
+    let both = present-puts c.args.f.now c.args.at (sym c.has_list.ensures ∙ c.if-has_list.true) c.unpack_list.ensures.put c.unpack_list.ensures.put_2 c.unpack_list.ensures.text_bound.0 c.unpack_list.ensures.text_bound.1 in record { put = both.0; put_2 = both.1.0; text_bound = both.1.1 }
 
 pub returns : goal.returns
 returns c =
-    absent-puts c.args.f.now c.args.at (sym c.has_list.ensures ∙ c.if-has_list.false) c.args.text.now c.args.table.now c.requires.2 c.requires.3
+    let both = absent-puts c.args.f.now c.args.at (sym c.has_list.ensures ∙ c.if-has_list.false) c.args.text.now c.args.table.now c.requires.2 c.requires.3 in record { put = both.0; put_2 = both.1.0; text_bound = both.1.1 }

@@ -6,11 +6,11 @@ use Rattle.hexes.proofs.decode.Goals as goal
 
 pub returns-then-line-ne0 : goal.returns-then-line-ne0
 returns-then-line-ne0 c =
-    odd c.args.line.now c.args.frame.now c.if-line-ne0.true
+    let both = odd c.args.line.now c.args.frame.now c.if-line-ne0.true in record { value = both.0; frame_after = both.1 }
 
 pub returns-then-frame-line : goal.returns-then-frame-line
 returns-then-frame-line c =
-    long c.args.line.now c.args.frame.now c.if-line-ne0.false c.if-frame-line.true
+    let both = long c.args.line.now c.args.frame.now c.if-line-ne0.false c.if-frame-line.true in record { value = both.0; frame_after = both.1 }
 
 pub put_bytes-requires : goal.put_bytes-requires
 put_bytes-requires c =
@@ -20,8 +20,8 @@ pub returns-then-all_digits : goal.returns-then-all_digits
 returns-then-all_digits c =
     let e = sym c.all_digits.ensures ∙ c.if-all_digits.true in
     let g = good c.args.line.now c.args.frame.now c.if-line-ne0.false (omega arith) e in
-    (g.0, c.put_bytes.ensures ∙ g.1)
+    record { value = g.0; frame_after = c.put_bytes.ensures ∙ g.1 }
 
 pub returns : goal.returns
 returns c =
-    foreign c.args.line.now c.args.frame.now c.if-line-ne0.false (omega arith) (sym c.all_digits.ensures ∙ c.if-all_digits.false)
+    let both = foreign c.args.line.now c.args.frame.now c.if-line-ne0.false (omega arith) (sym c.all_digits.ensures ∙ c.if-all_digits.false) in record { value = both.0; frame_after = both.1 }

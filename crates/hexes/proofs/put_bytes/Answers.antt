@@ -24,7 +24,7 @@ put_sixteen-requires c =
 
 pub shape_of-frame-then-line-i-eq10 : goal.shape_of-frame-then-line-i-eq10
 shape_of-frame-then-line-i-eq10 c =
-    as_long c.args.line.now c.put_sixteen.new.1.0 c.loop-i.frame (c.loop-i.i + 16) c.loop-i.i c.put_sixteen.ensures ∙ c.loop-i.invariant.2
+    as_long c.args.line.now c.put_sixteen.new.frame c.loop-i.frame (c.loop-i.i + 16) c.loop-i.i c.put_sixteen.ensures ∙ c.loop-i.invariant.2
 
 pub returns-then-line-i-eq10 : goal.returns-then-line-i-eq10
 returns-then-line-i-eq10 c =
@@ -32,7 +32,7 @@ returns-then-line-i-eq10 c =
 
 pub loop-i-preserved : goal.loop-i-preserved
 loop-i-preserved c =
-    (c.put_sixteen.ensures ∙ c.loop-i.invariant.0, omega arith, as_long c.args.line.now c.put_sixteen.new.1.0 c.loop-i.frame (c.loop-i.i + 16) c.loop-i.i c.put_sixteen.ensures ∙ c.loop-i.invariant.2)
+    (c.put_sixteen.ensures ∙ c.loop-i.invariant.0, omega arith, as_long c.args.line.now c.put_sixteen.new.frame c.loop-i.frame (c.loop-i.i + 16) c.loop-i.i c.put_sixteen.ensures ∙ c.loop-i.invariant.2)
 
 pub put_sixteen-requires-2 : goal.put_sixteen-requires-2
 put_sixteen-requires-2 c =
@@ -41,12 +41,12 @@ put_sixteen-requires-2 c =
 pub shape_of-frame : goal.shape_of-frame
 shape_of-frame c =
     let l = c.args.line.now in
-    as_long l c.put_sixteen-2.new.1.0 c.loop-i.frame (length l / 2 - 16 + 16) (length l / 2 - 16) c.put_sixteen-2.ensures ∙ c.loop-i.invariant.2
+    as_long l c.put_sixteen-2.new.frame c.loop-i.frame (length l / 2 - 16 + 16) (length l / 2 - 16) c.put_sixteen-2.ensures ∙ c.loop-i.invariant.2
 
 pub returns : goal.returns
 returns c =
     let l = c.args.line.now in
     let j = length l / 2 - 16 in
-    last-put l c.put_sixteen-2.new.1.0 (j + 16) (omega arith)
+    last-put l c.put_sixteen-2.new.frame (j + 16) (omega arith)
     ∙ c.put_sixteen-2.ensures
     ∙ put-again l c.args.frame.now c.loop-i.frame c.loop-i.i j (omega arith) (omega arith) (omega (arith, c.requires.1)) c.loop-i.invariant.0

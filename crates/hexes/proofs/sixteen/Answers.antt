@@ -21,4 +21,4 @@ loop-i-preserved c =
     (one_more c.args.line.now c.loop-i.bytes c.args.at c.loop-i.i c.byte_of.result (omega (arith, n)) c.byte_of.ensures c.loop-i.invariant.0, omega arith, length-set c.loop-i.bytes _ _ ∙ n)
 
 pub returns : goal.returns
-returns c = c.loop-i.invariant.0 k (omega (arith, h))
+returns c k h = c.loop-i.invariant.0 k (omega (arith, h))

@@ -24,4 +24,4 @@ pub returns-in-SomeOffset : goal.returns-in-SomeOffset
 returns-in-SomeOffset c =
     let z = c.seconds_at in
     let e = rw (to_z-of_z w32 c.args.day c.ranges.day) at z.ensures in
-    ap Seconds (to_z-of_z w64 z.result (record { sfits = z.type-inv }) ∙ e) ∙ sym (with-offset c.args.day c.args.t c.in-SomeOffset.is)
+    ap Seconds (to_z-of_z w64 z.result (record { sfits = z.type_inv }) ∙ e) ∙ sym (with-offset c.args.day c.args.t c.in-SomeOffset.is)

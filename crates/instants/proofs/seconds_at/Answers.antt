@@ -15,11 +15,11 @@ overflow_mul-result c = times-fits c.args.day c.ranges.day
 pub overflow_add-result : goal.overflow_add-result
 overflow_add-result c =
     let u = c.to_utc_seconds in
-    plus-fits c.args.day c.ranges.day u.result (record { sfits = u.type-inv }) u.ensures.1
+    plus-fits c.args.day c.ranges.day u.result (record { sfits = u.type_inv }) u.ensures.1
 
 pub returns : goal.returns
 unfolding seconds_at
 returns c =
     let u = c.to_utc_seconds in
     let day = c.args.day in
-    plus day c.ranges.day u.result (record { sfits = u.type-inv }) u.ensures.1 ∙ ap (λ (z : ℤ). day *ℤ pos 86400 +ℤ z) u.ensures.0
+    plus day c.ranges.day u.result (record { sfits = u.type_inv }) u.ensures.1 ∙ ap (λ (z : ℤ). day *ℤ pos 86400 +ℤ z) u.ensures.0

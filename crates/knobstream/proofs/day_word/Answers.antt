@@ -9,4 +9,4 @@ returns c =
     let g = c.struct_told-1.given in
     let y = g.0.1 in
     let e = rw (to_z-of_z w32 c.args.p.year (record { sfits = y })) at c.twos.ensures in
-    (rw (e, c.four_bytes.ensures.0), record { year_fits = y; bytes_fit = omega (arith, g) })
+    record { value = rw (e, c.four_bytes.ensures.0); datetime_fits = record { year_fits = y; bytes_fit = omega (arith, g) } }

@@ -5,4 +5,4 @@ use Rattle.knobstream.proofs.knobstream_answer_frame.Goals as goal
 
 pub returns : goal.returns
 returns c =
-    (c.plain_written.ensures ∙ ap written c.answer.ensures.0, c.answer.ensures.1)
+    record { value = c.plain_written.ensures ∙ ap written c.answer.ensures.value; out_after = c.answer.ensures.out_after }

@@ -11,6 +11,6 @@ returns c =
     let v = c.day_word-a in
     let w = c.day_word-b in
     let l = c.four_bytes in
-    let t = text-of a.shape a.uncertain a.approximate a.first a.second v.ensures.0 w.ensures.0 l.ensures.0 (omega arith) (omega arith) (omega arith) v.ensures.1 w.ensures.1 in
+    let t = text-of a.shape a.uncertain a.approximate a.first a.second v.ensures.value w.ensures.value l.ensures.0 (omega arith) (omega arith) (omega arith) v.ensures.datetime_fits w.ensures.datetime_fits in
     let s = no-season a.shape a.uncertain a.approximate a.first a.second (c.seasoned.ensures c.if-seasoned.false) in
     measured-at-once v.result w.result l.result (date_of (parts a.shape a.uncertain a.approximate a.first a.second)) t s c.text_length-n.ensures.0 c.if-n-eq0.false

@@ -11,4 +11,4 @@ returns c =
     let a = c.args in
     let p = parts a.shape a.uncertain a.approximate a.first a.second in
     let e = c.date_of-d.ensures in
-    level-measure c.date_of-d.result (date_of p) (ap level_panics e ∙ same-level-panics p) (ap level_text e ∙ same-level-text p) c.level_length.ensures.0 c.plain_measured.ensures
+    level-measure c.date_of-d.result (date_of p) (ap level_panics e ∙ same-level-panics p) (ap level_text e ∙ same-level-text p) c.level_length.ensures.value c.plain_measured.ensures

@@ -14,4 +14,4 @@ returns c =
     let p = parts a.shape a.uncertain a.approximate a.first a.second in
     let l = a.out.now in
     let e = c.date_of-d.ensures in
-    made-written fields_text l (ap (λ (d : Date). any_season d.value) e ∙ same-season p) (ap panics e ∙ same-panics p) (ap fields_text e ∙ same-fields p) c.write_fields.ensures c.plain_written.ensures
+    let both = made-written fields_text l (ap (λ (d : Date). any_season d.value) e ∙ same-season p) (ap panics e ∙ same-panics p) (ap fields_text e ∙ same-fields p) (c.write_fields.ensures.value, c.write_fields.ensures.out_after) c.plain_written.ensures in record { value = both.0; out_after = both.1 }

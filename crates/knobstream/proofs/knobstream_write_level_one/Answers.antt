@@ -12,4 +12,4 @@ returns c =
     let p = parts a.shape a.uncertain a.approximate a.first a.second in
     let l = a.out.now in
     let e = c.date_of-d.ensures in
-    level-written c.date_of-d.result (date_of p) l (ap level_panics e ∙ same-level-panics p) (ap level_text e ∙ same-level-text p) (c.write_level.ensures.0, c.write_level.ensures.1.0) c.plain_written.ensures
+    let both = level-written c.date_of-d.result (date_of p) l (ap level_panics e ∙ same-level-panics p) (ap level_text e ∙ same-level-text p) (c.write_level.ensures.value, c.write_level.ensures.out_after) c.plain_written.ensures in record { value = both.0; out_after = both.1 }

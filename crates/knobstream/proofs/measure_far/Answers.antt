@@ -13,4 +13,4 @@ returns c =
     let a = c.args in
     let p = parts a.shape a.uncertain a.approximate a.first a.second in
     let e = c.date_of-d.ensures in
-    made-measure c.date_of-d.result (date_of p) (ap (λ (d : Date). any_season d.value) e ∙ same-season p) (ap panics e ∙ same-panics p) (ap date_text e ∙ same_text p) c.date_length.ensures.0 c.plain_measured.ensures
+    made-measure c.date_of-d.result (date_of p) (ap (λ (d : Date). any_season d.value) e ∙ same-season p) (ap panics e ∙ same-panics p) (ap date_text e ∙ same_text p) c.date_length.ensures.value c.plain_measured.ensures

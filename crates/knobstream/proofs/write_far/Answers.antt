@@ -13,4 +13,4 @@ returns c =
     let p = parts a.shape a.uncertain a.approximate a.first a.second in
     let l = a.out.now in
     let e = c.date_of-d.ensures in
-    made-written date_text l (ap (λ (d : Date). any_season d.value) e ∙ same-season p) (ap panics e ∙ same-panics p) (ap date_text e ∙ same_text p) (c.write_date.ensures.0, c.write_date.ensures.1.0) c.plain_written.ensures
+    let both = made-written date_text l (ap (λ (d : Date). any_season d.value) e ∙ same-season p) (ap panics e ∙ same-panics p) (ap date_text e ∙ same_text p) (c.write_date.ensures.value, c.write_date.ensures.out_after) c.plain_written.ensures in record { value = both.0; out_after = both.1 }

@@ -15,7 +15,7 @@ signed-requires c =
 pub returns-in-Number : goal.returns-in-Number
 unfolding int_of with_sign
 returns-in-Number c =
-    simp (← c.number_of.ensures, c.in-Number.is, ← c.signed.ensures, to_z-of_z w32 c.signed.result (record { sfits = c.signed.type-inv }))
+    simp (← c.number_of.ensures, c.in-Number.is, ← c.signed.ensures, to_z-of_z w32 c.signed.result (record { sfits = c.signed.type_inv }))
 
 pub returns-in-Wrong : goal.returns-in-Wrong
 unfolding int_of with_sign

@@ -12,7 +12,7 @@ by-seconds : (c : goal.After-cmp) → c.cmp.result ≡ number_order (utc_seconds
 by-seconds c =
     let a = c.to_utc_seconds in
     let b = c.to_utc_seconds-then-alike in
-    rw (to_z-of_z w64 a.result (record { sfits = a.type-inv }), to_z-of_z w64 b.result (record { sfits = b.type-inv }), a.ensures.0, b.ensures.0) at c.cmp.ensures
+    rw (to_z-of_z w64 a.result (record { sfits = a.type_inv }), to_z-of_z w64 b.result (record { sfits = b.type_inv }), a.ensures.0, b.ensures.0) at c.cmp.ensures
 
 pub returns-then-alike : goal.returns-then-alike
 unfolding time_order pick

@@ -8,7 +8,7 @@ pub store-requires : goal.store-requires
 store-requires c = let f = fitting c.args.bytes.now c.args.table.now c.args.counts.now (length c.args.out.now) (sym c.decide.ensures ∙ c.in-Ranges.is) in (f.1, f.2)
 
 pub returns-in-Ranges : goal.returns-in-Ranges
-returns-in-Ranges c = let q = sym c.decide.ensures ∙ c.in-Ranges.is in (sym q, leaves c.args.bytes.now c.args.table.now c.args.counts.now c.args.out.now q c.store.ensures)
+returns-in-Ranges c = let q = sym c.decide.ensures ∙ c.in-Ranges.is in record { value = sym q; out_after = leaves c.args.bytes.now c.args.table.now c.args.counts.now c.args.out.now q c.store.ensures }
 
 pub returns-in-Refused : goal.returns-in-Refused
-returns-in-Refused c = let q = sym c.decide.ensures ∙ c.in-Refused.is in (sym q, keeps c.args.bytes.now c.args.table.now c.args.counts.now c.args.out.now q)
+returns-in-Refused c = let q = sym c.decide.ensures ∙ c.in-Refused.is in record { value = sym q; out_after = keeps c.args.bytes.now c.args.table.now c.args.counts.now c.args.out.now q }

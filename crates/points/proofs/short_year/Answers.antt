@@ -27,7 +27,7 @@ pub returns-in-Int : goal.returns-in-Int
 unfolding windowed_int
 returns-in-Int c =
     let e = rw (to_z-of_z w32 c.in-Int.value (record { sfits = c.in-Int.known_told-1-own.given.0.1 })) at c.window.ensures in
-    simp (← c.int_of.ensures, c.in-Int.is, to_z-of_z w32 c.window.result (record { sfits = c.window.type-inv }) ∙ e)
+    simp (← c.int_of.ensures, c.in-Int.is, to_z-of_z w32 c.window.result (record { sfits = c.window.type_inv }) ∙ e)
 
 pub returns-in-NoInt : goal.returns-in-NoInt
 unfolding windowed_int

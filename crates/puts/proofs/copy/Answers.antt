@@ -12,7 +12,7 @@ pub loop-i-init : goal.loop-i-init
 loop-i-init c = (ap (λ (j : ℕ). sets c.args.out.now j c.args.t.now) (add-zero c.args.at), omega arith, refl)
 
 pub overflow_add-out : goal.overflow_add-out
-overflow_add-out c = omega (arith, c.loop-i.invariant.2, c.well-formed)
+overflow_add-out c = omega (arith, c.loop-i.invariant.2, c.well_formed)
 
 pub bounds-out-at : goal.bounds-out-at
 bounds-out-at c = omega (arith, c.loop-i.invariant.2)

@@ -23,10 +23,10 @@ pub returns-then-w-least : goal.returns-then-w-least
 returns-then-w-least c =
     let a = c.args in
     let e = ended _ _ _ c.loop-rest.invariant c.loop-rest-test.false in
-    (sym (padded a.least a.n (omega (arith, e, c.if-w-least.true))), λ h. omega arith)
+    record { value = sym (padded a.least a.n (omega (arith, e, c.if-w-least.true))); upper_bound = λ h. omega arith }
 
 pub returns : goal.returns
 returns c =
     let a = c.args in
     let e = ended _ _ _ c.loop-rest.invariant c.loop-rest-test.false in
-    (e ∙ sym (unpadded a.least a.n (omega (arith, e, c.if-w-least.false))), λ h. omega (arith, e, few 10 a.n (omega arith)))
+    record { value = e ∙ sym (unpadded a.least a.n (omega (arith, e, c.if-w-least.false))); upper_bound = λ h. omega (arith, e, few 10 a.n (omega arith)) }

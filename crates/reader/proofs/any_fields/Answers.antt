@@ -19,7 +19,7 @@ read_clean-requires c =
     (optional a.has-month a.month.now a.month-table.now)
     (optional a.has-day a.day.now a.day-table.now) in
     let e : fields_checked t ≡ Clean = sym c.check_fields.ensures ∙ c.in-Clean.is in
-    (year-checked t e, (λ h. month-checked t e h, λ h k. day-checked t e h k))
+    record { year_table_value = year-checked t e; month_table_value = λ h. month-checked t e h; day_table_value = λ h k. day-checked t e h k }
 
 pub enum_known-e : goal.enum_known-e
 enum_known-e c = c.in-Faulty.in-Faulty-own.keys2

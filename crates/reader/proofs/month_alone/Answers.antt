@@ -17,8 +17,8 @@ returns-then-stands c =
 pub slice_bounds-month_text-end-2 : goal.slice_bounds-month_text-end-2
 slice_bounds-month_text-end-2 c =
     let t = c.text_of-n in
-    sym (length-take-le _ t.new.1.1.0 (omega (arith, t.ensures.0)))
+    sym (length-take-le _ t.new.buf (omega (arith, t.ensures.upper_bound)))
 
 pub returns : goal.returns
 unfolding month_alone
-returns c = c.month_text-2.ensures ∙ rw c.text_of-n.ensures.1
+returns c = c.month_text-2.ensures ∙ rw c.text_of-n.ensures.buf_after

@@ -22,11 +22,11 @@ module _ (c : goal.In-Text) where
   room = c.args.buf.now
 
   abbrev filled : List ℕ
-  filled = c.format_verbatim.new.1.1.0
+  filled = c.format_verbatim.new.buf
 
   told : Given false list numbers room c.in-Text.n filled
   told =
-      let e = c.format_verbatim.ensures in
+      let e = (c.format_verbatim.ensures.value, c.format_verbatim.ensures.buf_after) in
       is-text false list numbers room e.0 e.1 c.in-Text.is
 
 pub enum_known-n : goal.enum_known-n
@@ -48,5 +48,5 @@ returns-in-Text c =
 pub returns-in-Refused : goal.returns-in-Refused
 returns-in-Refused c =
     let a = c.args in
-    let e = c.format_verbatim.ensures in
+    let e = (c.format_verbatim.ensures.value, c.format_verbatim.ensures.buf_after) in
     exact-faulty a.bytes.now a.table.now a.level (is-fault false a.bytes.now a.table.now a.buf.now e.0 e.1 c.in-Refused.is c.requires)

@@ -12,7 +12,7 @@ returns-then-w c =
     let l = a.bytes.now in
     let t = a.table.now in
     let p = at_once (list_written l t) (parsed_strict l t) c.written_words-w.ensures c.if-w.true (λ r e. written-strict l t e) (λ r e. list-typed l t e) in
-    (c.again.ensures ∙ p.0, p.1)
+    record { value = c.again.ensures ∙ p.0; typed = p.1 }
 
 pub returns : goal.returns
-returns c = c.any_strict.ensures
+returns c = record { value = c.any_strict.ensures.value; typed = c.any_strict.ensures.typed }

@@ -14,7 +14,7 @@ returns-then-w c =
     let l = a.bytes.now in
     let t = a.table.now in
     let p = at_once (list_usual l t) (parsed l t) c.usual_words-w.ensures c.if-w.true (λ r e. usual-parsed l t e) (λ r e. usual-typed l t e) in
-    (c.again.ensures ∙ p.0, p.1)
+    record { value = c.again.ensures ∙ p.0; typed = p.1 }
 
 pub returns-then-p : goal.returns-then-p
 returns-then-p c =
@@ -22,7 +22,7 @@ returns-then-p c =
     let l = a.bytes.now in
     let t = a.table.now in
     let p = at_once (list_ported l t) (parsed l t) c.ported_words-p.ensures c.if-p.true (λ r e. ported-parsed l t e) (λ r e. ported-typed l t e) in
-    (c.again-then-p.ensures ∙ p.0, p.1)
+    record { value = c.again-then-p.ensures ∙ p.0; typed = p.1 }
 
 pub returns : goal.returns
-returns c = c.any_words.ensures
+returns c = record { value = c.any_words.ensures.value; typed = c.any_words.ensures.typed }

@@ -4,7 +4,7 @@ use borrow.Author.Rules.{rules}
 use Rattle.reader.proofs.parts_of.Goals as goal
 
 pub month_and_day-requires : goal.month_and_day-requires
-month_and_day-requires c = (c.requires.0 c.if-has_month.true, c.requires.1 c.if-has_month.true c.if-has_day.true)
+month_and_day-requires c = record { readable = c.requires.readable c.if-has_month.true; readable_2 = c.requires.readable_2 c.if-has_month.true c.if-has_day.true }
 
 pub returns-then-has_day : goal.returns-then-has_day
 unfolding parts_of pick
@@ -12,7 +12,7 @@ returns-then-has_day c =
     simp (c.if-has_month.true, c.if-has_day.true, ← c.month_and_day.ensures)
 
 pub month_alone-requires : goal.month_alone-requires
-month_alone-requires c = c.requires.0 c.if-has_month.true
+month_alone-requires c = c.requires.readable c.if-has_month.true
 
 pub returns-then-has_month : goal.returns-then-has_month
 unfolding parts_of pick

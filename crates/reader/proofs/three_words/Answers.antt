@@ -10,7 +10,7 @@ pub returns-then-w : goal.returns-then-w
 returns-then-w c =
     let a = c.args in
     let t = three (lent a.year.now a.year-table.now) (optional a.has-month a.month.now a.month-table.now) (optional a.has-day a.day.now a.day-table.now) in
-    at_once (list_three t) (three_fields t) c.three_at_once-w.ensures c.if-w.true (λ r e. three_said t e) (λ r e. three-typed t e)
+    let both = at_once (list_three t) (three_fields t) c.three_at_once-w.ensures c.if-w.true (λ r e. three_said t e) (λ r e. three-typed t e) in record { value = both.0; typed = both.1 }
 
 pub returns : goal.returns
-returns c = carried _ _ c.any_fields-read.ensures c.pack.ensures
+returns c = let both = carried _ _ c.any_fields-read.ensures (c.pack.ensures.value, c.pack.ensures.typed) in record { value = both.0; typed = both.1 }

@@ -27,11 +27,11 @@ module _ (c : goal.In-Text) where
   room = c.args.buf.now
 
   abbrev filled : List ℕ
-  filled = c.format_uppercase.new.1.1.0
+  filled = c.format_uppercase.new.buf
 
   told : Given true list numbers room c.in-Text.n filled
   told =
-      let e = c.format_uppercase.ensures in
+      let e = (c.format_uppercase.ensures.value, c.format_uppercase.ensures.buf_after) in
       is-text true list numbers room e.0 e.1 c.in-Text.is
 
 pub enum_known-n : goal.enum_known-n
@@ -49,12 +49,12 @@ enum_known-e c = c.in-Refused.in-Refused-own.keys2
 pub returns-in-Text : goal.returns-in-Text
 returns-in-Text c =
     let t = take c.in-Text.n (filled c) in
-    carried (parse_text c.span.result t) (parsed (list c) (numbers c)) (ap (λ (z : FileSpan). parse_text z t) c.span.ensures ∙ parsed-clean (list c) (numbers c) (told c).clean (told c).front) c.text_words.ensures
+    let both = carried (parse_text c.span.result t) (parsed (list c) (numbers c)) (ap (λ (z : FileSpan). parse_text z t) c.span.ensures ∙ parsed-clean (list c) (numbers c) (told c).clean (told c).front) (c.text_words.ensures.value, c.text_words.ensures.typed) in record { value = both.0; typed = both.1 }
 
 pub returns-in-Refused : goal.returns-in-Refused
 returns-in-Refused c =
     let a = c.args in
-    let e = c.format_uppercase.ensures in
-    carried _ (parsed a.bytes.now a.table.now)
+    let e = (c.format_uppercase.ensures.value, c.format_uppercase.ensures.buf_after) in
+    let both = carried _ (parsed a.bytes.now a.table.now)
     (parsed-faulty a.bytes.now a.table.now (is-fault true a.bytes.now a.table.now a.buf.now e.0 e.1 c.in-Refused.is c.requires))
-    c.pack.ensures
+    (c.pack.ensures.value, c.pack.ensures.typed) in record { value = both.0; typed = both.1 }

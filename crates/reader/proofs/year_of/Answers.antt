@@ -17,8 +17,8 @@ returns-then-stands c =
 pub slice_bounds-get_year-end-2 : goal.slice_bounds-get_year-end-2
 slice_bounds-get_year-end-2 c =
     let t = c.text_of-n in
-    sym (length-take-le _ t.new.1.1.0 (omega (arith, t.ensures.0)))
+    sym (length-take-le _ t.new.buf (omega (arith, t.ensures.upper_bound)))
 
 pub returns : goal.returns
 unfolding year_of
-returns c = c.moved_year-2.ensures ∙ rw (c.span-2.ensures, c.get_year-2.ensures, c.text_of-n.ensures.1)
+returns c = c.moved_year-2.ensures ∙ rw (c.span-2.ensures, c.get_year-2.ensures, c.text_of-n.ensures.buf_after)

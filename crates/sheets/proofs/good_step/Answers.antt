@@ -15,6 +15,6 @@ pub returns : goal.returns
 unfolding row_step
 returns c = let a = c.args in
     let b = c.checked_lines-s.ensures in
-    let g = c.well-formed.1.1.1.1.0 in
+    let g = c.well_formed.1.1.1.1.0 in
     stepped-took b.text (checked-most a.st.line a.st.columns a.st.cells a.block.now a.end a.count (cells_from a.block.now a.table.now 0 a.count) (omega (arith, g))) (omega arith) c.requires.1 a.end
     (c.behind.ensures ∙ ap (behind a.st a.block.now a.end Rows) b.tally)

@@ -20,9 +20,9 @@ module _ (c : goal.In-Text) where
   abbrev room : List ℕ
   room = c.args.buf.now
 
-  told : Given false list numbers room c.in-Text.n c.format_verbatim.new.1.1.0
+  told : Given false list numbers room c.in-Text.n c.format_verbatim.new.buf
   told =
-      let e = c.format_verbatim.ensures in
+      let e = (c.format_verbatim.ensures.value, c.format_verbatim.ensures.buf_after) in
       is-text false list numbers room e.0 e.1 c.in-Text.is
 
 pub slice_bounds-is_blank-end : goal.slice_bounds-is_blank-end
@@ -42,5 +42,5 @@ returns-else-is_blank c =
 pub returns-in-Refused : goal.returns-in-Refused
 returns-in-Refused c =
     let a = c.args in
-    let e = c.format_verbatim.ensures in
+    let e = (c.format_verbatim.ensures.value, c.format_verbatim.ensures.buf_after) in
     is-faulty a.bytes.now a.table.now (is-fault false a.bytes.now a.table.now a.buf.now e.0 e.1 c.in-Refused.is c.requires)

@@ -44,9 +44,9 @@ returns-else-is_digit c =
     let a = c.args in
     let l = c.loop-n in
     let e = c.byte_at-c.ensures ∙ sym (get_or-drop a.at a.s.now l.n 0) in
-    (all-taken l.invariant (ap is_ascii_digit (sym e) ∙ sym c.is_digit.ensures ∙ c.if-is_digit.false), (l.invariant.number, (l.invariant.few, l.invariant.small)))
+    record { count_value = all-taken l.invariant (ap is_ascii_digit (sym e) ∙ sym c.is_digit.ensures ∙ c.if-is_digit.false); number_value = l.invariant.number; count_bound = (l.invariant.few, l.invariant.small) }
 
 pub returns : goal.returns
 returns c =
     let l = c.loop-n in
-    (ten-taken l.invariant c.loop-n-test.false, (l.invariant.number, (l.invariant.few, l.invariant.small)))
+    record { count_value = ten-taken l.invariant c.loop-n-test.false; number_value = l.invariant.number; count_bound = (l.invariant.few, l.invariant.small) }

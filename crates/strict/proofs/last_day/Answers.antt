@@ -21,11 +21,11 @@ unfolding signed
 overflow_sub-result c =
     let a = c.args in
     let s = c.signed in
-    omega (arith, length-is a.month.0 (record { sfits = s.type-inv }) s.ensures c.days_in_month.ensures, some-day a.month.0 (pos a.n) (omega arith))
+    omega (arith, length-is a.month.0 (record { sfits = s.type_inv }) s.ensures c.days_in_month.ensures, some-day a.month.0 (pos a.n) (omega arith))
 
 pub returns : goal.returns
 unfolding last_day signed
 returns c =
     let m = c.args.month.0 in
     let s = c.signed in
-    ap (λ (l : ℕ). l - 1) (length-is m (record { sfits = s.type-inv }) s.ensures c.days_in_month.ensures)
+    ap (λ (l : ℕ). l - 1) (length-is m (record { sfits = s.type_inv }) s.ensures c.days_in_month.ensures)

@@ -19,5 +19,5 @@ returns-in-NoFour c =
 pub returns-in-SomeFour : goal.returns-in-SomeFour
 unfolding level_at on_four
 returns-in-SomeFour c =
-    let n = rw (to_z-of_z w32 c.signed.result (record { sfits = c.signed.type-inv })) at c.level_year.ensures in
+    let n = rw (to_z-of_z w32 c.signed.result (record { sfits = c.signed.type_inv })) at c.level_year.ensures in
     simp (← c.four_at.ensures, c.in-SomeFour.is, ← c.signed.ensures, ← n)

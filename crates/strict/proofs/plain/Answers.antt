@@ -7,5 +7,5 @@ use Rattle.strict.proofs.plain.Goals as goal
 pub returns : goal.returns
 unfolding signed
 returns c =
-    let z = to_z-of_z w32 c.signed.result (record { sfits = c.signed.type-inv }) in
+    let z = to_z-of_z w32 c.signed.result (record { sfits = c.signed.type_inv }) in
     rw (z, c.signed.ensures) at c.new.ensures

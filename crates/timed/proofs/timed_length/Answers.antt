@@ -8,19 +8,19 @@ enum_known-n c = c.in-Length.in-Length-own.keys1
 
 pub returns-then-value_bad : goal.returns-then-value_bad
 returns-then-value_bad c =
-    (is-bad c.args.d c.date_length.ensures.0 c.in-Length.is c.value_bad.ensures c.if-value_bad.true c.nowhere.ensures, most c.args.d c.date_length.ensures.0 c.date_length.ensures.1)
+    record { value = is-bad c.args.d c.date_length.ensures.value c.in-Length.is c.value_bad.ensures c.if-value_bad.true c.nowhere.ensures; d_len_bound = most c.args.d c.date_length.ensures.value c.date_length.ensures.d_len_bound }
 
 pub overflow_add-result : goal.overflow_add-result
 overflow_add-result c =
-    let q = no-panic c.args.d c.date_length.ensures.0 c.in-Length.is in omega (arith, q.2, c.date_length.ensures.1 q.1, c.times_length.ensures.1)
+    let q = no-panic c.args.d c.date_length.ensures.value c.in-Length.is in omega (arith, q.2, c.date_length.ensures.d_len_bound q.1, c.times_length.ensures.1)
 
 pub enum_known-e : goal.enum_known-e
 enum_known-e c = c.in-NoLength.in-NoLength-own.keys2
 
 pub returns-else-value_bad : goal.returns-else-value_bad
 returns-else-value_bad c =
-    (has-length c.args.d c.date_length.ensures.0 c.in-Length.is c.value_bad.ensures c.if-value_bad.false c.times_length.ensures.0, most c.args.d c.date_length.ensures.0 c.date_length.ensures.1)
+    record { value = has-length c.args.d c.date_length.ensures.value c.in-Length.is c.value_bad.ensures c.if-value_bad.false c.times_length.ensures.0; d_len_bound = most c.args.d c.date_length.ensures.value c.date_length.ensures.d_len_bound }
 
 pub returns-in-NoLength : goal.returns-in-NoLength
 returns-in-NoLength c =
-    (panicked c.args.d c.date_length.ensures.0 c.in-NoLength.is, most c.args.d c.date_length.ensures.0 c.date_length.ensures.1)
+    record { value = panicked c.args.d c.date_length.ensures.value c.in-NoLength.is; d_len_bound = most c.args.d c.date_length.ensures.value c.date_length.ensures.d_len_bound }

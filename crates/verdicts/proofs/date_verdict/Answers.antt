@@ -11,9 +11,9 @@ returns-then-n-eq0 c = simp (eq-eqb _ _ c.if-n-eq0.true)
 
 pub returns-then-w-lt3 : goal.returns-then-w-lt3
 returns-then-w-lt3 c =
-    full-said c.args.cell.now c.if-n-eq0.false c.parse_strict_words-w.ensures.0 c.if-w-lt4294967296.true c.if-w-lt3.true
+    full-said c.args.cell.now c.if-n-eq0.false c.parse_strict_words-w.ensures.value c.if-w-lt4294967296.true c.if-w-lt3.true
 
 pub returns : goal.returns
 returns c =
-    let w = c.parse_strict_words-w.ensures in
+    let w = (c.parse_strict_words-w.ensures.value, c.parse_strict_words-w.ensures.typed) in
     readers-said c.args.cell.now c.if-n-eq0.false w.0 w.1 c.unpack.ensures c.parse.ensures c.by_readers.ensures

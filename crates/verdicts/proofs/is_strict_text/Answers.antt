@@ -5,4 +5,4 @@ use Rattle.verdicts.proofs.is_strict_text.Goals as goal
 
 pub returns : goal.returns
 unfolding is_strict_text
-returns c = by-words _ c.parse_strict_words-w.ensures.0
+returns c = by-words _ c.parse_strict_words-w.ensures.value

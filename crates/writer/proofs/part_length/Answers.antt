@@ -9,6 +9,6 @@ use Rattle.writer.proofs.part_length.Goals as goal
 pub returns : goal.returns
 unfolding part_text
 returns c =
-    let e = c.width.ensures.0 ∙ sym (length-decimal 2 c.args.n) in
+    let e = c.width.ensures.value ∙ sym (length-decimal 2 c.args.n) in
     let m = part-most c.args.n (omega arith) in
     (e, omega (arith, e, m))

@@ -6,4 +6,4 @@ use Rattle.writer.proofs.put_rest.Goals as goal
 
 pub returns : goal.returns
 returns c =
-    lent (datetime_text c.args.d) c.args.out.now c.put_datetime.new.1.0 c.args.at c.put_datetime.result c.requires c.put_datetime.ensures
+    lent (datetime_text c.args.d) c.args.out.now c.put_datetime.new.out c.args.at c.put_datetime.result c.requires c.put_datetime.ensures

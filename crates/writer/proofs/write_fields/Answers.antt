@@ -17,8 +17,8 @@ enum_known-e c = c.in-Refused.in-Refused-own.keys2
 pub returns-in-Done : goal.returns-in-Done
 unfolding fields_text
 returns-in-Done c =
-    date-done c.args.d (fields_text c.args.d) c.args.out.now c.fields_length.ensures c.decide.ensures c.in-Done.is c.put_value_lines.ensures
+    let both = date-done c.args.d (fields_text c.args.d) c.args.out.now c.fields_length.ensures c.decide.ensures c.in-Done.is c.put_value_lines.ensures in record { value = both.0; out_after = both.1 }
 
 pub returns-in-Refused : goal.returns-in-Refused
 returns-in-Refused c =
-    date-refuses c.args.d (fields_text c.args.d) c.args.out.now c.fields_length.ensures c.decide.ensures c.in-Refused.is
+    let both = date-refuses c.args.d (fields_text c.args.d) c.args.out.now c.fields_length.ensures c.decide.ensures c.in-Refused.is in record { value = both.0; out_after = both.1 }

@@ -8,17 +8,17 @@ enum_told-1 c = c.in-Done.in-Done-own.keys1
 
 pub put_date-requires : goal.put_date-requires
 put_date-requires c =
-    date-fits c.args.d (date_text c.args.d) c.args.out.now c.date_length.ensures.0 c.decide.ensures c.in-Done.is
+    date-fits c.args.d (date_text c.args.d) c.args.out.now c.date_length.ensures.value c.decide.ensures c.in-Done.is
 
 pub enum_known-e : goal.enum_known-e
 enum_known-e c = c.in-Refused.in-Refused-own.keys2
 
 pub returns-in-Done : goal.returns-in-Done
 returns-in-Done c =
-    let q = date-done c.args.d (date_text c.args.d) c.args.out.now c.date_length.ensures.0 c.decide.ensures c.in-Done.is c.put_date.ensures in
-    (q.0, (q.1, c.date_length.ensures.1))
+    let q = date-done c.args.d (date_text c.args.d) c.args.out.now c.date_length.ensures.value c.decide.ensures c.in-Done.is c.put_date.ensures in
+    record { value = q.0; out_after = q.1; d_len_bound = c.date_length.ensures.d_len_bound }
 
 pub returns-in-Refused : goal.returns-in-Refused
 returns-in-Refused c =
-    let q = date-refuses c.args.d (date_text c.args.d) c.args.out.now c.date_length.ensures.0 c.decide.ensures c.in-Refused.is in
-    (q.0, (q.1, c.date_length.ensures.1))
+    let q = date-refuses c.args.d (date_text c.args.d) c.args.out.now c.date_length.ensures.value c.decide.ensures c.in-Refused.is in
+    record { value = q.0; out_after = q.1; d_len_bound = c.date_length.ensures.d_len_bound }

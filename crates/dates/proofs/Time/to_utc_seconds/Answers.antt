@@ -15,13 +15,13 @@ pub overflow_cast-result : goal.overflow_cast-result
 overflow_cast-result c = omega arith
 
 pub overflow_sub-result : goal.overflow_sub-result
-overflow_sub-result c = let a = c.ahead_of_lem in utc-fits c.seconds.result c.seconds.ensures.1 a.result (record { sfits = a.type-inv }) a.ensures.1
+overflow_sub-result c = let a = c.ahead_of-ahead in utc-fits c.seconds.result c.seconds.ensures.1 a.result (record { sfits = a.type_inv }) a.ensures.1
 
 pub returns : goal.returns
 unfolding utc_seconds
 returns c =
-    let a = c.ahead_of_lem in
+    let a = c.ahead_of-ahead in
     let s = c.seconds in (
-      utc s.result s.ensures.1 a.result (record { sfits = a.type-inv }) a.ensures.1 ∙ simp (s.ensures.0, a.ensures.0),
-      utc-small s.result s.ensures.1 a.result (record { sfits = a.type-inv }) a.ensures.1,
+      utc s.result s.ensures.1 a.result (record { sfits = a.type_inv }) a.ensures.1 ∙ simp (s.ensures.0, a.ensures.0),
+      utc-small s.result s.ensures.1 a.result (record { sfits = a.type_inv }) a.ensures.1,
     )

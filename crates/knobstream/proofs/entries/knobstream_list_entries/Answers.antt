@@ -14,4 +14,4 @@ shape_of-out c = search rules
 
 pub returns : goal.returns
 returns c =
-    (c.plain_entries.ensures ∙ ap counted c.list.ensures.0, c.list.ensures.1)
+    record { value = c.plain_entries.ensures ∙ ap counted c.list.ensures.value; out_after = c.list.ensures.out_after }

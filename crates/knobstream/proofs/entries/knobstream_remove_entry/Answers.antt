@@ -10,4 +10,4 @@ pub plain_entries-requires : goal.plain_entries-requires
 plain_entries-requires c = search rules
 
 pub returns : goal.returns
-returns c = (c.plain_entries.ensures ∙ ap counted c.remove.ensures.0, c.remove.ensures.1)
+returns c = record { value = c.plain_entries.ensures ∙ ap counted c.remove.ensures.value; ids_value = c.remove.ensures.ids_value }

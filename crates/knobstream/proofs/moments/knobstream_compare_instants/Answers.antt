@@ -9,4 +9,4 @@ use Rattle.knobstream.proofs.moments.knobstream_compare_instants.Goals as goal
 pub returns : goal.returns
 returns c =
     let p = c.plain_compared in
-    to_z-of_z w32 p.result (record { sfits = p.type-inv }) ∙ (p.ensures ∙ ap compared_number (made-instants c.datetime_of-x.ensures c.datetime_of-y.ensures c.compare.ensures))
+    to_z-of_z w32 p.result (record { sfits = p.type_inv }) ∙ (p.ensures ∙ ap compared_number (made-instants c.datetime_of-x.ensures c.datetime_of-y.ensures c.compare.ensures))

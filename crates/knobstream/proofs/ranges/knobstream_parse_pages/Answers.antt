@@ -5,4 +5,4 @@ use Rattle.knobstream.proofs.ranges.knobstream_parse_pages.Goals as goal
 
 pub returns : goal.returns
 returns c =
-    (c.put_answer.ensures ∙ ap page_words c.parse_pages.ensures.0, c.parse_pages.ensures.1)
+    record { answer_after = c.put_answer.ensures ∙ ap page_words c.parse_pages.ensures.value; out_after = c.parse_pages.ensures.out_after }

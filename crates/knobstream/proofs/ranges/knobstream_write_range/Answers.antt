@@ -5,4 +5,4 @@ use Rattle.knobstream.proofs.ranges.knobstream_write_range.Goals as goal
 
 pub returns : goal.returns
 returns c =
-    (c.plain_written.ensures ∙ ap written c.write_range.ensures.0, c.write_range.ensures.1.0)
+    record { value = c.plain_written.ensures ∙ ap written c.write_range.ensures.value; out_after = c.write_range.ensures.out_after }

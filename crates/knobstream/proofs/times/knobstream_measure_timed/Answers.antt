@@ -6,4 +6,4 @@ use Rattle.knobstream.proofs.times.knobstream_measure_timed.Goals as goal
 
 pub returns : goal.returns
 returns c =
-    c.plain_measured.ensures ∙ ap measure (c.timed_length.ensures.0 ∙ ap timed_measured c.timed_date-d.ensures)
+    c.plain_measured.ensures ∙ ap measure (c.timed_length.ensures.value ∙ ap timed_measured c.timed_date-d.ensures)

@@ -10,4 +10,4 @@ pub returns : goal.returns
 returns c =
     let l = c.args.out.now in
     let e = c.timed_date-d.ensures in
-    (c.plain_written.ensures ∙ ap written (c.write_timed.ensures.0 ∙ ap (λ (d : Date). timed_answer d (length l)) e), c.write_timed.ensures.1.0 ∙ ap (λ (d : Date). timed_afterwards d l) e)
+    record { value = c.plain_written.ensures ∙ ap written (c.write_timed.ensures.value ∙ ap (λ (d : Date). timed_answer d (length l)) e); out_after = c.write_timed.ensures.out_after ∙ ap (λ (d : Date). timed_afterwards d l) e }
