@@ -17,21 +17,10 @@ use native.Mathlib.Omega.{arith}
 use mathlib.Core.Path.{sym, ◌∙◌, refl, ◌≡◌}
 use Rattle.chars.proofs.Laws.{OfChar, found}
 use Rattle.chunks.proofs.check_characters.Goals as goal
-
--- in a chunk: no fault so far, and the first one from here is the first one from the chunk's start
-record InCharacters (at : ℕ) (t : List ℕ) (found : Checked) (i : ℕ) : Type 0 where
-  none : found ≡ Clean
-  same : fault_in (at + i) (characters (drop i t)) ≡ fault_in at (characters t)
-  inside : i ≤ length t
-
--- between the chunks: no fault so far, and the first one from here is the list's
-record InChunks (bytes table : List ℕ) (at k : ℕ) (found : Checked) : Type 0 where
-  none : found ≡ Clean
-  same : fault_of at (drop at bytes) (chunks_of (drop k table)) ≡ fault_of 0 bytes (chunks_of table)
-  stands : Standing bytes table at k
+use Rattle.chunks.proofs.check_characters.Goals.{In-chunks}
 
 -- in a turn over the chunks
-module _ (c : goal.In-chunks) where
+module _ (c : In-chunks) where
   abbrev bytes : List ℕ
   bytes = c.args.bytes.now
 
@@ -51,7 +40,7 @@ module _ (c : goal.In-chunks) where
   text = take (at + get_or table (k + 1) 0 - at) (drop at bytes)
 
 -- where a character was found
-module _ (c : goal.In-Char-2) where
+module _ (c : In-Char) where
   abbrev i : ℕ
   i = c.characters.i
 
@@ -61,7 +50,7 @@ module _ (c : goal.In-Char-2) where
   abbrev n : ℕ
   n = c.in-Char.n
 
-  abbrev turn : goal.In-chunks
+  abbrev turn : In-chunks
   turn = c
 
   is-char : decode_at (text turn) i ≡ Char code n
@@ -74,17 +63,17 @@ pub chunks-init : goal.chunks-init
 chunks-init c = record { none = refl; same = refl; stands = standing-start _ _ c.requires }
 
 pub offset_bounds-table-k : goal.offset_bounds-table-k
-offset_bounds-table-k c = omega (arith, whole (st c) c.chunks-test.true)
+offset_bounds-table-k c = omega (arith, whole (st (goal.at.offset_bounds-table-k c).In-chunks) c.chunks-test.true)
 
 pub bounds-table-k : goal.bounds-table-k
     tie.Need-shared-slice-read-len invariant-characters decreases-characters invariant-chunks decreases-chunks
-bounds-table-k c = omega (arith, whole (st c) c.chunks-test.true)
+bounds-table-k c = omega (arith, whole (st (goal.at.bounds-table-k c).In-chunks) c.chunks-test.true)
 
 pub overflow_add-t : goal.overflow_add-t
-overflow_add-t c = omega (arith, sums (st c) c.chunks-test.true)
+overflow_add-t c = omega (arith, sums (st (goal.at.overflow_add-t c).In-chunks) c.chunks-test.true)
 
 pub slice_bounds-t-end : goal.slice_bounds-t-end
-slice_bounds-t-end c = omega (arith, sums (st c) c.chunks-test.true)
+slice_bounds-t-end c = omega (arith, sums (st (goal.at.slice_bounds-t-end c).In-chunks) c.chunks-test.true)
 
 pub characters-init : goal.characters-init
 characters-init c = record { none = c.chunks.invariant.none; same = rw add-zero refl; inside = omega arith }
@@ -97,56 +86,56 @@ pub is_admitted-requires : goal.is_admitted-requires
 is_admitted-requires c = search rules
 
 pub overflow_add-i : goal.overflow_add-i
-overflow_add-i c = let q = turn c in omega (arith, (sees c).inside, (sees c).some, text-length (st q) q.chunks-test.taken, sums (st q) q.chunks-test.taken)
+overflow_add-i c = let q = turn (goal.at.overflow_add-i c).In-chunks in omega (arith, (sees (goal.at.overflow_add-i c).In-chunks).inside, (sees (goal.at.overflow_add-i c).In-chunks).some, text-length (st q) q.chunks-test.taken, sums (st q) q.chunks-test.taken)
 
 pub characters-smaller : goal.characters-smaller
-characters-smaller c = let q = turn c in omega (arith, (sees c).inside, (sees c).some, text-length (st q) q.chunks-test.taken, sums (st q) q.chunks-test.taken)
+characters-smaller c = let q = turn (goal.at.characters-smaller c).In-chunks in omega (arith, (sees (goal.at.characters-smaller c).In-chunks).inside, (sees (goal.at.characters-smaller c).In-chunks).some, text-length (st q) q.chunks-test.taken, sums (st q) q.chunks-test.taken)
 
 pub characters-preserved : goal.characters-preserved
 characters-preserved c =
     let v = c.characters.invariant in
     record {
       none = v.none;
-      same = sym (fault-on (text (turn c)) (at (turn c)) (i c) (is-char c) (sym c.is_admitted.ensures ∙ c.if-is_admitted.true)) ∙ v.same;
-      inside = omega (arith, (sees c).inside, (sees c).some);
+      same = sym (fault-on (text (turn (goal.at.characters-preserved c).In-chunks)) (at (turn (goal.at.characters-preserved c).In-chunks)) (i (goal.at.characters-preserved c).In-chunks) (is-char (goal.at.characters-preserved c).In-chunks) (sym c.is_admitted.ensures ∙ c.if-is_admitted.true)) ∙ v.same;
+      inside = omega (arith, (sees (goal.at.characters-preserved c).In-chunks).inside, (sees (goal.at.characters-preserved c).In-chunks).some);
     }
 
 pub overflow_add-at : goal.overflow_add-at
-overflow_add-at c = let q = turn c in omega (arith, (sees c).inside, (sees c).some, text-length (st q) q.chunks-test.taken, sums (st q) q.chunks-test.taken)
+overflow_add-at c = let q = turn (goal.at.overflow_add-at c).In-chunks in omega (arith, (sees (goal.at.overflow_add-at c).In-chunks).inside, (sees (goal.at.overflow_add-at c).In-chunks).some, text-length (st q) q.chunks-test.taken, sums (st q) q.chunks-test.taken)
 
 pub faulty-found-requires : goal.faulty-found-requires
-faulty-found-requires c = let q = turn c in omega (arith, (sees c).inside, (sees c).some, text-length (st q) q.chunks-test.taken, sums (st q) q.chunks-test.taken)
+faulty-found-requires c = let q = turn (goal.at.faulty-found-requires c).In-chunks in omega (arith, (sees (goal.at.faulty-found-requires c).In-chunks).inside, (sees (goal.at.faulty-found-requires c).In-chunks).some, text-length (st q) q.chunks-test.taken, sums (st q) q.chunks-test.taken)
 
 pub enum_told-1 : goal.enum_told-1
 enum_told-1 c = c.in-Bad.in-Bad-own.keys2
 
 pub overflow_add-at-in-Bad : goal.overflow_add-at-in-Bad
-overflow_add-at-in-Bad c = omega (arith, text-length (st c) c.chunks-test.true, sums (st c) c.chunks-test.true)
+overflow_add-at-in-Bad c = omega (arith, text-length (st (goal.at.overflow_add-at-in-Bad c).In-chunks) c.chunks-test.true, sums (st (goal.at.overflow_add-at-in-Bad c).In-chunks) c.chunks-test.true)
 
 pub faulty-found-requires-in-Bad : goal.faulty-found-requires-in-Bad
-faulty-found-requires-in-Bad c = omega (arith, text-length (st c) c.chunks-test.true, sums (st c) c.chunks-test.true)
+faulty-found-requires-in-Bad c = omega (arith, text-length (st (goal.at.faulty-found-requires-in-Bad c).In-chunks) c.chunks-test.true, sums (st (goal.at.faulty-found-requires-in-Bad c).In-chunks) c.chunks-test.true)
 
 pub enum_told-in-End : goal.enum_told-in-End
 enum_told-in-End c = c.in-End.in-End-own.keys3
 
 pub overflow_add-at-in-chunks : goal.overflow_add-at-in-chunks
-overflow_add-at-in-chunks c = omega (arith, sums (st c) c.chunks-test.true)
+overflow_add-at-in-chunks c = omega (arith, sums (st (goal.at.overflow_add-at-in-chunks c).In-chunks) c.chunks-test.true)
 
 pub overflow_add-k : goal.overflow_add-k
-overflow_add-k c = omega (arith, whole (st c) c.chunks-test.true)
+overflow_add-k c = omega (arith, whole (st (goal.at.overflow_add-k c).In-chunks) c.chunks-test.true)
 
 pub chunks-smaller : goal.chunks-smaller
-chunks-smaller c = omega (arith, whole (st c) c.chunks-test.true)
+chunks-smaller c = omega (arith, whole (st (goal.at.chunks-smaller c).In-chunks) c.chunks-test.true)
 
 pub chunks-preserved : goal.chunks-preserved
 unfolding or_else
 chunks-preserved c =
     let v = c.characters.invariant in
-    let clean = sym v.same ∙ fault-end (text c) (at c) _ (sym c.decode_at.ensures ∙ c.in-End.is) in
+    let clean = sym v.same ∙ fault-end (text (goal.at.chunks-preserved c).In-chunks) (at (goal.at.chunks-preserved c).In-chunks) _ (sym c.decode_at.ensures ∙ c.in-End.is) in
     record {
       none = v.none;
-      same = rw clean at (fault-turn (st c) c.chunks-test.true) ∙ c.chunks.invariant.same;
-      stands = standing_on (st c) c.chunks-test.true;
+      same = rw clean at (fault-turn (st (goal.at.chunks-preserved c).In-chunks) c.chunks-test.true) ∙ c.chunks.invariant.same;
+      stands = standing_on (st (goal.at.chunks-preserved c).In-chunks) c.chunks-test.true;
     }
 
 pub returns-after-chunks : goal.returns-after-chunks
@@ -158,12 +147,12 @@ returns-after-chunks c =
 pub returns-else-is_admitted : goal.returns-else-is_admitted
 unfolding or_else
 returns-else-is_admitted c =
-    let q = turn c in
-    let high = sym c.characters.invariant.same ∙ fault-high (text q) (at q) (i c) (is-char c) (sym c.is_admitted.ensures ∙ c.if-is_admitted.false) in
+    let q = turn (goal.at.returns-else-is_admitted c).In-chunks in
+    let high = sym c.characters.invariant.same ∙ fault-high (text q) (at q) (i (goal.at.returns-else-is_admitted c).In-chunks) (is-char (goal.at.returns-else-is_admitted c).In-chunks) (sym c.is_admitted.ensures ∙ c.if-is_admitted.false) in
     c.faulty-found.ensures ∙ rw high at (fault-turn (st q) q.chunks-test.taken) ∙ q.before.chunks.inv.same
 
 pub returns-in-Bad : goal.returns-in-Bad
 unfolding or_else
 returns-in-Bad c =
-    let ill = sym c.characters.invariant.same ∙ fault-bad (text c) (at c) _ (sym c.decode_at.ensures ∙ c.in-Bad.is) in
-    c.faulty-found-in-Bad.ensures ∙ rw ill at (fault-turn (st c) c.chunks-test.true) ∙ c.chunks.invariant.same
+    let ill = sym c.characters.invariant.same ∙ fault-bad (text (goal.at.returns-in-Bad c).In-chunks) (at (goal.at.returns-in-Bad c).In-chunks) _ (sym c.decode_at.ensures ∙ c.in-Bad.is) in
+    c.faulty-found-in-Bad.ensures ∙ rw ill at (fault-turn (st (goal.at.returns-in-Bad c).In-chunks) c.chunks-test.true) ∙ c.chunks.invariant.same

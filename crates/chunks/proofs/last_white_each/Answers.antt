@@ -11,9 +11,10 @@ use Prim.Native.Nat.{ℕ, ◌-◌}
 use mathlib.Core.List.{List}
 use mathlib.Core.Path.{◌≡◌, refl, sym, ◌∙◌}
 use Rattle.chunks.proofs.last_white_each.Goals as goal
+use Rattle.chunks.proofs.last_white_each.Goals.{In-Char}
 
 -- where a character was found: what it is
-module _ (c : goal.In-Char-2) where
+module _ (c : In-Char) where
   abbrev t : List ℕ
   t = c.args.t.now
 
@@ -33,14 +34,14 @@ pub enum_known-code : goal.enum_known-code
 enum_known-code c = c.in-Char.in-Char-own.keys1
 
 pub overflow_add-i : goal.overflow_add-i
-overflow_add-i c = omega (arith, (sees c).inside, (sees c).some)
+overflow_add-i c = omega (arith, (sees (goal.at.overflow_add-i c).In-Char).inside, (sees (goal.at.overflow_add-i c).In-Char).some)
 
 pub loop-code-smaller : goal.loop-code-smaller
-loop-code-smaller c = omega (arith, (sees c).inside, (sees c).some)
+loop-code-smaller c = omega (arith, (sees (goal.at.loop-code-smaller c).In-Char).inside, (sees (goal.at.loop-code-smaller c).In-Char).some)
 
 pub loop-code-preserved : goal.loop-code-preserved
 unfolding last_white
-loop-code-preserved c = rw c.is_whitespace-w.ensures (rw (code-char _ _ (is-char c)) at c.loop-code.invariant)
+loop-code-preserved c = rw c.is_whitespace-w.ensures (rw (code-char _ _ (is-char (goal.at.loop-code-preserved c).In-Char)) at c.loop-code.invariant)
 
 pub enum_told-1 : goal.enum_told-1
 enum_told-1 c = c.in-Bad.in-Bad-own.keys2

@@ -6,16 +6,12 @@ use Prim.Native.Nat.{ℕ, ◌+◌, ◌-◌, ◌%◌, ◌≤◌, ◌<◌}
 use lib.ListN.{length, drop}
 use Rattle.chunks.specs.Chunks.{chunks_of, no_math}
 use Rattle.chunks.proofs.Standing.{math-step, math-all}
+use Rattle.chunks.proofs.no_math.Invariants.{Counted}
 use Rattle.chunks.proofs.no_math.Goals as goal
-
--- what the kinds so far and those that are left say is what all of them say
-record Counted (table : List ℕ) (ok : Bool) (k : ℕ) : Type 0 where
-  same : (ok && no_math (chunks_of (drop k table))) ≡ no_math (chunks_of table)
-  fours : (length table - k) % 4 ≡ 0
-  inside : k ≤ length table
+use Rattle.chunks.proofs.no_math.Goals.{In-loop-k}
 
 -- in a turn: the four numbers of the chunk are there
-module _ (c : goal.In-loop-k) where
+module _ (c : In-loop-k) where
   abbrev table : List ℕ
   table = c.args.table.now
 
@@ -29,18 +25,18 @@ pub loop-k-init : goal.loop-k-init
 loop-k-init c = record { same = refl; fours = omega arith; inside = omega arith }
 
 pub overflow_add-k : goal.overflow_add-k
-overflow_add-k c = omega (arith, whole c)
+overflow_add-k c = omega (arith, whole (goal.at.overflow_add-k c).In-loop-k)
 
 pub loop-k-smaller : goal.loop-k-smaller
-loop-k-smaller c = omega (arith, whole c)
+loop-k-smaller c = omega (arith, whole (goal.at.loop-k-smaller c).In-loop-k)
 
 pub loop-k-preserved : goal.loop-k-preserved
 loop-k-preserved c =
     let l = c.loop-k in
     record {
-      same = and_assoc l.ok _ _ ∙ ap (λ (r : Bool). l.ok && r) (sym (math-step (table c) l.k (whole c))) ∙ (v c).same;
-      fours = omega (arith, whole c, (v c).fours);
-      inside = omega (arith, whole c);
+      same = and_assoc l.ok _ _ ∙ ap (λ (r : Bool). l.ok && r) (sym (math-step (table (goal.at.loop-k-preserved c).In-loop-k) l.k (whole (goal.at.loop-k-preserved c).In-loop-k))) ∙ (v (goal.at.loop-k-preserved c).In-loop-k).same;
+      fours = omega (arith, whole (goal.at.loop-k-preserved c).In-loop-k, (v (goal.at.loop-k-preserved c).In-loop-k).fours);
+      inside = omega (arith, whole (goal.at.loop-k-preserved c).In-loop-k);
     }
 
 pub returns : goal.returns

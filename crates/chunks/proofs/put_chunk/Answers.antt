@@ -11,6 +11,7 @@ use mathlib.Core.Bool.{Bool, false}
 use mathlib.Core.Path.{◌≡◌, refl}
 use borrow.Author.Rules.{rules}
 use Rattle.chunks.proofs.put_chunk.Goals as goal
+use Rattle.chunks.proofs.put_chunk.Goals.{Else-kind-eq1, Then-kind-eq1}
 
 -- what a chunk of each kind puts out, and the flag
 out0 : (kind : ℕ) (w : Bool) (t : List ℕ) → kind ≡ 0 → chunk_out w kind t ≡ normal w (codes t)
@@ -21,7 +22,7 @@ flag0 : (kind : ℕ) (w : Bool) (t : List ℕ) → kind ≡ 0 → chunk_flag w k
 unfolding chunk_flag pick
 flag0 kind w t e = simp (eq-eqb _ _ e)
 
-module _ (c : goal.Then-kind-eq1) where
+module _ (c : Then-kind-eq1) where
   out1 : let a = c.args in chunk_out a.white a.kind a.t.now ≡ a.t.now
   unfolding chunk_out pick
   out1 = simp (ne_eqb _ _ c.if-kind-eq0.false, eq-eqb _ _ c.if-kind-eq1.true)
@@ -30,7 +31,7 @@ module _ (c : goal.Then-kind-eq1) where
   unfolding chunk_flag pick
   flag1 = simp (ne_eqb _ _ c.if-kind-eq0.false, eq-eqb _ _ c.if-kind-eq1.true)
 
-module _ (c : goal.Else-kind-eq1) where
+module _ (c : Else-kind-eq1) where
   out2 : let a = c.args in chunk_out a.white a.kind a.t.now ≡ 0x24 ∷ (a.t.now ++ 0x24 ∷ [])
   unfolding chunk_out pick
   out2 = simp (ne_eqb _ _ c.if-kind-eq0.false, ne_eqb _ _ c.if-kind-eq1.false)
@@ -43,7 +44,7 @@ pub returns-then-kind-eq0 : goal.returns-then-kind-eq0
 returns-then-kind-eq0 c = let e = c.if-kind-eq0.true in rw (out0 _ _ _ e, flag0 _ _ _ e) c.put_normal.ensures
 
 pub returns-then-kind-eq1 : goal.returns-then-kind-eq1
-returns-then-kind-eq1 c = rw (out1 c, flag1 c) (c.put_bytes-m.ensures.0, c.last_white-w.ensures, c.put_bytes-m.ensures.1)
+returns-then-kind-eq1 c = rw (out1 (goal.at.returns-then-kind-eq1 c).Then-kind-eq1, flag1 (goal.at.returns-then-kind-eq1 c).Then-kind-eq1) (c.put_bytes-m.ensures.0, c.last_white-w.ensures, c.put_bytes-m.ensures.1)
 
 pub put_char-m-requires : goal.put_char-m-requires
 unfolding encode pick
@@ -68,4 +69,4 @@ returns c =
     let f1 : Filling a.buf.now a.n all _ _ (a.t.now ++ (0x24 ∷ [])) = fill-put (0x24 ∷ []) (fill_start a.buf.now a.n all) e1.0 e1.1 in
     let f2 : Filling a.buf.now a.n all _ _ (0x24 ∷ []) = fill-put a.t.now f1 e2.0 e2.1 in
     let f3 : Filling a.buf.now a.n all _ _ [] = fill-put (0x24 ∷ []) f2 e3.0 e3.1 in
-    rw (out2 c, flag2 c) (fill_end f3, refl, f3.same)
+    rw (out2 (goal.at.returns c).Else-kind-eq1, flag2 (goal.at.returns c).Else-kind-eq1) (fill_end f3, refl, f3.same)

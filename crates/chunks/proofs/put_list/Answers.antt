@@ -16,16 +16,10 @@ use Prim.Native.Nat.{◌+◌, ◌-◌, ◌*◌, ◌≤◌, ℕ}
 use native.Mathlib.Omega.{arith}
 use mathlib.Core.Path.{◌≡◌, ap, ◌∙◌}
 use Rattle.chunks.proofs.put_list.Goals as goal
-
--- what the buffer comes to with the chunks that are left, where the loop stands, and the room for them
-record Listed (bytes table buf₀ buf : List ℕ) (at k n : ℕ) (w : Bool) : Type 0 where
-  fill : Filling buf₀ 0 (formatted bytes table) buf n (chunks_out w (drop at bytes) (chunks_of (drop k table)))
-  stands : Standing bytes table at k
-  clean : fault_of at (drop at bytes) (chunks_of (drop k table)) ≡ Clean
-  room : n + (length bytes - at) + 2 * length (chunks_of (drop k table)) ≤ length buf
+use Rattle.chunks.proofs.put_list.Goals.{In-loop-k}
 
 -- in a turn
-module _ (c : goal.In-loop-k) where
+module _ (c : In-loop-k) where
   abbrev bytes : List ℕ
   bytes = c.args.bytes.now
 
@@ -54,31 +48,31 @@ unfolding formatted room_of
 loop-k-init c = let q = (c.requires.table_value, (c.requires.table_in_bounds, c.requires.table_value_2)) in record { fill = fill_start _ _ _; stands = standing-start _ _ q.0; clean = q.1.1; room = omega (arith, q.1.0) }
 
 pub offset_bounds-table-k-in-loop-k : goal.offset_bounds-table-k-in-loop-k
-offset_bounds-table-k-in-loop-k c = omega (arith, whole (st c) c.loop-k-test.true)
+offset_bounds-table-k-in-loop-k c = omega (arith, whole (st (goal.at.offset_bounds-table-k-in-loop-k c).In-loop-k) c.loop-k-test.true)
 
 pub bounds-table-k-in-loop-k : goal.bounds-table-k-in-loop-k
-bounds-table-k-in-loop-k c = omega (arith, whole (st c) c.loop-k-test.true)
+bounds-table-k-in-loop-k c = omega (arith, whole (st (goal.at.bounds-table-k-in-loop-k c).In-loop-k) c.loop-k-test.true)
 
 pub overflow_add-at : goal.overflow_add-at
-overflow_add-at c = omega (arith, sums (st c) c.loop-k-test.true)
+overflow_add-at c = omega (arith, sums (st (goal.at.overflow_add-at c).In-loop-k) c.loop-k-test.true)
 
 pub slice_bounds-put_chunk-end : goal.slice_bounds-put_chunk-end
-slice_bounds-put_chunk-end c = omega (arith, sums (st c) c.loop-k-test.true)
+slice_bounds-put_chunk-end c = omega (arith, sums (st (goal.at.slice_bounds-put_chunk-end c).In-loop-k) c.loop-k-test.true)
 
 pub put_chunk-p-requires : goal.put_chunk-p-requires
 put_chunk-p-requires c =
-    let n = text-length (st c) c.loop-k-test.true in
-    let m = ap length (chunks-at (table c) (k c) (whole (st c) c.loop-k-test.true)) in
-    record { t_in_bounds = omega (arith, n, m, sums (st c) c.loop-k-test.true, c.loop-k.invariant.room); t_value = clean_is (at c) (text c) (faultless c).0 }
+    let n = text-length (st (goal.at.put_chunk-p-requires c).In-loop-k) c.loop-k-test.true in
+    let m = ap length (chunks-at (table (goal.at.put_chunk-p-requires c).In-loop-k) (k (goal.at.put_chunk-p-requires c).In-loop-k) (whole (st (goal.at.put_chunk-p-requires c).In-loop-k) c.loop-k-test.true)) in
+    record { t_in_bounds = omega (arith, n, m, sums (st (goal.at.put_chunk-p-requires c).In-loop-k) c.loop-k-test.true, c.loop-k.invariant.room); t_value = clean_is (at (goal.at.put_chunk-p-requires c).In-loop-k) (text (goal.at.put_chunk-p-requires c).In-loop-k) (faultless (goal.at.put_chunk-p-requires c).In-loop-k).0 }
 
 pub overflow_add-at-in-loop-k : goal.overflow_add-at-in-loop-k
-overflow_add-at-in-loop-k c = omega (arith, sums (st c) c.loop-k-test.true)
+overflow_add-at-in-loop-k c = omega (arith, sums (st (goal.at.overflow_add-at-in-loop-k c).In-loop-k) c.loop-k-test.true)
 
 pub overflow_add-k : goal.overflow_add-k
-overflow_add-k c = omega (arith, whole (st c) c.loop-k-test.true)
+overflow_add-k c = omega (arith, whole (st (goal.at.overflow_add-k c).In-loop-k) c.loop-k-test.true)
 
 pub loop-k-smaller : goal.loop-k-smaller
-loop-k-smaller c = omega (arith, whole (st c) c.loop-k-test.true)
+loop-k-smaller c = omega (arith, whole (st (goal.at.loop-k-smaller c).In-loop-k) c.loop-k-test.true)
 
 pub loop-k-preserved : goal.loop-k-preserved
 loop-k-preserved c =
@@ -87,19 +81,19 @@ loop-k-preserved c =
     let w = c.loop-k.w in
     let e = c.put_chunk-p.ensures in
     record {
-      fill = rw e.1 (fill-put (chunk_out w (get_or (table c) (k c) 0) (text c)) (rw (out-turn (st c) t w) at v.fill) e.0 e.2);
-      stands = standing_on (st c) t;
-      clean = (faultless c).1;
+      fill = rw e.1 (fill-put (chunk_out w (get_or (table (goal.at.loop-k-preserved c).In-loop-k) (k (goal.at.loop-k-preserved c).In-loop-k) 0) (text (goal.at.loop-k-preserved c).In-loop-k)) (rw (out-turn (st (goal.at.loop-k-preserved c).In-loop-k) t w) at v.fill) e.0 e.2);
+      stands = standing_on (st (goal.at.loop-k-preserved c).In-loop-k) t;
+      clean = (faultless (goal.at.loop-k-preserved c).In-loop-k).1;
       room =
           omega (
             arith,
-            sums (st c) t,
-            text-length (st c) t,
-            ap length (chunks-at (table c) (k c) (whole (st c) t)),
-            chunk-short (text c) w (get_or (table c) (k c) 0),
+            sums (st (goal.at.loop-k-preserved c).In-loop-k) t,
+            text-length (st (goal.at.loop-k-preserved c).In-loop-k) t,
+            ap length (chunks-at (table (goal.at.loop-k-preserved c).In-loop-k) (k (goal.at.loop-k-preserved c).In-loop-k) (whole (st (goal.at.loop-k-preserved c).In-loop-k) t)),
+            chunk-short (text (goal.at.loop-k-preserved c).In-loop-k) w (get_or (table (goal.at.loop-k-preserved c).In-loop-k) (k (goal.at.loop-k-preserved c).In-loop-k) 0),
             v.room,
             e.0,
-            c.put_chunk-p.auto.0,
+            c.put_chunk-p.auto.buf,
           );
     }
 

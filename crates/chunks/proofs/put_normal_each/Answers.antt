@@ -15,9 +15,10 @@ use native.Mathlib.Omega.{arith}
 use borrow.Author.Rules.{rules}
 use lib.ListN.{length, drop}
 use Rattle.chunks.proofs.put_normal_each.Goals as goal
+use Rattle.chunks.proofs.put_normal_each.Goals.{In-Char}
 
 -- where a character was found: what it is, and how long what it puts out is
-module _ (c : goal.In-Char-2) where
+module _ (c : In-Char) where
   abbrev t : List ℕ
   t = c.args.t.now
 
@@ -49,22 +50,22 @@ pub enum_known-code : goal.enum_known-code
 enum_known-code c = c.in-Char.in-Char-own.keys1
 
 pub put_one-p-requires : goal.put_one-p-requires
-put_one-p-requires c = ((sees c).below, omega (arith, out-short c, (sees c).inside, c.loop-code.invariant.2))
+put_one-p-requires c = ((sees (goal.at.put_one-p-requires c).In-Char).below, omega (arith, out-short (goal.at.put_one-p-requires c).In-Char, (sees (goal.at.put_one-p-requires c).In-Char).inside, c.loop-code.invariant.2))
 
 pub overflow_add-i : goal.overflow_add-i
-overflow_add-i c = omega (arith, (sees c).inside, (sees c).some)
+overflow_add-i c = omega (arith, (sees (goal.at.overflow_add-i c).In-Char).inside, (sees (goal.at.overflow_add-i c).In-Char).some)
 
 pub loop-code-smaller : goal.loop-code-smaller
-loop-code-smaller c = omega (arith, (sees c).inside, (sees c).some)
+loop-code-smaller c = omega (arith, (sees (goal.at.loop-code-smaller c).In-Char).inside, (sees (goal.at.loop-code-smaller c).In-Char).some)
 
 pub loop-code-preserved : goal.loop-code-preserved
 unfolding normal last_white
 loop-code-preserved c =
     let v = c.loop-code.invariant in
     let e = c.put_one-p.ensures in (
-      rw e.1 (fill-put (one_out _ (code c)) (rw (codes-on c) at v.0) e.0 e.2),
-      rw e.1 (rw (codes-on c) at v.1),
-      omega (arith, out-short c, (sees c).inside, (sees c).some, v.2, e.0, c.put_one-p.auto.0),
+      rw e.1 (fill-put (one_out _ (code (goal.at.loop-code-preserved c).In-Char)) (rw (codes-on (goal.at.loop-code-preserved c).In-Char) at v.0) e.0 e.2),
+      rw e.1 (rw (codes-on (goal.at.loop-code-preserved c).In-Char) at v.1),
+      omega (arith, out-short (goal.at.loop-code-preserved c).In-Char, (sees (goal.at.loop-code-preserved c).In-Char).inside, (sees (goal.at.loop-code-preserved c).In-Char).some, v.2, e.0, c.put_one-p.auto.buf),
     )
 
 pub enum_told-1 : goal.enum_told-1

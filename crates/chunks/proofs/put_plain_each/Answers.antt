@@ -12,9 +12,10 @@ use Prim.Native.Nat.{◌+◌, ◌-◌, ◌≤◌, ◌<◌, ℕ, suc}
 use native.Mathlib.Omega.{arith}
 use mathlib.Core.Path.{sym, ap, ◌∙◌, refl, ◌≡◌}
 use Rattle.chunks.proofs.put_plain_each.Goals as goal
+use Rattle.chunks.proofs.put_plain_each.Goals.{In-loop-i}
 
 -- in a turn: the byte is ASCII, and what is put out goes on behind it
-module _ (c : goal.In-loop-i) where
+module _ (c : In-loop-i) where
   abbrev t : List ℕ
   t = c.args.t.now
 
@@ -38,16 +39,16 @@ loop-i-init c = (fill_start _ _ _, refl, omega arith, omega arith)
 
 pub put_plain_byte-p-requires : goal.put_plain_byte-p-requires
 put_plain_byte-p-requires c =
-    (omega (arith, c.loop-i.invariant.2), low c)
+    (omega (arith, c.loop-i.invariant.2), low (goal.at.put_plain_byte-p-requires c).In-loop-i)
 
 pub loop-i-preserved : goal.loop-i-preserved
 loop-i-preserved c =
     let v = c.loop-i.invariant in
     let e = c.put_plain_byte-p.ensures in
-    let b : ℕ = get_or (t c) (i c) 0 in (
-      rw e.1 (fill-put (plain_out (u c) c.loop-i.w b) (rw (on c c.loop-i.w) at v.0) e.0 e.2),
-      sym (ascii-on (t c) (i c) c.loop-i-test.true (low c)) ∙ v.1,
-      omega (arith, v.2, e.0, plain-short (u c) c.loop-i.w b, c.put_plain_byte-p.auto.0),
+    let b : ℕ = get_or (t (goal.at.loop-i-preserved c).In-loop-i) (i (goal.at.loop-i-preserved c).In-loop-i) 0 in (
+      rw e.1 (fill-put (plain_out (u (goal.at.loop-i-preserved c).In-loop-i) c.loop-i.w b) (rw (on (goal.at.loop-i-preserved c).In-loop-i c.loop-i.w) at v.0) e.0 e.2),
+      sym (ascii-on (t (goal.at.loop-i-preserved c).In-loop-i) (i (goal.at.loop-i-preserved c).In-loop-i) c.loop-i-test.true (low (goal.at.loop-i-preserved c).In-loop-i)) ∙ v.1,
+      omega (arith, v.2, e.0, plain-short (u (goal.at.loop-i-preserved c).In-loop-i) c.loop-i.w b, c.put_plain_byte-p.auto.buf),
       omega arith,
     )
 

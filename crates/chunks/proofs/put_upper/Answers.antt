@@ -31,7 +31,7 @@ pub put_char-requires-in-Two : goal.put_char-requires-in-Two
 put_char-requires-in-Two c =
     let a = c.args in
     let e = sym c.to_uppercase.ensures ∙ c.in-Two.is in
-    ((two-below a.code c.requires.0 e).1, omega (arith, ap length (two_out a.code e), length-append (encode c.in-Two.a) (encode c.in-Two.b), c.requires.1, c.put_char-m.ensures.0, c.put_char-m.auto.0))
+    ((two-below a.code c.requires.0 e).1, omega (arith, ap length (two_out a.code e), length-append (encode c.in-Two.a) (encode c.in-Two.b), c.requires.1, c.put_char-m.ensures.0, c.put_char-m.auto.buf))
 
 pub returns-in-One : goal.returns-in-One
 returns-in-One c =

@@ -12,7 +12,7 @@ use Rattle.chunks.proofs.put_whole.Goals as goal
 
 pub slice_bounds-upper_bytes-end-then-upper : goal.slice_bounds-upper_bytes-end-then-upper
 slice_bounds-upper_bytes-end-then-upper c =
-    sym (length-take-le _ _ (omega (arith, c.put_bytes-n.ensures.0, c.put_bytes-n.auto.0, c.requires.t_in_bounds.0)))
+    sym (length-take-le _ _ (omega (arith, c.put_bytes-n.ensures.0, c.put_bytes-n.auto.buf, c.requires.t_in_bounds.0)))
 
 pub upper_bytes-requires : goal.upper_bytes-requires
 upper_bytes-requires c =

@@ -12,14 +12,8 @@ use Rattle.chunks.proofs.Fill.{Filling, fill_start, fill-put, behind}
 use Rattle.chunks.proofs.Lengths.{ascii-on}
 use Rattle.chunks.proofs.Plains.{ascii-codes}
 use Rattle.chunks.proofs.Whole.{upper-step, low-at}
+use Rattle.chunks.proofs.upper_bytes.Invariants.{Raised}
 use Rattle.chunks.proofs.upper_bytes.Goals as goal
-
--- what the buffer comes to with the upper case of the bytes that are left, which still stand there
-record Raised (buf₀ buf : List ℕ) (i : ℕ) : Type 0 where
-  fill : Filling buf₀ 0 (uppercase buf₀) buf i (uppers (drop i buf₀))
-  same : drop i buf ≡ drop i buf₀
-  ascii : all_ascii (drop i buf₀) ≡ true
-  inside : i ≤ length buf₀
 
 start : (b : List ℕ) → all_ascii b ≡ true → Raised b b 0
 unfolding uppercase

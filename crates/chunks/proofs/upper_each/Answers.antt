@@ -13,16 +13,12 @@ use borrow.Author.Rules.{rules}
 use native.Mathlib.Omega.{arith}
 use mathlib.Core.Path.{sym, ap, ◌∙◌, refl, ◌≡◌}
 use Rattle.chars.proofs.Laws.{OfChar, found, decode-same}
+use Rattle.chunks.proofs.upper_each.Invariants.{Raised}
 use Rattle.chunks.proofs.upper_each.Goals as goal
-
--- what the buffer comes to with the upper case of the characters that are left, which still stand there
-record Raised (buf₀ buf : List ℕ) (i : ℕ) : Type 0 where
-  fill : Filling buf₀ 0 (uppercase buf₀) buf i (uppers (codes (drop i buf₀)))
-  same : drop i buf ≡ drop i buf₀
-  inside : i ≤ length buf₀
+use Rattle.chunks.proofs.upper_each.Goals.{In-Char}
 
 -- where a character was found
-module _ (c : goal.In-Char-2) where
+module _ (c : In-Char) where
   abbrev buf₀ : List ℕ
   buf₀ = c.args.buf.now
 
@@ -56,21 +52,21 @@ enum_known-code c = c.in-Char.in-Char-own.keys1
 
 pub put_upper-i-requires : goal.put_upper-i-requires
 put_upper-i-requires c =
-    ((sees c).below, omega (arith, upper_long (code c), (sees c).long, (sees c).inside, (v c).inside, (v c).fill.long))
+    ((sees (goal.at.put_upper-i-requires c).In-Char).below, omega (arith, upper_long (code (goal.at.put_upper-i-requires c).In-Char), (sees (goal.at.put_upper-i-requires c).In-Char).long, (sees (goal.at.put_upper-i-requires c).In-Char).inside, (v (goal.at.put_upper-i-requires c).In-Char).inside, (v (goal.at.put_upper-i-requires c).In-Char).fill.long))
 
 pub loop-code-smaller : goal.loop-code-smaller
 loop-code-smaller c =
-    omega (arith, c.put_upper-i.ensures.0, upper_long (code c), (sees c).long, (sees c).some, (sees c).inside, (v c).inside)
+    omega (arith, c.put_upper-i.ensures.0, upper_long (code (goal.at.loop-code-smaller c).In-Char), (sees (goal.at.loop-code-smaller c).In-Char).long, (sees (goal.at.loop-code-smaller c).In-Char).some, (sees (goal.at.loop-code-smaller c).In-Char).inside, (v (goal.at.loop-code-smaller c).In-Char).inside)
 
 pub loop-code-preserved : goal.loop-code-preserved
 loop-code-preserved c =
     let e = c.put_upper-i.ensures in
-    let n = upper_long (code c) ∙ (sees c).long in
-    let next = e.0 ∙ ap (λ (m : ℕ). i c + m) n in
+    let n = upper_long (code (goal.at.loop-code-preserved c).In-Char) ∙ (sees (goal.at.loop-code-preserved c).In-Char).long in
+    let next = e.0 ∙ ap (λ (m : ℕ). i (goal.at.loop-code-preserved c).In-Char + m) n in
     record {
-      fill = raise-fill (buf₀ c) (buf c) _ (i c) (code c) (len c) _ e.0 e.1 n (v c).fill (is-char c);
-      same = raise-same (buf₀ c) (buf c) _ (i c) (code c) (len c) _ e.0 e.1 n (v c).same (omega (arith, (sees c).inside, (v c).inside, (v c).fill.long));
-      inside = omega (arith, next, (sees c).inside, (v c).inside);
+      fill = raise-fill (buf₀ (goal.at.loop-code-preserved c).In-Char) (buf (goal.at.loop-code-preserved c).In-Char) _ (i (goal.at.loop-code-preserved c).In-Char) (code (goal.at.loop-code-preserved c).In-Char) (len (goal.at.loop-code-preserved c).In-Char) _ e.0 e.1 n (v (goal.at.loop-code-preserved c).In-Char).fill (is-char (goal.at.loop-code-preserved c).In-Char);
+      same = raise-same (buf₀ (goal.at.loop-code-preserved c).In-Char) (buf (goal.at.loop-code-preserved c).In-Char) _ (i (goal.at.loop-code-preserved c).In-Char) (code (goal.at.loop-code-preserved c).In-Char) (len (goal.at.loop-code-preserved c).In-Char) _ e.0 e.1 n (v (goal.at.loop-code-preserved c).In-Char).same (omega (arith, (sees (goal.at.loop-code-preserved c).In-Char).inside, (v (goal.at.loop-code-preserved c).In-Char).inside, (v (goal.at.loop-code-preserved c).In-Char).fill.long));
+      inside = omega (arith, next, (sees (goal.at.loop-code-preserved c).In-Char).inside, (v (goal.at.loop-code-preserved c).In-Char).inside);
     }
 
 pub enum_told-1 : goal.enum_told-1

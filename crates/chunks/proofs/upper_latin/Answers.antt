@@ -10,13 +10,8 @@ use Rattle.chunks.specs.Upper.{uppercase}
 use Rattle.chunks.specs.Latin.{all_latin, none_odd, raised, raised_all}
 use Rattle.chunks.proofs.Fill.{Filling, fill_start, fill-put, behind}
 use Rattle.chunks.proofs.Raises.{latin-upper, raised-step, raised-end}
+use Rattle.chunks.proofs.upper_latin.Invariants.{Raised}
 use Rattle.chunks.proofs.upper_latin.Goals as goal
-
--- what the buffer comes to with the upper case of the bytes that are left, which still stand there
-record Raised (buf₀ buf : List ℕ) (p i : ℕ) : Type 0 where
-  fill : Filling buf₀ 0 (uppercase buf₀) buf i (raised_all p (drop i buf₀))
-  same : drop i buf ≡ drop i buf₀
-  inside : i ≤ length buf₀
 
 start : (b : List ℕ) → all_latin 0 b ≡ true → none_odd 0 b ≡ true → Raised b b 0 0
 start b e o = record { fill = rw (latin-upper b e o) (fill_start b 0 (raised_all 0 b)); same = refl; inside = omega arith }

@@ -12,6 +12,12 @@ use Rattle.chunks.proofs.Fill.{Filling, fill_start, fill-put, behind}
 use Rattle.chunks.proofs.Raises.{latin-upper, raised-step, raised-end}
 use Rattle.chunks.proofs.upper_latin.Given as goal
 
+-- what the buffer comes to with the upper case of the bytes that are left, which still stand there
+pub record Raised (buf₀ buf : List ℕ) (p i : ℕ) : Type 0 where
+  fill : Filling buf₀ 0 (uppercase buf₀) buf i (raised_all p (drop i buf₀))
+  same : drop i buf ≡ drop i buf₀
+  inside : i ≤ length buf₀
+
 abbrev pub invariant-loop-i : goal.invariant-loop-i
 invariant-loop-i l = Raised l.initial.buf l.buf l.p l.i
 

@@ -10,11 +10,8 @@ use lib.ListN.{length, get_or, take}
 use Rattle.chars.proofs.Cases.{and-true}
 use Rattle.codes.specs.Texts.{unspaced}
 use Rattle.codes.proofs.Spaces.{space-behind}
+use Rattle.codes.proofs.are_spaces.Invariants.{before}
 use Rattle.codes.proofs.are_spaces.Goals as goal
-
--- the bytes before a place, without the spaces at their end
-abbrev before : List ℕ → ℕ → List ℕ
-before s i = unspaced (take i s)
 
 -- a space more
 on : (s : List ℕ) (at i : ℕ) (ok : Bool) → at + 16 ≤ length s → i < 16 → (ok ≡ true → before s (at + i) ≡ before s at) → (ok && eqb (get_or s (at + i) 0) 0x20) ≡ true → before s (at + (i + 1)) ≡ before s at

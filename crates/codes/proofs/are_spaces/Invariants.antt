@@ -12,6 +12,10 @@ use Rattle.codes.specs.Texts.{unspaced}
 use Rattle.codes.proofs.Spaces.{space-behind}
 use Rattle.codes.proofs.are_spaces.Given as goal
 
+-- the bytes before a place, without the spaces at their end
+abbrev pub before : List ℕ → ℕ → List ℕ
+before s i = unspaced (take i s)
+
 abbrev pub invariant-loop-i : goal.invariant-loop-i
 invariant-loop-i l = (l.ok ≡ true → before l.s (l.at + l.i) ≡ before l.s l.at) × (l.i ≤ 16)
 

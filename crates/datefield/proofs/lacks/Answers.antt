@@ -10,11 +10,8 @@ use lib.ListN.{length, get_or, drop}
 use Rattle.chars.proofs.Cases.{and-true}
 use Rattle.datefield.specs.Text.{first_of}
 use Rattle.datefield.proofs.Finding.{first_on}
+use Rattle.datefield.proofs.lacks.Invariants.{from}
 use Rattle.datefield.proofs.lacks.Goals as goal
-
--- the place of the first b from a place on
-abbrev from : ℕ → List ℕ → ℕ → ℕ
-from b s i = i + first_of b (drop i s)
 
 is-not : (t : Bool) → not t ≡ true → t ≡ false
 is-not true h = sym h

@@ -12,6 +12,10 @@ use Rattle.datefield.specs.Text.{first_of}
 use Rattle.datefield.proofs.Finding.{first_on}
 use Rattle.datefield.proofs.lacks.Given as goal
 
+-- the place of the first b from a place on
+abbrev pub from : ℕ → List ℕ → ℕ → ℕ
+from b s i = i + first_of b (drop i s)
+
 abbrev pub invariant-loop-i : goal.invariant-loop-i
 invariant-loop-i l = (l.ok ≡ true → from l.b l.s (l.at + l.i) ≡ from l.b l.s l.at) × (l.i ≤ 16)
 

@@ -9,8 +9,7 @@ returns-then-e-length c =
     let y = c.args.year in
     let n = rw (to_z-of_z w32 y c.ranges.year) at c.counted-n.ensures in
     let l = rw (to_z-of_z w32 y c.ranges.year) at c.days_in_month-length.ensures in
-    let g = c.day-1.given in
-    one_day y c.args.month.0 n l g.0.0 g.1 c.if-e-length.true
+    one_day y c.args.month.0 n l c.in-SomeDay.e c.in-SomeDay.is c.if-e-length.true
 
 pub returns-in-NoDay : goal.returns-in-NoDay
 returns-in-NoDay c =
@@ -24,5 +23,4 @@ returns-else-e-length c =
     let y = c.args.year in
     let n = rw (to_z-of_z w32 y c.ranges.year) at c.counted-n.ensures in
     let l = rw (to_z-of_z w32 y c.ranges.year) at c.days_in_month-length.ensures in
-    let g = c.day-1.given in
-    no_day y c.args.month.0 n l g.0.0 g.1 c.if-e-length.false
+    no_day y c.args.month.0 n l c.in-SomeDay.e c.in-SomeDay.is c.if-e-length.false

@@ -8,8 +8,7 @@ pub returns-then-m-lt12 : goal.returns-then-m-lt12
 returns-then-m-lt12 c =
     let y = c.args.year in
     let e = c.args.day in
-    let g = c.month-1.given in
-    some-month y e g.0.0 g.1 c.if-m-lt12.true (rw (to_z-of_z w32 y c.ranges.year) at c.asked_month.ensures)
+    some-month y e c.in-SomeMonth.m c.in-SomeMonth.is c.if-m-lt12.true (rw (to_z-of_z w32 y c.ranges.year) at c.asked_month.ensures)
 
 pub returns-in-NoDay : goal.returns-in-NoDay
 returns-in-NoDay c =
@@ -23,12 +22,10 @@ pub returns-in-SomeDay : goal.returns-in-SomeDay
 returns-in-SomeDay c =
     let y = c.args.year in
     let e = c.args.day in
-    let g = c.enum_told-in-SomeDay-1.given in
-    lone_day y e c.in-NoMonth.is g.0.0 g.1
+    lone_day y e c.in-NoMonth.is c.in-SomeDay.field-0 c.in-SomeDay.is
 
 pub returns-else-m-lt12 : goal.returns-else-m-lt12
 returns-else-m-lt12 c =
     let y = c.args.year in
     let e = c.args.day in
-    let g = c.month-1.given in
-    no_month y e g.0.0 g.1 c.if-m-lt12.false
+    no_month y e c.in-SomeMonth.m c.in-SomeMonth.is c.if-m-lt12.false

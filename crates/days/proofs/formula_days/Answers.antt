@@ -21,5 +21,4 @@ returns-in-NoDate c = c.refused.ensures ∙ not_covered by_formula c.args.d c.as
 
 pub returns-in-Part : goal.returns-in-Part
 returns-in-Part c =
-    let g = c.year-1.given in
-    ap Days c.period_from.ensures ∙ covers c.args.d c.asked.ensures g.1 by_formula c.by_formula-before.ensures.0
+    ap Days c.period_from.ensures ∙ covers c.args.d c.asked.ensures c.in-Part.is by_formula c.by_formula-before.ensures.0

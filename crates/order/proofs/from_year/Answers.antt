@@ -9,9 +9,10 @@ use Rattle.order.specs.Order.{order, in_turn}
 use Rattle.order.proofs.Numbers.{number-less, number-greater, number-equal}
 use borrow.Author.Rules.{rules}
 use Rattle.order.proofs.from_year.Goals as goal
+use Rattle.order.proofs.from_year.Goals.{After-struct_told-2-1}
 
 -- the two tests of the source, of the years themselves
-module _ (c : goal.After-struct_told-2-1) where
+module _ (c : After-struct_told-2-1) where
   abbrev x : ℤ
   x = c.args.a.year
 
@@ -26,13 +27,13 @@ module _ (c : goal.After-struct_told-2-1) where
 
 pub returns-then-x-y : goal.returns-then-x-y
 unfolding order in_turn
-returns-then-x-y c = simp (number-less (x c) (y c) (up c c.if-x-y.true))
+returns-then-x-y c = simp (number-less (x (goal.at.returns-then-x-y c).After-struct_told-2-1) (y (goal.at.returns-then-x-y c).After-struct_told-2-1) (up (goal.at.returns-then-x-y c).After-struct_told-2-1 c.if-x-y.true))
 
 pub returns-then-y-x : goal.returns-then-y-x
 unfolding order in_turn
-returns-then-y-x c = simp (number-greater (x c) (y c) (down c c.if-y-x.true))
+returns-then-y-x c = simp (number-greater (x (goal.at.returns-then-y-x c).After-struct_told-2-1) (y (goal.at.returns-then-y-x c).After-struct_told-2-1) (down (goal.at.returns-then-y-x c).After-struct_told-2-1 c.if-y-x.true))
 
 pub returns : goal.returns
 unfolding order in_turn
 returns c =
-    simp (number-equal (x c) (y c) (up c c.if-x-y.false) (down c c.if-y-x.false), ← c.from_month.ensures)
+    simp (number-equal (x (goal.at.returns c).After-struct_told-2-1) (y (goal.at.returns c).After-struct_told-2-1) (up (goal.at.returns c).After-struct_told-2-1 c.if-x-y.false) (down (goal.at.returns c).After-struct_told-2-1 c.if-y-x.false), ← c.from_month.ensures)

@@ -6,9 +6,10 @@ use Rattle.chars.specs.Pick.{pick}
 use Rattle.order.specs.Order.{time_order, number_order}
 use borrow.Author.Rules.{rules}
 use Rattle.order.proofs.partial_cmp_time.Goals as goal
+use Rattle.order.proofs.partial_cmp_time.Goals.{After-cmp}
 
 -- the seconds are compared themselves
-by-seconds : (c : goal.After-cmp) → c.cmp.result ≡ number_order (utc_seconds c.args.a) (utc_seconds c.args.b)
+by-seconds : (c : After-cmp) → c.cmp.result ≡ number_order (utc_seconds c.args.a) (utc_seconds c.args.b)
 by-seconds c =
     let a = c.to_utc_seconds in
     let b = c.to_utc_seconds-then-alike in
@@ -16,7 +17,7 @@ by-seconds c =
 
 pub returns-then-alike : goal.returns-then-alike
 unfolding time_order pick
-returns-then-alike c = simp (← c.alike.ensures, c.if-alike.true, ← by-seconds c)
+returns-then-alike c = simp (← c.alike.ensures, c.if-alike.true, ← by-seconds (goal.at.returns-then-alike c).After-cmp)
 
 pub returns : goal.returns
 unfolding time_order pick

@@ -7,14 +7,9 @@ use Prim.Native.Nat.{ℕ, ◌+◌, ◌-◌, ◌%◌, ◌≤◌, ◌<◌}
 use native.Mathlib.Omega.{arith}
 use mathlib.Core.Path.{◌≡◌}
 use Rattle.pages.proofs.size.Goals as goal
+use Rattle.pages.proofs.size.Goals.{In-loop-k}
 
--- what was added up and what is left
-record Summed (table : List ℕ) (sum k : ℕ) : Type 0 where
-  same : sum + lengths (chunks_of (drop k table)) ≡ lengths (chunks_of table)
-  fours : (length table - k) % 4 ≡ 0
-  inside : k ≤ length table
-
-module _ (c : goal.In-loop-k) where
+module _ (c : In-loop-k) where
   abbrev table : List ℕ
   table = c.args.table.now
 
@@ -28,29 +23,29 @@ pub loop-k-init : goal.loop-k-init
 loop-k-init c = record { same = zero-add (lengths (chunks_of c.args.table.now)); fours = omega (arith, c.requires.0); inside = omega arith }
 
 pub overflow_add-len : goal.overflow_add-len
-overflow_add-len c = omega (arith, whole c)
+overflow_add-len c = omega (arith, whole (goal.at.overflow_add-len c).In-loop-k)
 
 pub offset_bounds-table-k : goal.offset_bounds-table-k
-offset_bounds-table-k c = omega (arith, whole c)
+offset_bounds-table-k c = omega (arith, whole (goal.at.offset_bounds-table-k c).In-loop-k)
 
 pub bounds-table-k : goal.bounds-table-k
-bounds-table-k c = omega (arith, whole c)
+bounds-table-k c = omega (arith, whole (goal.at.bounds-table-k c).In-loop-k)
 
 pub overflow_add-sum : goal.overflow_add-sum
-overflow_add-sum c = omega (arith, lengths-at (table c) (k c) (whole c), c.loop-k.invariant.same, c.requires.1)
+overflow_add-sum c = omega (arith, lengths-at (table (goal.at.overflow_add-sum c).In-loop-k) (k (goal.at.overflow_add-sum c).In-loop-k) (whole (goal.at.overflow_add-sum c).In-loop-k), c.loop-k.invariant.same, c.requires.1)
 
 pub overflow_add-k : goal.overflow_add-k
-overflow_add-k c = omega (arith, whole c)
+overflow_add-k c = omega (arith, whole (goal.at.overflow_add-k c).In-loop-k)
 
 pub loop-k-smaller : goal.loop-k-smaller
-loop-k-smaller c = omega (arith, whole c)
+loop-k-smaller c = omega (arith, whole (goal.at.loop-k-smaller c).In-loop-k)
 
 pub loop-k-preserved : goal.loop-k-preserved
 loop-k-preserved c =
     record {
-      same = omega (arith, lengths-at (table c) (k c) (whole c), c.loop-k.invariant.same);
-      fours = omega (arith, whole c, c.loop-k.invariant.fours);
-      inside = omega (arith, whole c);
+      same = omega (arith, lengths-at (table (goal.at.loop-k-preserved c).In-loop-k) (k (goal.at.loop-k-preserved c).In-loop-k) (whole (goal.at.loop-k-preserved c).In-loop-k), c.loop-k.invariant.same);
+      fours = omega (arith, whole (goal.at.loop-k-preserved c).In-loop-k, c.loop-k.invariant.fours);
+      inside = omega (arith, whole (goal.at.loop-k-preserved c).In-loop-k);
     }
 
 pub returns : goal.returns

@@ -5,16 +5,12 @@ use lib.ListN.{length, drop}
 use Prim.Native.Nat.{◌+◌, ◌-◌, ◌<◌, ℕ, ◌%◌, ◌≤◌}
 use native.Mathlib.Omega.{arith}
 use mathlib.Core.Path.{sym, ◌∙◌, refl, ◌≡◌}
+use Rattle.reader.proofs.lengths_join.Invariants.{Counted}
 use Rattle.reader.proofs.lengths_join.Goals as goal
-
--- what is left of the bytes is the sum of the lengths that are left, if that is so from the start
-record Counted (table : List ℕ) (bytes left k : ℕ) : Type 0 where
-  same : joins_in left (chunks_of (drop k table)) ≡ joins_in bytes (chunks_of table)
-  fours : (length table - k) % 4 ≡ 0
-  inside : k ≤ length table
+use Rattle.reader.proofs.lengths_join.Goals.{In-loop-k}
 
 -- in a turn: the four numbers of the chunk are there
-module _ (c : goal.In-loop-k) where
+module _ (c : In-loop-k) where
   abbrev table : List ℕ
   table = c.args.table.now
 
@@ -34,32 +30,32 @@ pub loop-k-init : goal.loop-k-init
 loop-k-init c = record { same = refl; fours = omega arith; inside = omega arith }
 
 pub returns-then-kind-gt1 : goal.returns-then-kind-gt1
-returns-then-kind-gt1 c = sym (kind-math (table c) (k c) (left c) (whole c) c.if-kind-gt1.true) ∙ (v c).same
+returns-then-kind-gt1 c = sym (kind-math (table (goal.at.returns-then-kind-gt1 c).In-loop-k) (k (goal.at.returns-then-kind-gt1 c).In-loop-k) (left (goal.at.returns-then-kind-gt1 c).In-loop-k) (whole (goal.at.returns-then-kind-gt1 c).In-loop-k) c.if-kind-gt1.true) ∙ (v (goal.at.returns-then-kind-gt1 c).In-loop-k).same
 
 pub overflow_add-len : goal.overflow_add-len
-overflow_add-len c = omega (arith, whole c)
+overflow_add-len c = omega (arith, whole (goal.at.overflow_add-len c).In-loop-k)
 
 pub offset_bounds-table-k-in-loop-k : goal.offset_bounds-table-k-in-loop-k
-offset_bounds-table-k-in-loop-k c = omega (arith, whole c)
+offset_bounds-table-k-in-loop-k c = omega (arith, whole (goal.at.offset_bounds-table-k-in-loop-k c).In-loop-k)
 
 pub bounds-table-k-in-loop-k : goal.bounds-table-k-in-loop-k
-bounds-table-k-in-loop-k c = omega (arith, whole c)
+bounds-table-k-in-loop-k c = omega (arith, whole (goal.at.bounds-table-k-in-loop-k c).In-loop-k)
 
 pub returns-then-left-len : goal.returns-then-left-len
-returns-then-left-len c = sym (length_over (table c) (k c) (left c) (whole c) c.if-left-len.true) ∙ (v c).same
+returns-then-left-len c = sym (length_over (table (goal.at.returns-then-left-len c).In-loop-k) (k (goal.at.returns-then-left-len c).In-loop-k) (left (goal.at.returns-then-left-len c).In-loop-k) (whole (goal.at.returns-then-left-len c).In-loop-k) c.if-left-len.true) ∙ (v (goal.at.returns-then-left-len c).In-loop-k).same
 
 pub overflow_add-k : goal.overflow_add-k
-overflow_add-k c = omega (arith, whole c)
+overflow_add-k c = omega (arith, whole (goal.at.overflow_add-k c).In-loop-k)
 
 pub loop-k-smaller : goal.loop-k-smaller
-loop-k-smaller c = omega (arith, whole c)
+loop-k-smaller c = omega (arith, whole (goal.at.loop-k-smaller c).In-loop-k)
 
 pub loop-k-preserved : goal.loop-k-preserved
 loop-k-preserved c =
     record {
-      same = sym (length-on (table c) (k c) (left c) (whole c) c.if-kind-gt1.false c.if-left-len.false) ∙ (v c).same;
-      fours = omega (arith, whole c, (v c).fours);
-      inside = omega (arith, whole c);
+      same = sym (length-on (table (goal.at.loop-k-preserved c).In-loop-k) (k (goal.at.loop-k-preserved c).In-loop-k) (left (goal.at.loop-k-preserved c).In-loop-k) (whole (goal.at.loop-k-preserved c).In-loop-k) c.if-kind-gt1.false c.if-left-len.false) ∙ (v (goal.at.loop-k-preserved c).In-loop-k).same;
+      fours = omega (arith, whole (goal.at.loop-k-preserved c).In-loop-k, (v (goal.at.loop-k-preserved c).In-loop-k).fours);
+      inside = omega (arith, whole (goal.at.loop-k-preserved c).In-loop-k);
     }
 
 pub returns : goal.returns

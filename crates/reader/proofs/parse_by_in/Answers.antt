@@ -9,9 +9,10 @@ use lib.Seq.{length-take-le}
 use mathlib.Core.Path.{sym, ◌∙◌}
 use borrow.Author.Rules.{rules}
 use Rattle.reader.proofs.parse_by_in.Goals as goal
+use Rattle.reader.proofs.parse_by_in.Goals.{In-Text}
 
 -- the list is clean, and the buffer's front is its text
-module _ (c : goal.In-Text) where
+module _ (c : In-Text) where
   abbrev list : List ℕ
   list = c.args.bytes.now
 
@@ -33,17 +34,17 @@ pub enum_known-n : goal.enum_known-n
 enum_known-n c = c.in-Text.in-Text-own.keys1
 
 pub slice_bounds-match_by-end : goal.slice_bounds-match_by-end
-slice_bounds-match_by-end c = omega (arith, (told c).within)
+slice_bounds-match_by-end c = omega (arith, (told (goal.at.slice_bounds-match_by-end c).In-Text).within)
 
 pub slice_bounds-match_by-end-in-Text : goal.slice_bounds-match_by-end-in-Text
-slice_bounds-match_by-end-in-Text c = sym (length-take-le _ (filled c) (omega (arith, (told c).within)))
+slice_bounds-match_by-end-in-Text c = sym (length-take-le _ (filled (goal.at.slice_bounds-match_by-end-in-Text c).In-Text) (omega (arith, (told (goal.at.slice_bounds-match_by-end-in-Text c).In-Text).within)))
 
 pub enum_known-e : goal.enum_known-e
 enum_known-e c = c.in-Refused.in-Refused-own.keys2
 
 pub returns-in-Text : goal.returns-in-Text
 returns-in-Text c =
-    c.match_by.ensures ∙ exact-clean (list c) (numbers c) c.args.level (told c).clean (told c).front
+    c.match_by.ensures ∙ exact-clean (list (goal.at.returns-in-Text c).In-Text) (numbers (goal.at.returns-in-Text c).In-Text) c.args.level (told (goal.at.returns-in-Text c).In-Text).clean (told (goal.at.returns-in-Text c).In-Text).front
 
 pub returns-in-Refused : goal.returns-in-Refused
 returns-in-Refused c =

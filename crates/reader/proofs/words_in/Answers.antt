@@ -14,9 +14,10 @@ use Rattle.reading_laws.specs.Field.{parsed}
 use Rattle.reader.proofs.Said.{carried}
 use borrow.Author.Rules.{rules}
 use Rattle.reader.proofs.words_in.Goals as goal
+use Rattle.reader.proofs.words_in.Goals.{In-Text}
 
 -- the list is clean, and the buffer's front is its text
-module _ (c : goal.In-Text) where
+module _ (c : In-Text) where
   abbrev list : List ℕ
   list = c.args.bytes.now
 
@@ -38,18 +39,18 @@ pub enum_known-n : goal.enum_known-n
 enum_known-n c = c.in-Text.in-Text-own.keys1
 
 pub slice_bounds-text_words-end : goal.slice_bounds-text_words-end
-slice_bounds-text_words-end c = omega (arith, (told c).within)
+slice_bounds-text_words-end c = omega (arith, (told (goal.at.slice_bounds-text_words-end c).In-Text).within)
 
 pub slice_bounds-text_words-end-in-Text : goal.slice_bounds-text_words-end-in-Text
-slice_bounds-text_words-end-in-Text c = sym (length-take-le _ (filled c) (omega (arith, (told c).within)))
+slice_bounds-text_words-end-in-Text c = sym (length-take-le _ (filled (goal.at.slice_bounds-text_words-end-in-Text c).In-Text) (omega (arith, (told (goal.at.slice_bounds-text_words-end-in-Text c).In-Text).within)))
 
 pub enum_known-e : goal.enum_known-e
 enum_known-e c = c.in-Refused.in-Refused-own.keys2
 
 pub returns-in-Text : goal.returns-in-Text
 returns-in-Text c =
-    let t = take c.in-Text.n (filled c) in
-    let both = carried (parse_text c.span.result t) (parsed (list c) (numbers c)) (ap (λ (z : FileSpan). parse_text z t) c.span.ensures ∙ parsed-clean (list c) (numbers c) (told c).clean (told c).front) (c.text_words.ensures.value, c.text_words.ensures.typed) in record { value = both.0; typed = both.1 }
+    let t = take c.in-Text.n (filled (goal.at.returns-in-Text c).In-Text) in
+    let both = carried (parse_text c.span.result t) (parsed (list (goal.at.returns-in-Text c).In-Text) (numbers (goal.at.returns-in-Text c).In-Text)) (ap (λ (z : FileSpan). parse_text z t) c.span.ensures ∙ parsed-clean (list (goal.at.returns-in-Text c).In-Text) (numbers (goal.at.returns-in-Text c).In-Text) (told (goal.at.returns-in-Text c).In-Text).clean (told (goal.at.returns-in-Text c).In-Text).front) (c.text_words.ensures.value, c.text_words.ensures.typed) in record { value = both.0; typed = both.1 }
 
 pub returns-in-Refused : goal.returns-in-Refused
 returns-in-Refused c =

@@ -8,9 +8,10 @@ use Rattle.chunks.proofs.Buffers.{is-text, is-fault}
 use Rattle.sixfields.proofs.Judged.{is-blank, is-filled, is-faulty}
 use borrow.Author.Rules.{rules}
 use Rattle.sixfields.proofs.end_year_in.Goals as goal
+use Rattle.sixfields.proofs.end_year_in.Goals.{In-Text}
 
 -- the list is clean, and the buffer's front is its text
-module _ (c : goal.In-Text) where
+module _ (c : In-Text) where
   abbrev list : List ℕ
   list = c.args.bytes.now
 
@@ -26,18 +27,18 @@ module _ (c : goal.In-Text) where
       is-text false list numbers room e.0 e.1 c.in-Text.is
 
 pub slice_bounds-is_blank-end : goal.slice_bounds-is_blank-end
-slice_bounds-is_blank-end c = (told c).within
+slice_bounds-is_blank-end c = (told (goal.at.slice_bounds-is_blank-end c).In-Text).within
 
 pub slice_bounds-is_blank-end-in-Text : goal.slice_bounds-is_blank-end-in-Text
-slice_bounds-is_blank-end-in-Text c = sym (length-take-le _ _ (told c).within)
+slice_bounds-is_blank-end-in-Text c = sym (length-take-le _ _ (told (goal.at.slice_bounds-is_blank-end-in-Text c).In-Text).within)
 
 pub returns-then-is_blank : goal.returns-then-is_blank
 returns-then-is_blank c =
-    is-blank (list c) (numbers c) (told c).clean (told c).front c.is_blank.ensures c.if-is_blank.true
+    is-blank (list (goal.at.returns-then-is_blank c).In-Text) (numbers (goal.at.returns-then-is_blank c).In-Text) (told (goal.at.returns-then-is_blank c).In-Text).clean (told (goal.at.returns-then-is_blank c).In-Text).front c.is_blank.ensures c.if-is_blank.true
 
 pub returns-else-is_blank : goal.returns-else-is_blank
 returns-else-is_blank c =
-    is-filled (list c) (numbers c) (told c).clean (told c).front c.is_blank.ensures c.if-is_blank.false
+    is-filled (list (goal.at.returns-else-is_blank c).In-Text) (numbers (goal.at.returns-else-is_blank c).In-Text) (told (goal.at.returns-else-is_blank c).In-Text).clean (told (goal.at.returns-else-is_blank c).In-Text).front c.is_blank.ensures c.if-is_blank.false
 
 pub returns-in-Refused : goal.returns-in-Refused
 returns-in-Refused c =
