@@ -47,6 +47,7 @@ number-mirror a b = go (number_order a b) (cases a b)
     go Less (less h) = number-greater b a h
     go Equal (equal e) = rw e (number_same b)
     go Greater (greater h) = number-less b a h
+    go None x = elim x [ ]
 
 pub below : (a b : ℤ) → number_order a b ≡ Less → lt_z a b ≡ true
 below a b e = go (number_order a b) (cases a b) e
@@ -55,6 +56,7 @@ below a b e = go (number_order a b) (cases a b) e
     go Less (less h) e = h
     go Equal (equal h) e = not-less refl e
     go Greater (greater h) e = not-less refl e
+    go None x e = elim x [ ]
 
 pub same : (a b : ℤ) → number_order a b ≡ Equal → a ≡ b
 same a b e = go (number_order a b) (cases a b) e
@@ -63,6 +65,7 @@ same a b e = go (number_order a b) (cases a b) e
     go Less (less h) e = not_equal refl e
     go Equal (equal h) e = h
     go Greater (greater h) e = not_equal refl e
+    go None x e = elim x [ ]
 
 pub numbers : Lawful number_order
 numbers =

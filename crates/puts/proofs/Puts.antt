@@ -91,7 +91,7 @@ lent b m p k r h q =
     record {
       behind = let e = q.behind in omega arith;
       bytes =
-          rw (drop_of_length-le (drop k m) {i = length m - k} (rw length-drop (omega arith)), append-nil, q.bytes, part m k, sets-eq b (drop k m) 0 (rw length-drop (omega arith)), sets-eq b m k h, drop-drop, zero-add, append_assoc);
+          rw (drop_of_length-le (drop k m) {i = length m - k} (rw length-drop (omega arith)), append-nil, q.bytes, part m k, sets-eq b (drop k m) 0 (rw length-drop (omega arith)), sets-eq b m k h, drop-drop, zero-add) (sym (append_assoc (take k m) b (drop (k + length b) m)));
     }
 
 -- a text at the front of a buffer, and what was behind it

@@ -10,11 +10,8 @@ use lib.ListN.{get_or}
 use Rattle.chars.proofs.Cases.{and-true}
 use Rattle.scanner.proofs.Laws.{not_white}
 use Rattle.numbers.proofs.Trims.{over-ascii}
+use Rattle.numbers.proofs.is_stride.Invariants.{Looked}
 use Rattle.numbers.proofs.is_stride.Goals as goal
-
--- the last byte prints, and those looked at are ASCII
-abbrev Looked : List ℕ → ℕ → ℕ → Type 0
-Looked s at i = (0x20 < get_or s (at + 15) 0) × ((j : ℕ) → j < i → get_or s (at + j) 0 < 0x80)
 
 on : (s : List ℕ) (at i : ℕ) (ok : Bool) → (ok ≡ true → Looked s at i) → (ok && ltb (get_or s (at + i) 0) 0x80) ≡ true → Looked s at (i + 1)
 on s at i ok f e =

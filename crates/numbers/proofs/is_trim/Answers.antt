@@ -10,11 +10,8 @@ use lib.ListN.{length, get_or}
 use Rattle.chars.proofs.Cases.{and-true}
 use Rattle.scanner.proofs.Laws.{not_white}
 use Rattle.numbers.proofs.Trims.{ascii-trim}
+use Rattle.numbers.proofs.is_trim.Invariants.{Looked}
 use Rattle.numbers.proofs.is_trim.Goals as goal
-
--- the last byte prints, and those looked at are ASCII
-abbrev Looked : List ℕ → ℕ → Type 0
-Looked s i = (0x20 < get_or s (length s - 1) 0) × ((j : ℕ) → j < i → get_or s j 0 < 0x80)
 
 on : (s : List ℕ) (i : ℕ) (ok : Bool) → (ok ≡ true → Looked s i) → (ok && ltb (get_or s i 0) 0x80) ≡ true → Looked s (i + 1)
 on s i ok f e =

@@ -12,6 +12,10 @@ use Rattle.scanner.proofs.Laws.{not_white}
 use Rattle.numbers.proofs.Trims.{ascii-trim}
 use Rattle.numbers.proofs.is_trim.Given as goal
 
+-- the last byte prints, and those looked at are ASCII
+abbrev pub Looked : List ℕ → ℕ → Type 0
+Looked s i = (0x20 < get_or s (length s - 1) 0) × ((j : ℕ) → j < i → get_or s j 0 < 0x80)
+
 abbrev pub invariant-loop-i : goal.invariant-loop-i
 invariant-loop-i l = (l.ok ≡ true → Looked l.s l.i) × (l.i ≤ length l.s)
 

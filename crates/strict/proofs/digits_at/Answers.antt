@@ -8,12 +8,13 @@ use Rattle.strict.proofs.Digits.{digit, Digit}
 use Rattle.strict.proofs.Runs.{Taken, none_yet, one_more, all-taken, ten-taken, ten-digits}
 use borrow.Author.Rules.{rules}
 use Rattle.strict.proofs.digits_at.Goals as goal
+use Rattle.strict.proofs.digits_at.Goals.{Then-is_digit}
 
 -- a digit that goes on
-here : (c : goal.Then-is_digit) → Digit c.byte_at-c.result
+here : (c : Then-is_digit) → Digit c.byte_at-c.result
 here c = digit _ (sym c.is_digit.ensures ∙ c.if-is_digit.true)
 
-small : (c : goal.Then-is_digit) → c.loop-n.v < 10000000000
+small : (c : Then-is_digit) → c.loop-n.v < 10000000000
 small c = let t = c.loop-n.invariant in ten-digits _ _ t.small t.few
 
 pub loop-n-init : goal.loop-n-init
@@ -23,13 +24,13 @@ pub overflow_add-at : goal.overflow_add-at
 overflow_add-at c = omega (arith, c.loop-n.invariant.few)
 
 pub overflow_mul-v : goal.overflow_mul-v
-overflow_mul-v c = omega (arith, small c)
+overflow_mul-v c = omega (arith, small (goal.at.overflow_mul-v c).Then-is_digit)
 
 pub overflow_sub-v : goal.overflow_sub-v
-overflow_sub-v c = omega (arith, here c)
+overflow_sub-v c = omega (arith, here (goal.at.overflow_sub-v c).Then-is_digit)
 
 pub overflow_add-v : goal.overflow_add-v
-overflow_add-v c = omega (arith, small c, here c)
+overflow_add-v c = omega (arith, small (goal.at.overflow_add-v c).Then-is_digit, here (goal.at.overflow_add-v c).Then-is_digit)
 
 pub loop-n-preserved : goal.loop-n-preserved
 loop-n-preserved c =

@@ -9,9 +9,10 @@ use Rattle.strict.specs.Matcher.{text_of, of_points, on_unknown}
 use borrow.Author.Tests.{eq-eqb, ne_eqb}
 use borrow.Author.Rules.{rules}
 use Rattle.strict.proofs.text_of.Goals as goal
+use Rattle.strict.proofs.text_of.Goals.{Then-byte_at-eq47}
 
 -- the slash stands within the text
-within_text : (c : goal.Then-byte_at-eq47) → 2 < length c.args.s.now
+within_text : (c : Then-byte_at-eq47) → 2 < length c.args.s.now
 within_text c = inside c.args.s.now 2 (sym c.byte_at.ensures ∙ c.if-byte_at-eq47.true) (lit< tt)
 
 pub enum_known-value : goal.enum_known-value
@@ -21,10 +22,10 @@ pub enum_told-1 : goal.enum_told-1
 enum_told-1 c = c.in-NoUnknown.in-NoUnknown-own.keys2
 
 pub slice_bounds-behind_open-count : goal.slice_bounds-behind_open-count
-slice_bounds-behind_open-count c = let h = within_text c in omega arith
+slice_bounds-behind_open-count c = let h = within_text (goal.at.slice_bounds-behind_open-count c).Then-byte_at-eq47 in omega arith
 
 pub slice_bounds-behind_open-start : goal.slice_bounds-behind_open-start
-slice_bounds-behind_open-start c = omega (arith, within_text c)
+slice_bounds-behind_open-start c = omega (arith, within_text (goal.at.slice_bounds-behind_open-start c).Then-byte_at-eq47)
 
 pub returns-then-byte_at-eq47 : goal.returns-then-byte_at-eq47
 unfolding text_of of_points on_unknown pick
