@@ -22,7 +22,7 @@ put_hex-requires c =
 pub returns-then-level : goal.returns-then-level
 returns-then-level c =
     let a = c.args in
-    hex-as (season-end a.d c.if-level.true c.datetime_bytes.ensures c.season_number.ensures) (hex-both _ _ c.put_hex.ensures c.put_hex.ensures)
+    hex-as (season-end a.d c.if-level.true c.datetime_bytes.ensures c.season_number.ensures) (hex-both _ _ c.put_hex-k.ensures c.put_hex.ensures)
 
 pub returns : goal.returns
 returns c =

@@ -9,4 +9,4 @@ put_quad-requires c =
     omega (arith, c.requires, p.0, p.1)
 
 pub returns : goal.returns
-returns c = hex-both _ _ c.put_quad.ensures c.put_quad.ensures
+returns c = hex-both _ _ c.put_quad-k.ensures c.put_quad.ensures

@@ -11,4 +11,4 @@ put_byte-requires c =
 
 pub returns : goal.returns
 returns c =
-    hex-as (parts_are c.args.w c.part_byte-month.ensures c.part_byte-day.ensures) (hex-both _ _ c.put_byte.ensures c.put_byte.ensures)
+    hex-as (parts_are c.args.w c.part_byte-month.ensures c.part_byte-day.ensures) (hex-both _ _ c.put_byte-k.ensures c.put_byte.ensures)

@@ -15,4 +15,4 @@ put_byte-requires c =
     omega (arith, c.requires, p.0, p.1, q.0, q.1)
 
 pub returns : goal.returns
-returns c = hex-both _ _ c.put_byte.ensures (hex-both _ _ c.put_byte-j.ensures c.put_byte.ensures)
+returns c = hex-both _ _ c.put_byte-i.ensures (hex-both _ _ c.put_byte-j.ensures c.put_byte.ensures)

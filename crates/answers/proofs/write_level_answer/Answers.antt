@@ -10,12 +10,10 @@ use Rattle.answers.proofs.write_level_answer.Goals as goal
 pub returns-in-Accepted : goal.returns-in-Accepted
 returns-in-Accepted c =
     let e = sym c.in-Accepted.is in
-    let q = (c.write_level_date.ensures.value, c.write_level_date.ensures.out_after) in
-    record { value = q.0 ∙ ap (λ (x : ReadDate). answer false (level_line x) (length c.args.out.now)) e; out_after = q.1 ∙ ap (λ (x : ReadDate). afterwards false (level_line x) c.args.out.now) e }
+    record { value = c.write_level_date.ensures.value ∙ ap (λ (x : ReadDate). answer false (level_line x) (length c.args.out.now)) e; out_after = c.write_level_date.ensures.out_after ∙ ap (λ (x : ReadDate). afterwards false (level_line x) c.args.out.now) e }
 
 pub returns-in-Refused : goal.returns-in-Refused
 unfolding level_line
 returns-in-Refused c =
     let e = sym c.in-Refused.is in
-    let q = (c.write_refused.ensures.value, c.write_refused.ensures.out_after) in
-    record { value = q.0 ∙ ap (λ (x : ReadDate). answer false (level_line x) (length c.args.out.now)) e; out_after = q.1 ∙ ap (λ (x : ReadDate). afterwards false (level_line x) c.args.out.now) e }
+    record { value = c.write_refused.ensures.value ∙ ap (λ (x : ReadDate). answer false (level_line x) (length c.args.out.now)) e; out_after = c.write_refused.ensures.out_after ∙ ap (λ (x : ReadDate). afterwards false (level_line x) c.args.out.now) e }

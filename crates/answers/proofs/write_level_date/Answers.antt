@@ -20,11 +20,9 @@ slice_bounds-write_accepted-end c =
 pub returns-in-Done : goal.returns-in-Done
 returns-in-Done c =
     let l = (level-line c.args.d c.write_level.ensures.d_len_bound _ refl c.write_level.ensures.value c.write_level.ensures.out_after c.in-Done.is).1 in
-    let q = (c.write_accepted.ensures.value, c.write_accepted.ensures.out_after) in
-    record { value = q.0 ∙ ap (λ (t : List ℕ). answer false t (length c.args.out.now)) l; out_after = q.1 ∙ ap (λ (t : List ℕ). afterwards false t c.args.out.now) l }
+    record { value = c.write_accepted.ensures.value ∙ ap (λ (t : List ℕ). answer false t (length c.args.out.now)) l; out_after = c.write_accepted.ensures.out_after ∙ ap (λ (t : List ℕ). afterwards false t c.args.out.now) l }
 
 pub returns-in-Refused : goal.returns-in-Refused
 returns-in-Refused c =
     let l = no-level-line c.args.d c.write_level.ensures.d_len_bound _ refl c.write_level.ensures.value c.write_level.ensures.out_after c.in-Refused.is in
-    let q = (c.write_refused.ensures.value, c.write_refused.ensures.out_after) in
-    record { value = q.0 ∙ ap (λ (t : List ℕ). answer false t (length c.args.out.now)) l; out_after = q.1 ∙ ap (λ (t : List ℕ). afterwards false t c.args.out.now) l }
+    record { value = c.write_refused.ensures.value ∙ ap (λ (t : List ℕ). answer false t (length c.args.out.now)) l; out_after = c.write_refused.ensures.out_after ∙ ap (λ (t : List ℕ). afterwards false t c.args.out.now) l }

@@ -20,15 +20,15 @@ use Rattle.chunks.proofs.check_characters.Given as goal
 
 -- in a chunk: no fault so far, and the first one from here is the first one from the chunk's start
 pub record InCharacters (at : ℕ) (t : List ℕ) (found : Checked) (i : ℕ) : Type 0 where
-  none : found ≡ Clean
-  same : fault_in (at + i) (characters (drop i t)) ≡ fault_in at (characters t)
-  inside : i ≤ length t
+  pub none : found ≡ Clean
+  pub same : fault_in (at + i) (characters (drop i t)) ≡ fault_in at (characters t)
+  pub inside : i ≤ length t
 
 -- between the chunks: no fault so far, and the first one from here is the list's
 pub record InChunks (bytes table : List ℕ) (at k : ℕ) (found : Checked) : Type 0 where
-  none : found ≡ Clean
-  same : fault_of at (drop at bytes) (chunks_of (drop k table)) ≡ fault_of 0 bytes (chunks_of table)
-  stands : Standing bytes table at k
+  pub none : found ≡ Clean
+  pub same : fault_of at (drop at bytes) (chunks_of (drop k table)) ≡ fault_of 0 bytes (chunks_of table)
+  pub stands : Standing bytes table at k
 
 abbrev pub invariant-characters : goal.invariant-characters
 invariant-characters l = InCharacters l.at l.t l.found l.i

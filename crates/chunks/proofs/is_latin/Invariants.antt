@@ -14,8 +14,8 @@ use Rattle.chunks.proofs.is_latin.Given as goal
 
 -- between the chunks: the first fault from here is the list's
 pub record InChunks (bytes table : List ℕ) (at k : ℕ) : Type 0 where
-  same : fault_of at (drop at bytes) (chunks_of (drop k table)) ≡ fault_of 0 bytes (chunks_of table)
-  stands : Standing bytes table at k
+  pub same : fault_of at (drop at bytes) (chunks_of (drop k table)) ≡ fault_of 0 bytes (chunks_of table)
+  pub stands : Standing bytes table at k
 
 abbrev pub invariant-loop-k : goal.invariant-loop-k
 invariant-loop-k l = InChunks l.bytes l.table l.at l.k

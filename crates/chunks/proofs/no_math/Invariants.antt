@@ -10,9 +10,9 @@ use Rattle.chunks.proofs.no_math.Given as goal
 
 -- what the kinds so far and those that are left say is what all of them say
 pub record Counted (table : List ℕ) (ok : Bool) (k : ℕ) : Type 0 where
-  same : (ok && no_math (chunks_of (drop k table))) ≡ no_math (chunks_of table)
-  fours : (length table - k) % 4 ≡ 0
-  inside : k ≤ length table
+  pub same : (ok && no_math (chunks_of (drop k table))) ≡ no_math (chunks_of table)
+  pub fours : (length table - k) % 4 ≡ 0
+  pub inside : k ≤ length table
 
 abbrev pub invariant-loop-k : goal.invariant-loop-k
 invariant-loop-k l = Counted l.table l.ok l.k

@@ -45,7 +45,7 @@ module _ (c : In-loop-k) where
 
 pub loop-k-init : goal.loop-k-init
 unfolding formatted room_of
-loop-k-init c = let q = (c.requires.table_value, (c.requires.table_in_bounds, c.requires.table_value_2)) in record { fill = fill_start _ _ _; stands = standing-start _ _ q.0; clean = q.1.1; room = omega (arith, q.1.0) }
+loop-k-init c = record { fill = fill_start _ _ _; stands = standing-start _ _ c.requires.table_value; clean = c.requires.table_value_2; room = omega (arith, c.requires.table_in_bounds) }
 
 pub offset_bounds-table-k-in-loop-k : goal.offset_bounds-table-k-in-loop-k
 offset_bounds-table-k-in-loop-k c = omega (arith, whole (st (goal.at.offset_bounds-table-k-in-loop-k c).In-loop-k) c.loop-k-test.true)

@@ -19,10 +19,10 @@ use Rattle.chunks.proofs.put_list.Given as goal
 
 -- what the buffer comes to with the chunks that are left, where the loop stands, and the room for them
 pub record Listed (bytes table buf₀ buf : List ℕ) (at k n : ℕ) (w : Bool) : Type 0 where
-  fill : Filling buf₀ 0 (formatted bytes table) buf n (chunks_out w (drop at bytes) (chunks_of (drop k table)))
-  stands : Standing bytes table at k
-  clean : fault_of at (drop at bytes) (chunks_of (drop k table)) ≡ Clean
-  room : n + (length bytes - at) + 2 * length (chunks_of (drop k table)) ≤ length buf
+  pub fill : Filling buf₀ 0 (formatted bytes table) buf n (chunks_out w (drop at bytes) (chunks_of (drop k table)))
+  pub stands : Standing bytes table at k
+  pub clean : fault_of at (drop at bytes) (chunks_of (drop k table)) ≡ Clean
+  pub room : n + (length bytes - at) + 2 * length (chunks_of (drop k table)) ≤ length buf
 
 abbrev pub invariant-loop-k : goal.invariant-loop-k
 invariant-loop-k l = Listed l.bytes l.table l.initial.buf l.buf l.at l.k l.n l.w

@@ -17,9 +17,9 @@ use Rattle.chunks.proofs.upper_each.Given as goal
 
 -- what the buffer comes to with the upper case of the characters that are left, which still stand there
 pub record Raised (buf₀ buf : List ℕ) (i : ℕ) : Type 0 where
-  fill : Filling buf₀ 0 (uppercase buf₀) buf i (uppers (codes (drop i buf₀)))
-  same : drop i buf ≡ drop i buf₀
-  inside : i ≤ length buf₀
+  pub fill : Filling buf₀ 0 (uppercase buf₀) buf i (uppers (codes (drop i buf₀)))
+  pub same : drop i buf ≡ drop i buf₀
+  pub inside : i ≤ length buf₀
 
 abbrev pub invariant-loop-code : goal.invariant-loop-code
 invariant-loop-code l = Raised l.initial.buf l.buf l.i

@@ -14,9 +14,9 @@ use Rattle.chunks.proofs.upper_latin.Given as goal
 
 -- what the buffer comes to with the upper case of the bytes that are left, which still stand there
 pub record Raised (buf₀ buf : List ℕ) (p i : ℕ) : Type 0 where
-  fill : Filling buf₀ 0 (uppercase buf₀) buf i (raised_all p (drop i buf₀))
-  same : drop i buf ≡ drop i buf₀
-  inside : i ≤ length buf₀
+  pub fill : Filling buf₀ 0 (uppercase buf₀) buf i (raised_all p (drop i buf₀))
+  pub same : drop i buf ≡ drop i buf₀
+  pub inside : i ≤ length buf₀
 
 abbrev pub invariant-loop-i : goal.invariant-loop-i
 invariant-loop-i l = Raised l.initial.buf l.buf l.p l.i

@@ -25,6 +25,5 @@ pub returns : goal.returns
 unfolding halves pick
 returns c =
     let a = c.args in
-    let e = (c.both.ensures.value, (c.both.ensures.value_2, c.both.ensures.value_3)) in
-    let l = two-sides (point_of a.a.now) (point_of a.b.now) (plain-point a.a.now) (plain-point a.b.now) a.marks c.point-2.ensures c.point-3.ensures e.0 e.1.0 e.1.1 in
+    let l = two-sides (point_of a.a.now) (point_of a.b.now) (plain-point a.a.now) (plain-point a.b.now) a.marks c.point-2.ensures c.point-3.ensures c.both.ensures.value c.both.ensures.value_2 c.both.ensures.value_3 in
     simp (← c.is_dots.ensures, c.if-is_dots.false, ← c.is_dots-2.ensures, c.if-is_dots-2.false, ← l)

@@ -12,8 +12,7 @@ one_words-requires c =
 
 pub returns-in-At : goal.returns-in-At
 returns-in-At c =
-    let e = (c.one_words.ensures.value, c.one_words.ensures.datetime_typed) in
-    let both = accepted-words c.in-Accepted.d c.in-Accepted.is c.in-At.is c.marks_word-marks.ensures (e.0 ∙ ap (words 0 0 _ _ 0 0) (omega arith)) e.1 in record { value = both.0; typed = both.1 }
+    let both = accepted-words c.in-Accepted.d c.in-Accepted.is c.in-At.is c.marks_word-marks.ensures (c.one_words.ensures.value ∙ ap (words 0 0 _ _ 0 0) (omega arith)) c.one_words.ensures.datetime_typed in record { value = both.0; typed = both.1 }
 
 pub one_words-requires-in-After : goal.one_words-requires-in-After
 one_words-requires-in-After c =
@@ -22,8 +21,7 @@ one_words-requires-in-After c =
 
 pub returns-in-After : goal.returns-in-After
 returns-in-After c =
-    let e = (c.one_words-in-After.ensures.value, c.one_words-in-After.ensures.datetime_typed) in
-    let both = accepted-words c.in-Accepted.d c.in-Accepted.is c.in-After.is c.marks_word-marks.ensures e.0 e.1 in record { value = both.0; typed = both.1 }
+    let both = accepted-words c.in-Accepted.d c.in-Accepted.is c.in-After.is c.marks_word-marks.ensures c.one_words-in-After.ensures.value c.one_words-in-After.ensures.datetime_typed in record { value = both.0; typed = both.1 }
 
 pub one_words-requires-in-Before : goal.one_words-requires-in-Before
 one_words-requires-in-Before c =
@@ -32,8 +30,7 @@ one_words-requires-in-Before c =
 
 pub returns-in-Before : goal.returns-in-Before
 returns-in-Before c =
-    let e = (c.one_words-in-Before.ensures.value, c.one_words-in-Before.ensures.datetime_typed) in
-    let both = accepted-words c.in-Accepted.d c.in-Accepted.is c.in-Before.is c.marks_word-marks.ensures e.0 e.1 in record { value = both.0; typed = both.1 }
+    let both = accepted-words c.in-Accepted.d c.in-Accepted.is c.in-Before.is c.marks_word-marks.ensures c.one_words-in-Before.ensures.value c.one_words-in-Before.ensures.datetime_typed in record { value = both.0; typed = both.1 }
 
 pub two_words-requires : goal.two_words-requires
 two_words-requires c =
@@ -42,8 +39,7 @@ two_words-requires c =
 
 pub returns-in-Between : goal.returns-in-Between
 returns-in-Between c =
-    let e = (c.two_words.ensures.value, c.two_words.ensures.datetime_typed) in
-    let both = accepted-words c.in-Accepted.d c.in-Accepted.is c.in-Between.is c.marks_word-marks.ensures e.0 e.1 in record { value = both.0; typed = both.1 }
+    let both = accepted-words c.in-Accepted.d c.in-Accepted.is c.in-Between.is c.marks_word-marks.ensures c.two_words.ensures.value c.two_words.ensures.datetime_typed in record { value = both.0; typed = both.1 }
 
 pub returns-in-Refused : goal.returns-in-Refused
 returns-in-Refused c =

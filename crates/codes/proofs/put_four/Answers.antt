@@ -5,4 +5,4 @@ use Rattle.codes.proofs.put_four.Goals as goal
 
 pub returns : goal.returns
 returns c =
-    as-text (four-split c.args.n c.requires.0) (both c.put_two.ensures c.put_two.ensures)
+    as-text (four-split c.args.n c.requires.0) (both c.put_two-k.ensures c.put_two.ensures)

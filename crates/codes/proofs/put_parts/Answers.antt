@@ -24,4 +24,4 @@ put_part-requires c =
 
 pub returns : goal.returns
 returns c =
-    as-text (month-day c.args.w c.if-w-eq0.false c.if-w-eq0-2.false) (both c.put_part.ensures c.put_part.ensures)
+    as-text (month-day c.args.w c.if-w-eq0.false c.if-w-eq0-2.false) (both c.put_part-k.ensures c.put_part.ensures)

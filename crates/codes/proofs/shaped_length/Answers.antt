@@ -12,4 +12,4 @@ returns-then-shape-lt3 c =
 
 pub returns : goal.returns
 returns c =
-    closed-length c.args.shape c.args.a c.args.b c.point_length.ensures c.point_length.ensures c.if-shape-eq0.false c.if-shape-lt3.false
+    closed-length c.args.shape c.args.a c.args.b c.point_length-n.ensures c.point_length.ensures c.if-shape-eq0.false c.if-shape-lt3.false

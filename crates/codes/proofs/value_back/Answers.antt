@@ -22,4 +22,4 @@ returns-then-shape-eq2 c =
 pub returns : goal.returns
 unfolding value_in pick
 returns c =
-    simp (← c.datetime_back.ensures, ne_eqb _ _ c.if-shape-eq0.false, ne_eqb _ _ c.if-shape-eq1.false, ne_eqb _ _ c.if-shape-eq2.false, ← c.datetime_back.ensures)
+    simp (← c.datetime_back-first.ensures, ne_eqb _ _ c.if-shape-eq0.false, ne_eqb _ _ c.if-shape-eq1.false, ne_eqb _ _ c.if-shape-eq2.false, ← c.datetime_back.ensures)

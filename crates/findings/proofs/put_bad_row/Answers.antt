@@ -7,4 +7,4 @@ use Rattle.findings.proofs.put_bad_row.Goals as goal
 pub returns : goal.returns
 unfolding bad_row_line finding escaped
 returns c =
-    both c.put_number-i.ensures (both c.put_piece.ensures (both c.put_row_fault-k.ensures c.put_piece.ensures))
+    both c.put_number-i.ensures (both c.put_piece-j.ensures (both c.put_row_fault-k.ensures c.put_piece.ensures))

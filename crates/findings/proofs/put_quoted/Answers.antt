@@ -6,4 +6,4 @@ use Rattle.findings.proofs.put_quoted.Goals as goal
 pub returns : goal.returns
 unfolding quoted
 returns c =
-    both c.put_piece.ensures (both c.put_escaped-k.ensures c.put_piece.ensures)
+    both c.put_piece-j.ensures (both c.put_escaped-k.ensures c.put_piece.ensures)

@@ -11,7 +11,7 @@ returns-in-Broken c =
 pub returns-in-Cells : goal.returns-in-Cells
 unfolding row_words
 returns-in-Cells c =
-    ran-as (both c.put_placed.ensures c.put_placed.ensures) (simp c.in-Cells.is)
+    ran-as (both c.put_placed-k.ensures c.put_placed.ensures) (simp c.in-Cells.is)
 
 pub returns-in-BadUtf8 : goal.returns-in-BadUtf8
 unfolding row_words

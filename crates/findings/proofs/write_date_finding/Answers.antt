@@ -5,7 +5,7 @@ use Rattle.findings.proofs.write_date_finding.Goals as goal
 
 pub returns-in-Done : goal.returns-in-Done
 returns-in-Done c =
-    let both = stored c.put_date_line.ensures c.args.out.now (omega (arith, c.well_formed)) c.decide.ensures c.in-Done.is c.put_date_line.ensures in record { value = both.0; out_after = both.1 }
+    let both = stored c.put_date_line-n.ensures c.args.out.now (omega (arith, c.well_formed)) c.decide.ensures c.in-Done.is c.put_date_line.ensures in record { value = both.0; out_after = both.1 }
 
 pub returns-in-Refused : goal.returns-in-Refused
 returns-in-Refused c =

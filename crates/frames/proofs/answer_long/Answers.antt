@@ -11,5 +11,4 @@ use Rattle.frames.proofs.answer_long.Goals as goal
 pub returns : goal.returns
 returns c =
     let e = bad-line c.bad_frame.ensures.value in
-    let q = (c.write_refused_words.ensures.value, c.write_refused_words.ensures.out_after) in
-    record { value = q.0 ∙ ap (λ (l : List ℕ). answer false l (length c.args.out.now)) e; out_after = q.1 ∙ ap (λ (l : List ℕ). afterwards false l c.args.out.now) e }
+    record { value = c.write_refused_words.ensures.value ∙ ap (λ (l : List ℕ). answer false l (length c.args.out.now)) e; out_after = c.write_refused_words.ensures.out_after ∙ ap (λ (l : List ℕ). afterwards false l c.args.out.now) e }

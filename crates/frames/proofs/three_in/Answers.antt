@@ -12,26 +12,20 @@ unpack_list-y-requires c =
 
 pub unpack_optional-m-requires : goal.unpack_optional-m-requires
 unpack_optional-m-requires c =
-    let y = (c.unpack_list-y.ensures.put, (c.unpack_list-y.ensures.put_2, c.unpack_list-y.ensures.text_bound)) in
     let l = c.list_end-month_at.ensures.0 in
-    month-asks c.requires.0 c.requires.1 l c.optional_end-day_at.ensures.0 y.0 y.1.0 (omega (arith, l, y.1.1.0)) (omega (arith, l, y.1.1.1))
+    month-asks c.requires.0 c.requires.1 l c.optional_end-day_at.ensures.0 c.unpack_list-y.ensures.put c.unpack_list-y.ensures.put_2 (omega (arith, l, c.unpack_list-y.ensures.text_bound.0)) (omega (arith, l, c.unpack_list-y.ensures.text_bound.1))
 
 pub unpack_optional-d-requires : goal.unpack_optional-d-requires
 unpack_optional-d-requires c =
-    let y = (c.unpack_list-y.ensures.put, (c.unpack_list-y.ensures.put_2, c.unpack_list-y.ensures.text_bound)) in
-    let m = (c.unpack_optional-m.ensures.put, (c.unpack_optional-m.ensures.put_2, c.unpack_optional-m.ensures.text_bound)) in
     let l = c.list_end-month_at.ensures.0 in
     let o = c.optional_end-day_at.ensures.0 in
-    day-asks c.requires.0 c.requires.1 l o y.0 y.1.0 (omega (arith, l, y.1.1.0)) (omega (arith, l, y.1.1.1)) m.0 m.1.0 (omega (arith, o, m.1.1.0)) (omega (arith, o, m.1.1.1))
+    day-asks c.requires.0 c.requires.1 l o c.unpack_list-y.ensures.put c.unpack_list-y.ensures.put_2 (omega (arith, l, c.unpack_list-y.ensures.text_bound.0)) (omega (arith, l, c.unpack_list-y.ensures.text_bound.1)) c.unpack_optional-m.ensures.put c.unpack_optional-m.ensures.put_2 (omega (arith, o, c.unpack_optional-m.ensures.text_bound.0)) (omega (arith, o, c.unpack_optional-m.ensures.text_bound.1))
 
 pub read_lists-requires : goal.read_lists-requires
 read_lists-requires c =
-    let y = (c.unpack_list-y.ensures.put, (c.unpack_list-y.ensures.put_2, c.unpack_list-y.ensures.text_bound)) in
-    let m = (c.unpack_optional-m.ensures.put, (c.unpack_optional-m.ensures.put_2, c.unpack_optional-m.ensures.text_bound)) in
-    let d = (c.unpack_optional-d.ensures.put, (c.unpack_optional-d.ensures.put_2, c.unpack_optional-d.ensures.text_bound)) in
     let l = c.list_end-month_at.ensures.0 in
     let o = c.optional_end-day_at.ensures.0 in
-    let both = lists-ask c.requires.0 c.requires.1 l o y.0 y.1.0 (omega (arith, l, y.1.1.0)) (omega (arith, l, y.1.1.1)) m.0 m.1.0 (omega (arith, o, m.1.1.0)) (omega (arith, o, m.1.1.1)) d.0 d.1.0 d.1.1.0 d.1.1.1 in record { text_le_text = both.0; table_le_table = both.1 }
+    let both = lists-ask c.requires.0 c.requires.1 l o c.unpack_list-y.ensures.put c.unpack_list-y.ensures.put_2 (omega (arith, l, c.unpack_list-y.ensures.text_bound.0)) (omega (arith, l, c.unpack_list-y.ensures.text_bound.1)) c.unpack_optional-m.ensures.put c.unpack_optional-m.ensures.put_2 (omega (arith, o, c.unpack_optional-m.ensures.text_bound.0)) (omega (arith, o, c.unpack_optional-m.ensures.text_bound.1)) c.unpack_optional-d.ensures.put c.unpack_optional-d.ensures.put_2 c.unpack_optional-d.ensures.text_bound.0 c.unpack_optional-d.ensures.text_bound.1 in record { text_le_text = both.0; table_le_table = both.1 }
 
 pub shape_of-text : goal.shape_of-text
 shape_of-text c = kept c.unpack_optional-d.ensures.put ∙ kept c.unpack_optional-m.ensures.put ∙ kept c.unpack_list-y.ensures.put
@@ -41,9 +35,6 @@ shape_of-table c = kept c.unpack_optional-d.ensures.put_2 ∙ kept c.unpack_opti
 
 pub returns : goal.returns
 returns c =
-    let y = (c.unpack_list-y.ensures.put, (c.unpack_list-y.ensures.put_2, c.unpack_list-y.ensures.text_bound)) in
-    let m = (c.unpack_optional-m.ensures.put, (c.unpack_optional-m.ensures.put_2, c.unpack_optional-m.ensures.text_bound)) in
-    let d = (c.unpack_optional-d.ensures.put, (c.unpack_optional-d.ensures.put_2, c.unpack_optional-d.ensures.text_bound)) in
     let l = c.list_end-month_at.ensures.0 in
     let o = c.optional_end-day_at.ensures.0 in
-    let both = carried (lists-are c.requires.0 c.requires.1 l o y.0 y.1.0 (omega (arith, l, y.1.1.0)) (omega (arith, l, y.1.1.1)) m.0 m.1.0 (omega (arith, o, m.1.1.0)) (omega (arith, o, m.1.1.1)) d.0 d.1.0 d.1.1.0 d.1.1.1 c.has_list-has_month.ensures c.has_list-has_day.ensures) (c.read_lists.ensures.value, c.read_lists.ensures.typed) in record { value = both.0; typed = both.1 }
+    let both = carried (lists-are c.requires.0 c.requires.1 l o c.unpack_list-y.ensures.put c.unpack_list-y.ensures.put_2 (omega (arith, l, c.unpack_list-y.ensures.text_bound.0)) (omega (arith, l, c.unpack_list-y.ensures.text_bound.1)) c.unpack_optional-m.ensures.put c.unpack_optional-m.ensures.put_2 (omega (arith, o, c.unpack_optional-m.ensures.text_bound.0)) (omega (arith, o, c.unpack_optional-m.ensures.text_bound.1)) c.unpack_optional-d.ensures.put c.unpack_optional-d.ensures.put_2 c.unpack_optional-d.ensures.text_bound.0 c.unpack_optional-d.ensures.text_bound.1 c.has_list-has_month.ensures c.has_list-has_day.ensures) (c.read_lists.ensures.value, c.read_lists.ensures.typed) in record { value = both.0; typed = both.1 }

@@ -7,6 +7,5 @@ use Rattle.knobstream.proofs.knobstream_parse_level_one.Goals as goal
 
 pub returns : goal.returns
 returns c =
-    let w = (c.level_words.ensures.value, c.level_words.ensures.typed) in
     let a = c.args in
-    read-answered (parsed_level_one a.bytes.now a.table.now) w.1 (c.put.ensures ∙ ap listed w.0)
+    read-answered (parsed_level_one a.bytes.now a.table.now) c.level_words.ensures.typed (c.put.ensures ∙ ap listed c.level_words.ensures.value)

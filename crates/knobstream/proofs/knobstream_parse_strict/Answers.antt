@@ -7,6 +7,5 @@ use Rattle.knobstream.proofs.knobstream_parse_strict.Goals as goal
 
 pub returns : goal.returns
 returns c =
-    let w = (c.parse_strict_words.ensures.value, c.parse_strict_words.ensures.typed) in
     let a = c.args in
-    read-answered (parsed_strict a.bytes.now a.table.now) w.1 (c.put.ensures ∙ ap listed w.0)
+    read-answered (parsed_strict a.bytes.now a.table.now) c.parse_strict_words.ensures.typed (c.put.ensures ∙ ap listed c.parse_strict_words.ensures.value)

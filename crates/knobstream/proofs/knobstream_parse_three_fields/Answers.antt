@@ -10,7 +10,6 @@ pub returns : goal.returns
 returns c =
     let m = c.is_set in
     let d = c.is_set-2 in
-    let w = (c.three_words-words.ensures.value, c.three_words-words.ensures.typed) in
     let a = c.args in
     let t = three (lent a.year.now a.year-table.now) (optional m.result a.month.now a.month-table.now) (optional d.result a.day.now a.day-table.now) in
-    simp (← m.ensures, ← d.ensures) (read-answered (three_fields t) w.1 (c.put.ensures ∙ ap listed w.0))
+    simp (← m.ensures, ← d.ensures) (read-answered (three_fields t) c.three_words-words.ensures.typed (c.put.ensures ∙ ap listed c.three_words-words.ensures.value))

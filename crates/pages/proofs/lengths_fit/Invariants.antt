@@ -10,9 +10,9 @@ use Rattle.pages.proofs.lengths_fit.Given as goal
 
 -- what is left of the bytes is the sum of the lengths that are left, if that is so from the start
 pub record Counted (table : List ℕ) (bytes left k : ℕ) : Type 0 where
-  same : eqb (lengths (chunks_of (drop k table))) left ≡ eqb (lengths (chunks_of table)) bytes
-  fours : (length table - k) % 4 ≡ 0
-  inside : k ≤ length table
+  pub same : eqb (lengths (chunks_of (drop k table))) left ≡ eqb (lengths (chunks_of table)) bytes
+  pub fours : (length table - k) % 4 ≡ 0
+  pub inside : k ≤ length table
 
 abbrev pub invariant-loop-k : goal.invariant-loop-k
 invariant-loop-k l = Counted l.table l.bytes l.left l.k

@@ -10,9 +10,9 @@ use Rattle.pages.proofs.size.Given as goal
 
 -- what was added up and what is left
 pub record Summed (table : List ℕ) (sum k : ℕ) : Type 0 where
-  same : sum + lengths (chunks_of (drop k table)) ≡ lengths (chunks_of table)
-  fours : (length table - k) % 4 ≡ 0
-  inside : k ≤ length table
+  pub same : sum + lengths (chunks_of (drop k table)) ≡ lengths (chunks_of table)
+  pub fours : (length table - k) % 4 ≡ 0
+  pub inside : k ≤ length table
 
 abbrev pub invariant-loop-k : goal.invariant-loop-k
 invariant-loop-k l = Summed l.table l.sum l.k

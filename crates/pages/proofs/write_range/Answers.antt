@@ -14,25 +14,19 @@ overflow_add-first-2 c = omega (arith, c.width-first.ensures.upper_bound (omega 
 
 pub returns-then-out-first : goal.returns-then-out-first
 returns-then-out-first c =
-    let e = (c.width-first.ensures.value, c.width-first.ensures.upper_bound) in
-    let f = (c.width-second.ensures.value, c.width-second.ensures.upper_bound) in
     let t = written_range c.args.start c.args.end in
     let g = length-range c.args.start c.args.end in
-    let q = no_room t c.args.out.now (omega (arith, e.0, f.0, g, c.if-out-first.true)) in
-    record { value = ap Refused c.nowhere.ensures ∙ q.0; out_after = q.1; end_len_bound = omega (arith, e.0, e.1 (omega arith), f.0, f.1 (omega arith), g) }
+    let q = no_room t c.args.out.now (omega (arith, c.width-first.ensures.value, c.width-second.ensures.value, g, c.if-out-first.true)) in
+    record { value = ap Refused c.nowhere.ensures ∙ q.0; out_after = q.1; end_len_bound = omega (arith, c.width-first.ensures.value, c.width-first.ensures.upper_bound (omega arith), c.width-second.ensures.value, c.width-second.ensures.upper_bound (omega arith), g) }
 
 pub put_text-requires : goal.put_text-requires
 put_text-requires c =
-    let e = (c.width-first.ensures.value, c.width-first.ensures.upper_bound) in
-    let f = (c.width-second.ensures.value, c.width-second.ensures.upper_bound) in
     let g = length-range c.args.start c.args.end in
-    (e.0, f.0, omega (arith, e.0, f.0, g, c.if-out-first.false))
+    (c.width-first.ensures.value, c.width-second.ensures.value, omega (arith, c.width-first.ensures.value, c.width-second.ensures.value, g, c.if-out-first.false))
 
 pub returns : goal.returns
 returns c =
-    let e = (c.width-first.ensures.value, c.width-first.ensures.upper_bound) in
-    let f = (c.width-second.ensures.value, c.width-second.ensures.upper_bound) in
     let t = written_range c.args.start c.args.end in
     let g = length-range c.args.start c.args.end in
-    let q = done t c.args.out.now (omega (arith, e.0, f.0, g, c.if-out-first.false)) c.put_text.ensures in
-    record { value = q.0; out_after = q.1; end_len_bound = omega (arith, e.0, e.1 (omega arith), f.0, f.1 (omega arith), g) }
+    let q = done t c.args.out.now (omega (arith, c.width-first.ensures.value, c.width-second.ensures.value, g, c.if-out-first.false)) c.put_text.ensures in
+    record { value = q.0; out_after = q.1; end_len_bound = omega (arith, c.width-first.ensures.value, c.width-first.ensures.upper_bound (omega arith), c.width-second.ensures.value, c.width-second.ensures.upper_bound (omega arith), g) }

@@ -9,9 +9,9 @@ use Rattle.reader.proofs.lengths_join.Given as goal
 
 -- what is left of the bytes is the sum of the lengths that are left, if that is so from the start
 pub record Counted (table : List ℕ) (bytes left k : ℕ) : Type 0 where
-  same : joins_in left (chunks_of (drop k table)) ≡ joins_in bytes (chunks_of table)
-  fours : (length table - k) % 4 ≡ 0
-  inside : k ≤ length table
+  pub same : joins_in left (chunks_of (drop k table)) ≡ joins_in bytes (chunks_of table)
+  pub fours : (length table - k) % 4 ≡ 0
+  pub inside : k ≤ length table
 
 abbrev pub invariant-loop-k : goal.invariant-loop-k
 invariant-loop-k l = Counted l.table l.bytes l.left l.k

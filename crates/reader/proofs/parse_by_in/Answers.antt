@@ -27,8 +27,7 @@ module _ (c : In-Text) where
 
   told : Given false list numbers room c.in-Text.n filled
   told =
-      let e = (c.format_verbatim.ensures.value, c.format_verbatim.ensures.buf_after) in
-      is-text false list numbers room e.0 e.1 c.in-Text.is
+      is-text false list numbers room c.format_verbatim.ensures.value c.format_verbatim.ensures.buf_after c.in-Text.is
 
 pub enum_known-n : goal.enum_known-n
 enum_known-n c = c.in-Text.in-Text-own.keys1
@@ -49,5 +48,4 @@ returns-in-Text c =
 pub returns-in-Refused : goal.returns-in-Refused
 returns-in-Refused c =
     let a = c.args in
-    let e = (c.format_verbatim.ensures.value, c.format_verbatim.ensures.buf_after) in
-    exact-faulty a.bytes.now a.table.now a.level (is-fault false a.bytes.now a.table.now a.buf.now e.0 e.1 c.in-Refused.is c.requires)
+    exact-faulty a.bytes.now a.table.now a.level (is-fault false a.bytes.now a.table.now a.buf.now c.format_verbatim.ensures.value c.format_verbatim.ensures.buf_after c.in-Refused.is c.requires)

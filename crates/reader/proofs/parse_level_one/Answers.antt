@@ -5,4 +5,4 @@ use borrow.Author.Rules.{rules}
 use Rattle.reader.proofs.parse_level_one.Goals as goal
 
 pub returns : goal.returns
-returns c = let w = (c.level_words.ensures.value, c.level_words.ensures.typed) in c.unpack.ensures ∙ ap read_in w.0 ∙ read_back _ w.1
+returns c = c.unpack.ensures ∙ ap read_in c.level_words.ensures.value ∙ read_back _ c.level_words.ensures.typed

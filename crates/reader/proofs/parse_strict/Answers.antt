@@ -5,4 +5,4 @@ use borrow.Author.Rules.{rules}
 use Rattle.reader.proofs.parse_strict.Goals as goal
 
 pub returns : goal.returns
-returns c = let w = (c.parse_strict_words.ensures.value, c.parse_strict_words.ensures.typed) in c.unpack.ensures ∙ ap read_in w.0 ∙ read_back _ w.1
+returns c = c.unpack.ensures ∙ ap read_in c.parse_strict_words.ensures.value ∙ read_back _ c.parse_strict_words.ensures.typed

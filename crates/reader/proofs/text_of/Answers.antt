@@ -9,13 +9,11 @@ use Rattle.reader.proofs.text_of.Goals as goal
 pub returns-in-Text : goal.returns-in-Text
 returns-in-Text c =
     let a = c.args in
-    let e = (c.format_verbatim.ensures.value, c.format_verbatim.ensures.buf_after) in
-    let t = is-text false a.bytes.now a.table.now a.buf.now e.0 e.1 c.in-Text.is in
+    let t = is-text false a.bytes.now a.table.now a.buf.now c.format_verbatim.ensures.value c.format_verbatim.ensures.buf_after c.in-Text.is in
     record { upper_bound = t.within; buf_after = as_is a.bytes.now a.table.now t.front }
 
 pub returns-in-Refused : goal.returns-in-Refused
 returns-in-Refused c =
     let a = c.args in
-    let e = (c.format_verbatim.ensures.value, c.format_verbatim.ensures.buf_after) in
-    let f = is-fault false a.bytes.now a.table.now a.buf.now e.0 e.1 c.in-Refused.is c.requires.roomy in
+    let f = is-fault false a.bytes.now a.table.now a.buf.now c.format_verbatim.ensures.value c.format_verbatim.ensures.buf_after c.in-Refused.is c.requires.roomy in
     absurd (faulty-not (sym f ∙ c.requires.clean))

@@ -32,8 +32,7 @@ module _ (c : In-Text) where
 
   told : Given true list numbers room c.in-Text.n filled
   told =
-      let e = (c.format_uppercase.ensures.value, c.format_uppercase.ensures.buf_after) in
-      is-text true list numbers room e.0 e.1 c.in-Text.is
+      is-text true list numbers room c.format_uppercase.ensures.value c.format_uppercase.ensures.buf_after c.in-Text.is
 
 pub enum_known-n : goal.enum_known-n
 enum_known-n c = c.in-Text.in-Text-own.keys1
@@ -55,7 +54,6 @@ returns-in-Text c =
 pub returns-in-Refused : goal.returns-in-Refused
 returns-in-Refused c =
     let a = c.args in
-    let e = (c.format_uppercase.ensures.value, c.format_uppercase.ensures.buf_after) in
     let both = carried _ (parsed a.bytes.now a.table.now)
-    (parsed-faulty a.bytes.now a.table.now (is-fault true a.bytes.now a.table.now a.buf.now e.0 e.1 c.in-Refused.is c.requires))
+    (parsed-faulty a.bytes.now a.table.now (is-fault true a.bytes.now a.table.now a.buf.now c.format_uppercase.ensures.value c.format_uppercase.ensures.buf_after c.in-Refused.is c.requires))
     (c.pack.ensures.value, c.pack.ensures.typed) in record { value = both.0; typed = both.1 }

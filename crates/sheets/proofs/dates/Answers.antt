@@ -24,7 +24,7 @@ shape_of-out c =
     c.date_own.ensures.text.same
     ∙ c.date_own-d3.ensures.text.same
     ∙ c.date_own-d2.ensures.text.same
-    ∙ c.date_own.ensures.text.same
+    ∙ c.date_own-d1.ensures.text.same
 
 pub returns : goal.returns
 unfolding dates_said dates_counted
@@ -34,6 +34,6 @@ returns c =
     let k = a.key.now in
     told-both
     (told-both
-    (told-both (own-told l k Date c.cell_of.ensures c.date_own.ensures) (own-told l k Origdate c.cell_of-2.ensures c.date_own-d2.ensures))
+    (told-both (own-told l k Date c.cell_of.ensures c.date_own-d1.ensures) (own-told l k Origdate c.cell_of-2.ensures c.date_own-d2.ensures))
     (own-told l k Eventdate c.cell_of-3.ensures c.date_own-d3.ensures))
     (own-told l k Urldate c.cell_of-4.ensures c.date_own.ensures)

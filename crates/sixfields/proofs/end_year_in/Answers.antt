@@ -23,8 +23,7 @@ module _ (c : In-Text) where
 
   told : Given false list numbers room c.in-Text.n c.format_verbatim.new.buf
   told =
-      let e = (c.format_verbatim.ensures.value, c.format_verbatim.ensures.buf_after) in
-      is-text false list numbers room e.0 e.1 c.in-Text.is
+      is-text false list numbers room c.format_verbatim.ensures.value c.format_verbatim.ensures.buf_after c.in-Text.is
 
 pub slice_bounds-is_blank-end : goal.slice_bounds-is_blank-end
 slice_bounds-is_blank-end c = (told (goal.at.slice_bounds-is_blank-end c).In-Text).within
@@ -43,5 +42,4 @@ returns-else-is_blank c =
 pub returns-in-Refused : goal.returns-in-Refused
 returns-in-Refused c =
     let a = c.args in
-    let e = (c.format_verbatim.ensures.value, c.format_verbatim.ensures.buf_after) in
-    is-faulty a.bytes.now a.table.now (is-fault false a.bytes.now a.table.now a.buf.now e.0 e.1 c.in-Refused.is c.requires)
+    is-faulty a.bytes.now a.table.now (is-fault false a.bytes.now a.table.now a.buf.now c.format_verbatim.ensures.value c.format_verbatim.ensures.buf_after c.in-Refused.is c.requires)

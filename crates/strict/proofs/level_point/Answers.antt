@@ -7,12 +7,12 @@ use Rattle.strict.proofs.level_point.Goals as goal
 pub returns-then-byte_at-eq45 : goal.returns-then-byte_at-eq45
 unfolding level_point pick
 returns-then-byte_at-eq45 c =
-    simp (← c.byte_at.ensures, eq-eqb _ _ c.if-c-eq89.true, ← c.byte_at.ensures, eq-eqb _ _ c.if-byte_at-eq45.true, ← c.long_at.ensures)
+    simp (← c.byte_at-c.ensures, eq-eqb _ _ c.if-c-eq89.true, ← c.byte_at.ensures, eq-eqb _ _ c.if-byte_at-eq45.true, ← c.long_at.ensures)
 
 pub returns-then-c-eq89 : goal.returns-then-c-eq89
 unfolding level_point pick
 returns-then-c-eq89 c =
-    simp (← c.byte_at.ensures, eq-eqb _ _ c.if-c-eq89.true, ← c.byte_at.ensures, ne_eqb _ _ c.if-byte_at-eq45.false, ← c.long_at-then-c-eq89.ensures)
+    simp (← c.byte_at-c.ensures, eq-eqb _ _ c.if-c-eq89.true, ← c.byte_at.ensures, ne_eqb _ _ c.if-byte_at-eq45.false, ← c.long_at-then-c-eq89.ensures)
 
 pub returns-then-c-eq45 : goal.returns-then-c-eq45
 unfolding level_point pick

@@ -8,16 +8,14 @@ use Rattle.strict.proofs.long_at.Goals as goal
 
 pub signed_long-requires : goal.signed_long-requires
 signed_long-requires c =
-    let d = (c.digits_at-d.ensures.count_value, (c.digits_at-d.ensures.number_value, c.digits_at-d.ensures.count_bound)) in
-    nine-digits _ _ d.1.1.1 c.if-d-le9.true
+    nine-digits _ _ c.digits_at-d.ensures.count_bound.1 c.if-d-le9.true
 
 pub returns-then-byte_at-ne48 : goal.returns-then-byte_at-ne48
 returns-then-byte_at-ne48 c =
     let a = c.args in
-    let d = (c.digits_at-d.ensures.count_value, (c.digits_at-d.ensures.number_value, c.digits_at-d.ensures.count_bound)) in
     let l = c.signed_long in
     let n = rw (to_z-of_z w32 l.result (record { sfits = l.type_inv })) at c.new.ensures in
-    simp (n, l.ensures) (long-is a.s.now a.at a.negative d.0 d.1.0 c.if-d-ge5.true c.if-d-le9.true (λ z. c.if-byte_at-ne48.true (c.byte_at.ensures ∙ z)))
+    simp (n, l.ensures) (long-is a.s.now a.at a.negative c.digits_at-d.ensures.count_value c.digits_at-d.ensures.number_value c.if-d-ge5.true c.if-d-le9.true (λ z. c.if-byte_at-ne48.true (c.byte_at.ensures ∙ z)))
 
 pub returns-else-byte_at-ne48 : goal.returns-else-byte_at-ne48
 returns-else-byte_at-ne48 c =

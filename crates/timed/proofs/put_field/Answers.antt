@@ -24,4 +24,4 @@ put_byte-requires c =
 pub returns : goal.returns
 unfolding field
 returns c =
-    both (both c.put_byte.ensures c.put_byte-j.ensures) c.put_byte.ensures
+    both (both c.put_byte-i.ensures c.put_byte-j.ensures) c.put_byte.ensures

@@ -32,4 +32,4 @@ returns-in-Utc c =
 
 pub returns-in-Offset : goal.returns-in-Offset
 returns-in-Offset c =
-    as-text (shift-text c.in-Offset.positive c.in-Offset.hours c.in-Offset.minutes c.in-Offset.is c.sign.ensures) (both c.put_field.ensures c.put_field.ensures)
+    as-text (shift-text c.in-Offset.positive c.in-Offset.hours c.in-Offset.minutes c.in-Offset.is c.sign.ensures) (both c.put_field-k.ensures c.put_field.ensures)

@@ -15,5 +15,4 @@ returns-then-w-lt3 c =
 
 pub returns : goal.returns
 returns c =
-    let w = (c.parse_strict_words-w.ensures.value, c.parse_strict_words-w.ensures.typed) in
-    readers-said c.args.cell.now c.if-n-eq0.false w.0 w.1 c.unpack.ensures c.parse.ensures c.by_readers.ensures
+    readers-said c.args.cell.now c.if-n-eq0.false c.parse_strict_words-w.ensures.value c.parse_strict_words-w.ensures.typed c.unpack.ensures c.parse.ensures c.by_readers.ensures

@@ -12,4 +12,4 @@ returns-then-len-eq0 c =
 pub returns : goal.returns
 unfolding get_hyphen hyphen_from hyphen_run pick
 returns c =
-    simp (← c.eat_whitespace.ensures, ← c.eat_while-next.ensures, ← c.len.ensures, ne_eqb _ _ c.if-len-eq0.false, ← c.eat_whitespace.ensures)
+    simp (← c.eat_whitespace-start.ensures, ← c.eat_while-next.ensures, ← c.len.ensures, ne_eqb _ _ c.if-len-eq0.false, ← c.eat_whitespace.ensures)

@@ -14,8 +14,7 @@ plain_entries-requires c = search rules
 
 pub returns : goal.returns
 returns c =
-    let e = (c.add.ensures.value, c.add.ensures.ids_value) in
     let a = c.args in
     let s = store a.count.now a.firsts.now a.lasts.now a.ids.now in
     let d = a.id in
-    record { value = c.plain_entries.ensures ∙ (ap counted e.0 ∙ same-days a.first a.last c.ranges.first c.ranges.last (λ p. counted (add_answer s p d))); ids_value = e.1 ∙ same-days a.first a.last c.ranges.first c.ranges.last (λ p. after_add s p d) }
+    record { value = c.plain_entries.ensures ∙ (ap counted c.add.ensures.value ∙ same-days a.first a.last c.ranges.first c.ranges.last (λ p. counted (add_answer s p d))); ids_value = c.add.ensures.ids_value ∙ same-days a.first a.last c.ranges.first c.ranges.last (λ p. after_add s p d) }

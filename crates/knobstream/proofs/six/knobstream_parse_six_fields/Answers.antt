@@ -6,6 +6,5 @@ use Rattle.knobstream.proofs.six.knobstream_parse_six_fields.Goals as goal
 
 pub returns : goal.returns
 returns c =
-    let w = (c.pack.ensures.value, c.pack.ensures.typed) in
     simp (← c.is_set.ensures, ← c.is_set-2.ensures, ← c.is_set-3.ensures, ← c.is_set-4.ensures, ← c.is_set-5.ensures, ← c.parse_six_fields-read.ensures)
-    (read-answered c.parse_six_fields-read.result w.1 (c.put.ensures ∙ ap listed w.0))
+    (read-answered c.parse_six_fields-read.result c.pack.ensures.typed (c.put.ensures ∙ ap listed c.pack.ensures.value))
