@@ -17,7 +17,7 @@ use native.Mathlib.Omega.{arith}
 use mathlib.Core.Path.{sym, ◌∙◌, refl, ◌≡◌}
 use Rattle.chars.proofs.Laws.{OfChar, found}
 use Rattle.chunks.proofs.check_characters.Goals as goal
-use Rattle.chunks.proofs.check_characters.Goals.{In-chunks}
+use Rattle.chunks.proofs.check_characters.Goals.{In-Char, In-chunks}
 
 -- in a turn over the chunks
 module _ (c : In-chunks) where
@@ -44,20 +44,14 @@ module _ (c : In-Char) where
   abbrev i : ℕ
   i = c.characters.i
 
-  abbrev code : ℕ
-  code = c.in-Char.code
+  abbrev within : List ℕ
+  within = take (c.chunks.at + get_or c.args.table.now (c.chunks.k + 1) 0 - c.chunks.at) (drop c.chunks.at c.args.bytes.now)
 
-  abbrev n : ℕ
-  n = c.in-Char.n
-
-  abbrev turn : In-chunks
-  turn = c
-
-  is-char : decode_at (text turn) i ≡ Char code n
+  is-char : decode_at within i ≡ Char c.in-Char.code c.in-Char.n
   is-char = sym c.decode_at.ensures ∙ c.in-Char.is
 
-  sees : OfChar (text turn) i code n
-  sees = found (text turn) i is-char
+  sees : OfChar within i c.in-Char.code c.in-Char.n
+  sees = found within i is-char
 
 pub chunks-init : goal.chunks-init
 chunks-init c = record { none = refl; same = refl; stands = standing-start _ _ c.requires }
@@ -66,7 +60,6 @@ pub offset_bounds-table-k : goal.offset_bounds-table-k
 offset_bounds-table-k c = omega (arith, whole (st (goal.at.offset_bounds-table-k c).In-chunks) c.chunks-test.true)
 
 pub bounds-table-k : goal.bounds-table-k
-    tie.Need-shared-slice-read-len invariant-characters decreases-characters invariant-chunks decreases-chunks
 bounds-table-k c = omega (arith, whole (st (goal.at.bounds-table-k c).In-chunks) c.chunks-test.true)
 
 pub overflow_add-t : goal.overflow_add-t
@@ -82,29 +75,28 @@ pub enum_known-code : goal.enum_known-code
 enum_known-code c = c.in-Char.in-Char-own.keys1
 
 pub is_admitted-requires : goal.is_admitted-requires
-    tie.Need-is-admitted-requires invariant-characters decreases-characters invariant-chunks decreases-chunks
 is_admitted-requires c = search rules
 
 pub overflow_add-i : goal.overflow_add-i
-overflow_add-i c = let q = turn (goal.at.overflow_add-i c).In-chunks in omega (arith, (sees (goal.at.overflow_add-i c).In-chunks).inside, (sees (goal.at.overflow_add-i c).In-chunks).some, text-length (st q) q.chunks-test.taken, sums (st q) q.chunks-test.taken)
+overflow_add-i c = let q = (goal.at.overflow_add-i c).In-chunks in omega (arith, (sees (goal.at.overflow_add-i c).In-Char).inside, (sees (goal.at.overflow_add-i c).In-Char).some, text-length (st q) q.chunks-test.true, sums (st q) q.chunks-test.true)
 
 pub characters-smaller : goal.characters-smaller
-characters-smaller c = let q = turn (goal.at.characters-smaller c).In-chunks in omega (arith, (sees (goal.at.characters-smaller c).In-chunks).inside, (sees (goal.at.characters-smaller c).In-chunks).some, text-length (st q) q.chunks-test.taken, sums (st q) q.chunks-test.taken)
+characters-smaller c = let q = (goal.at.characters-smaller c).In-chunks in omega (arith, (sees (goal.at.characters-smaller c).In-Char).inside, (sees (goal.at.characters-smaller c).In-Char).some, text-length (st q) q.chunks-test.true, sums (st q) q.chunks-test.true)
 
 pub characters-preserved : goal.characters-preserved
 characters-preserved c =
     let v = c.characters.invariant in
     record {
       none = v.none;
-      same = sym (fault-on (text (turn (goal.at.characters-preserved c).In-chunks)) (at (turn (goal.at.characters-preserved c).In-chunks)) (i (goal.at.characters-preserved c).In-chunks) (is-char (goal.at.characters-preserved c).In-chunks) (sym c.is_admitted.ensures ∙ c.if-is_admitted.true)) ∙ v.same;
-      inside = omega (arith, (sees (goal.at.characters-preserved c).In-chunks).inside, (sees (goal.at.characters-preserved c).In-chunks).some);
+      same = sym (fault-on (text (goal.at.characters-preserved c).In-chunks) (at (goal.at.characters-preserved c).In-chunks) (i (goal.at.characters-preserved c).In-Char) (is-char (goal.at.characters-preserved c).In-Char) (sym c.is_admitted.ensures ∙ c.if-is_admitted.true)) ∙ v.same;
+      inside = omega (arith, (sees (goal.at.characters-preserved c).In-Char).inside, (sees (goal.at.characters-preserved c).In-Char).some);
     }
 
 pub overflow_add-at : goal.overflow_add-at
-overflow_add-at c = let q = turn (goal.at.overflow_add-at c).In-chunks in omega (arith, (sees (goal.at.overflow_add-at c).In-chunks).inside, (sees (goal.at.overflow_add-at c).In-chunks).some, text-length (st q) q.chunks-test.taken, sums (st q) q.chunks-test.taken)
+overflow_add-at c = let q = (goal.at.overflow_add-at c).In-chunks in omega (arith, (sees (goal.at.overflow_add-at c).In-Char).inside, (sees (goal.at.overflow_add-at c).In-Char).some, text-length (st q) q.chunks-test.true, sums (st q) q.chunks-test.true)
 
 pub faulty-found-requires : goal.faulty-found-requires
-faulty-found-requires c = let q = turn (goal.at.faulty-found-requires c).In-chunks in omega (arith, (sees (goal.at.faulty-found-requires c).In-chunks).inside, (sees (goal.at.faulty-found-requires c).In-chunks).some, text-length (st q) q.chunks-test.taken, sums (st q) q.chunks-test.taken)
+faulty-found-requires c = let q = (goal.at.faulty-found-requires c).In-chunks in omega (arith, (sees (goal.at.faulty-found-requires c).In-Char).inside, (sees (goal.at.faulty-found-requires c).In-Char).some, text-length (st q) q.chunks-test.true, sums (st q) q.chunks-test.true)
 
 pub enum_told-1 : goal.enum_told-1
 enum_told-1 c = c.in-Bad.in-Bad-own.keys2
@@ -147,9 +139,9 @@ returns-after-chunks c =
 pub returns-else-is_admitted : goal.returns-else-is_admitted
 unfolding or_else
 returns-else-is_admitted c =
-    let q = turn (goal.at.returns-else-is_admitted c).In-chunks in
-    let high = sym c.characters.invariant.same ∙ fault-high (text q) (at q) (i (goal.at.returns-else-is_admitted c).In-chunks) (is-char (goal.at.returns-else-is_admitted c).In-chunks) (sym c.is_admitted.ensures ∙ c.if-is_admitted.false) in
-    c.faulty-found.ensures ∙ rw high at (fault-turn (st q) q.chunks-test.taken) ∙ q.before.chunks.inv.same
+    let q = (goal.at.returns-else-is_admitted c).In-chunks in
+    let high = sym c.characters.invariant.same ∙ fault-high (text q) (at q) (i (goal.at.returns-else-is_admitted c).In-Char) (is-char (goal.at.returns-else-is_admitted c).In-Char) (sym c.is_admitted.ensures ∙ c.if-is_admitted.false) in
+    c.faulty-found.ensures ∙ rw high at (fault-turn (st q) q.chunks-test.true) ∙ q.chunks.invariant.same
 
 pub returns-in-Bad : goal.returns-in-Bad
 unfolding or_else

@@ -28,7 +28,7 @@ put_list-n-requires c =
 pub slice_bounds-upper_all-end-then-upper : goal.slice_bounds-upper_all-end-then-upper
 slice_bounds-upper_all-end-then-upper c =
     let e = c.put_list-n.ensures in
-    sym (length-take-le _ _ (omega (arith, e.2, c.put_list-n.auto.buf.1.1.0)))
+    sym (length-take-le _ _ (omega (arith, e, c.put_list-n.auto.buf)))
 
 pub returns-in-Faulty : goal.returns-in-Faulty
 returns-in-Faulty c =

@@ -7,26 +7,26 @@ use Rattle.chars.specs.Pick.{pick}
 use Rattle.strict.specs.Matcher.{two}
 use borrow.Author.Rules.{rules}
 use Rattle.strict.proofs.two_at.Goals as goal
-use Rattle.strict.proofs.two_at.Goals.{Then-is_digit}
+use Rattle.strict.proofs.two_at.Goals.{Then-is_digit-2}
 
 -- where both are digits
-first : (c : Then-is_digit) → Digit c.byte_at-a.result
+first : (c : Then-is_digit-2) → Digit c.byte_at-a.result
 first c = digit _ (sym c.is_digit.ensures ∙ c.if-is_digit.true)
 
-second : (c : Then-is_digit) → Digit c.byte_at-b.result
+second : (c : Then-is_digit-2) → Digit c.byte_at-b.result
 second c = digit _ (sym c.is_digit-then-is_digit.ensures ∙ c.if-is_digit-2.true)
 
 pub overflow_sub-result : goal.overflow_sub-result
-overflow_sub-result c = omega (arith, first (goal.at.overflow_sub-result c).Then-is_digit)
+overflow_sub-result c = omega (arith, first (goal.at.overflow_sub-result c).Then-is_digit-2)
 
 pub overflow_mul-result : goal.overflow_mul-result
-overflow_mul-result c = omega (arith, first (goal.at.overflow_mul-result c).Then-is_digit)
+overflow_mul-result c = omega (arith, first (goal.at.overflow_mul-result c).Then-is_digit-2)
 
 pub overflow_sub-result-then-is_digit-2 : goal.overflow_sub-result-then-is_digit-2
-overflow_sub-result-then-is_digit-2 c = omega (arith, second (goal.at.overflow_sub-result-then-is_digit-2 c).Then-is_digit)
+overflow_sub-result-then-is_digit-2 c = omega (arith, second (goal.at.overflow_sub-result-then-is_digit-2 c).Then-is_digit-2)
 
 pub overflow_add-result : goal.overflow_add-result
-overflow_add-result c = omega (arith, first (goal.at.overflow_add-result c).Then-is_digit, second (goal.at.overflow_add-result c).Then-is_digit)
+overflow_add-result c = omega (arith, first (goal.at.overflow_add-result c).Then-is_digit-2, second (goal.at.overflow_add-result c).Then-is_digit-2)
 
 pub returns-then-is_digit-2 : goal.returns-then-is_digit-2
 unfolding two pick
