@@ -1,6 +1,6 @@
 -- A chronology as it is kept in lent memory: a count, and three columns of 512 numbers. What stands behind the count is no entry.
 use Rattle.std.specs.Prelude.{◌≡◌, ℕ, suc, ◌-◌, Bool, false, not, List, [], ◌∷◌, ◌++◌, eqb, leb, ℤ, length, take, drop}
-use Rattle.std.specs.Borrow.{Bor}
+use Rattle.std.specs.Borrow.{Bor, MutBor}
 use denote.Triple.Both.{Both}
 use Rattle.chars.specs.Pick.{pick}
 use Rattle.chronology.specs.declared.Entry.{Entry}
@@ -42,9 +42,21 @@ Lent A = Both (Bor A) (Bor A)
 abbrev pub before : Lent ℕ → Lent (List ℤ) → Lent (List ℤ) → Lent (List ℕ) → Store
 before n fs ls ds = lent n.entry fs.entry ls.entry ds.entry
 
+-- what four references that write hold
+abbrev pub lent_mut : MutBor ℕ → MutBor (List ℤ) → MutBor (List ℤ) → MutBor (List ℕ) → Store
+lent_mut n fs ls ds = store n.now fs.now ls.now ds.now
+
+-- a reference that writes at the moment of a call and at its end
+abbrev pub LentMut : Type 0 → Type 0
+LentMut A = Both (MutBor A) (MutBor A)
+
+-- the store before a call that writes
+abbrev pub before_mut : LentMut ℕ → LentMut (List ℤ) → LentMut (List ℤ) → LentMut (List ℕ) → Store
+before_mut n fs ls ds = lent_mut n.entry fs.entry ls.entry ds.entry
+
 -- the store after it
-abbrev pub after : Lent ℕ → Lent (List ℤ) → Lent (List ℤ) → Lent (List ℕ) → Store
-after n fs ls ds = lent n.exit fs.exit ls.exit ds.exit
+abbrev pub after : LentMut ℕ → LentMut (List ℤ) → LentMut (List ℤ) → LentMut (List ℕ) → Store
+after n fs ls ds = lent_mut n.exit fs.exit ls.exit ds.exit
 
 -- three columns, read side by side
 unfoldable pub rows : List ℤ → List ℤ → List ℕ → List Entry

@@ -6,7 +6,7 @@ ghost use Rattle.std.specs.Prelude.{◌≡◌, not, [], ◌∷◌, ◌+◌, ◌*
 ghost use Rattle.std.proofs.lemmas.List.Edits.{sets};
 ghost use Rattle.chronology.specs.Entries as entries;
 ghost use Rattle.chronology.specs.Store as spec;
-ghost use Rattle.chronology.specs.Store.{lent, before, after};
+ghost use Rattle.chronology.specs.Store.{lent, lent_mut, before, before_mut, after};
 ghost use Rattle.chronology.specs.Calls as calls;
 ghost use Rattle.chronology.specs.Asked as asked;
 ghost use Rattle.chronology.specs.Inside as inside;
@@ -345,9 +345,9 @@ fn add_entry(
     period: Period,
     id: u32,
 ) -> Answer
-    requires { spec.Wide (lent count firsts lasts ids) }
-    ensures value { result ≡ calls.add_answer (before count firsts lasts ids) period id }
-    ensures ids_value { after count firsts lasts ids ≡ calls.after_add (before count firsts lasts ids) period id }
+    requires { spec.Wide (lent_mut count firsts lasts ids) }
+    ensures value { result ≡ calls.add_answer (before_mut count firsts lasts ids) period id }
+    ensures ids_value { after count firsts lasts ids ≡ calls.after_add (before_mut count firsts lasts ids) period id }
 {
     match add_answer(count, firsts, lasts, ids, period, id) {
         Answer::Entries(n) => {
@@ -387,9 +387,9 @@ fn remove_entry(
     ids: &mut [u32],
     id: u32,
 ) -> Answer
-    requires { spec.Wide (lent count firsts lasts ids) }
-    ensures value { result ≡ calls.remove_answer (before count firsts lasts ids) id }
-    ensures ids_value { after count firsts lasts ids ≡ calls.after_remove (before count firsts lasts ids) id }
+    requires { spec.Wide (lent_mut count firsts lasts ids) }
+    ensures value { result ≡ calls.remove_answer (before_mut count firsts lasts ids) id }
+    ensures ids_value { after count firsts lasts ids ≡ calls.after_remove (before_mut count firsts lasts ids) id }
 {
     match remove_answer(count, firsts, lasts, ids, id) {
         Answer::Entries(left) => {
@@ -547,8 +547,8 @@ pub fn add(
     period: Period,
     id: u32,
 ) -> Answer
-    ensures value { result ≡ calls.add_answer (before count firsts lasts ids) period id }
-    ensures ids_value { after count firsts lasts ids ≡ calls.after_add (before count firsts lasts ids) period id }
+    ensures value { result ≡ calls.add_answer (before_mut count firsts lasts ids) period id }
+    ensures ids_value { after count firsts lasts ids ≡ calls.after_add (before_mut count firsts lasts ids) period id }
 {
     add_entry(count, firsts, lasts, ids, period, id)
 }
@@ -561,8 +561,8 @@ pub fn remove(
     ids: &mut [u32; 512],
     id: u32,
 ) -> Answer
-    ensures value { result ≡ calls.remove_answer (before count firsts lasts ids) id }
-    ensures ids_value { after count firsts lasts ids ≡ calls.after_remove (before count firsts lasts ids) id }
+    ensures value { result ≡ calls.remove_answer (before_mut count firsts lasts ids) id }
+    ensures ids_value { after count firsts lasts ids ≡ calls.after_remove (before_mut count firsts lasts ids) id }
 {
     remove_entry(count, firsts, lasts, ids, id)
 }

@@ -1,7 +1,7 @@
 // The calls on a chronology, on a store as callers lend it: a count and three columns.
 ghost use Rattle.std.specs.Prelude.{◌≡◌, length};
 ghost use Rattle.days.specs.Covered.{period};
-ghost use Rattle.chronology.specs.Store.{before, after};
+ghost use Rattle.chronology.specs.Store.{before, before_mut, after};
 ghost use Rattle.chronology.specs.Calls.{add_answer, after_add, remove_answer, after_remove, count_answer, list_answer, after_list};
 ghost use Rattle.chronology.specs.Asked.{reply};
 ghost use Rattle.knobstream.specs.Entries.{counted, told};
@@ -76,8 +76,8 @@ pub extern "C" fn knobstream_add_entry(
     last: i32,
     id: u32,
 ) -> PlainEntries
-    ensures value { result ≡ counted (add_answer (before count firsts lasts ids) (period first last) id) }
-    ensures ids_value { after count firsts lasts ids ≡ after_add (before count firsts lasts ids) (period first last) id }
+    ensures value { result ≡ counted (add_answer (before_mut count firsts lasts ids) (period first last) id) }
+    ensures ids_value { after count firsts lasts ids ≡ after_add (before_mut count firsts lasts ids) (period first last) id }
 {
     plain_entries(chronology::add(count, firsts, lasts, ids, Period { first, last }, id))
 }
@@ -91,8 +91,8 @@ pub extern "C" fn knobstream_remove_entry(
     ids: &mut [u32; 512],
     id: u32,
 ) -> PlainEntries
-    ensures value { result ≡ counted (remove_answer (before count firsts lasts ids) id) }
-    ensures ids_value { after count firsts lasts ids ≡ after_remove (before count firsts lasts ids) id }
+    ensures value { result ≡ counted (remove_answer (before_mut count firsts lasts ids) id) }
+    ensures ids_value { after count firsts lasts ids ≡ after_remove (before_mut count firsts lasts ids) id }
 {
     plain_entries(chronology::remove(count, firsts, lasts, ids, id))
 }

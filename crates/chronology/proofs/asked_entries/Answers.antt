@@ -7,16 +7,16 @@ use Rattle.chronology.proofs.asked_entries.Goals as goal
 
 pub returns-then-not-sound : goal.returns-then-not-sound
 returns-then-not-sound c =
-    c.untold.ensures ∙ reply-bad _ c.args.period (sym c.sound.ensures ∙ not-true _ c.if-not-sound.true)
+    c.untold.ensures ∙ reply-bad _ c.args.period (sym c.sound.ensures ∙ c.if-not-sound.true)
 
 pub returns-then-not-good_period : goal.returns-then-not-good_period
 returns-then-not-good_period c =
-    c.untold-then-not-good_period.ensures ∙ reply-period _ c.args.period (sym c.sound.ensures ∙ not-false _ c.if-not-sound.false) (sym c.good_period.ensures ∙ not-true _ c.if-not-good_period.true)
+    c.untold-then-not-good_period.ensures ∙ reply-period _ c.args.period (sym c.sound.ensures ∙ c.if-not-sound.false) (sym c.good_period.ensures ∙ c.if-not-good_period.true)
 
 pub walk-requires : goal.walk-requires
 walk-requires c =
-    (sound-few _ (sym c.sound.ensures ∙ not-false _ c.if-not-sound.false), c.requires)
+    (sound-few _ (sym c.sound.ensures ∙ c.if-not-sound.false), c.requires)
 
 pub returns : goal.returns
 returns c =
-    c.walk.ensures ∙ reply-walked _ c.args.period c.requires (sym c.sound.ensures ∙ not-false _ c.if-not-sound.false) (sym c.good_period.ensures ∙ not-false _ c.if-not-good_period.false)
+    c.walk.ensures ∙ reply-walked _ c.args.period c.requires (sym c.sound.ensures ∙ c.if-not-sound.false) (sym c.good_period.ensures ∙ c.if-not-good_period.false)

@@ -7,18 +7,18 @@ use Rattle.chronology.proofs.remove_answer.Goals as goal
 
 pub returns-then-not-sound : goal.returns-then-not-sound
 returns-then-not-sound c =
-    c.refused.ensures ∙ remove-bad _ c.args.id (sym c.sound.ensures ∙ not-true _ c.if-not-sound.true)
+    c.refused.ensures ∙ remove-bad _ c.args.id (sym c.sound.ensures ∙ c.if-not-sound.true)
 
 pub find-requires : goal.find-requires
 find-requires c =
-    (omega arith, sound-few _ (sym c.sound.ensures ∙ not-false _ c.if-not-sound.false), c.requires.of_ids)
+    (omega arith, sound-few _ (sym c.sound.ensures ∙ c.if-not-sound.false), c.requires.of_ids)
 
 pub returns-then-find-count : goal.returns-then-find-count
 returns-then-find-count c =
-    remove-done _ c.args.id (sym c.sound.ensures ∙ not-false _ c.if-not-sound.false)
-    (has-it _ c.args.id c.find.result (sound-room _ c.requires (sym c.sound.ensures ∙ not-false _ c.if-not-sound.false)) c.find.ensures.0 c.if-find-count.true)
+    remove-done _ c.args.id (sym c.sound.ensures ∙ c.if-not-sound.false)
+    (has-it _ c.args.id c.find.result (sound-room _ c.requires (sym c.sound.ensures ∙ c.if-not-sound.false)) c.find.ensures.0 c.if-find-count.true)
 
 pub returns : goal.returns
 returns c =
-    c.refused-2.ensures ∙ remove-unknown _ c.args.id (sym c.sound.ensures ∙ not-false _ c.if-not-sound.false)
-    (has-not _ c.args.id c.find.result (sound-room _ c.requires (sym c.sound.ensures ∙ not-false _ c.if-not-sound.false)) c.find.ensures.0 c.if-find-count.false)
+    c.refused-2.ensures ∙ remove-unknown _ c.args.id (sym c.sound.ensures ∙ c.if-not-sound.false)
+    (has-not _ c.args.id c.find.result (sound-room _ c.requires (sym c.sound.ensures ∙ c.if-not-sound.false)) c.find.ensures.0 c.if-find-count.false)

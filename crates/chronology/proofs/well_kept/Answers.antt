@@ -24,7 +24,7 @@ kept_at-requires c =
 
 pub returns-then-not-kept_at : goal.returns-then-not-kept_at
 returns-then-not-kept_at c =
-    pass-stops _ (room _ c.requires.1 c.requires.0) c.loop-i.marks c.loop-i.i c.loop-i-test.true c.loop-i.invariant.3 (sym c.kept_at.ensures ∙ not-true _ c.if-not-kept_at.true)
+    pass-stops _ (room _ c.requires.1 c.requires.0) c.loop-i.marks c.loop-i.i c.loop-i-test.true c.loop-i.invariant.3 (sym c.kept_at.ensures ∙ c.if-not-kept_at.true)
 
 pub offset_bounds-ids-i : goal.offset_bounds-ids-i
 offset_bounds-ids-i c = omega (arith, c.loop-i.invariant.3, c.requires.0)
@@ -40,7 +40,7 @@ loop-i-preserved c =
     let h = c.loop-i-test.true in
     let at = c.mark_of-at.ensures in
     let other = c.other_mark_of-other.ensures in (
-      pass-goes _ r l.marks l.i h l.invariant.3 (sym c.kept_at.ensures ∙ not-false _ c.if-not-kept_at.false) l.invariant.0,
+      pass-goes _ r l.marks l.i h l.invariant.3 (sym c.kept_at.ensures ∙ c.if-not-kept_at.false) l.invariant.0,
       pass-marks _ r l.marks l.i h l.invariant.3 at.0 other.0 (omega (arith, at.1, l.invariant.2)) (omega (arith, other.1, l.invariant.2)) l.invariant.1,
       length-set (set l.marks _ 1) _ _ ∙ length-set l.marks _ _ ∙ l.invariant.2,
       omega (arith, l.invariant.3),
