@@ -40,8 +40,8 @@ own-append s t c h k =
 
 cells-append : (s t : List ℕ) {low : ℕ} (cs : List Place) → InOrder low (length s) cs → own_of (s ++ t) cs ≡ own_of s cs
 unfolding own_of
-cells-append s t [] i = refl
-cells-append s t (c ∷ cs) (then_cell p q r i) = rw (own-append s t c q r, cells-append s t cs i)
+cells-append s t {low = low} [] i = refl
+cells-append s t {low = low} (c ∷ cs) (then_cell p q r i) = rw (own-append s t c q r, cells-append s t {low = c.stop + 1} cs i)
 
 -- the cells of a row that is answered
 pub cells_stay : (sep : Separator) (s : List ℕ) → (answer (byte_of sep) false s ≡ More → ⊥) → (last : Bool) (t : List ℕ) → row_cells sep last (s ++ t) ≡ row_cells sep false s

@@ -21,7 +21,7 @@ entry_at-x-requires c =
 pub returns-then-not-precedes : goal.returns-then-not-precedes
 unfolding rank
 returns-then-not-precedes c =
-    (where_found _ (room _ c.requires.1 c.requires.0) c.loop-i.i (λ x. not (precedes x c.args.e)) c.loop-i-test.true c.entry_at-x.ensures (ap not (sym c.precedes.ensures) ∙ c.if-not-precedes.true) ∙ sym c.loop-i.invariant.0, c.loop-i.invariant.1)
+    (where_found _ (room _ c.requires.1 c.requires.0) c.loop-i.i (λ x. not (precedes x c.args.e)) c.loop-i-test.true c.entry_at-x.ensures (ap not (sym c.precedes.ensures) ∙ ap not c.if-not-precedes.true) ∙ sym c.loop-i.invariant.0, c.loop-i.invariant.1)
 
 pub overflow_add-i : goal.overflow_add-i
 overflow_add-i c =
@@ -30,7 +30,7 @@ overflow_add-i c =
 pub loop-i-preserved : goal.loop-i-preserved
 unfolding rank
 loop-i-preserved c =
-    (c.loop-i.invariant.0 ∙ where-passed _ (room _ c.requires.1 c.requires.0) c.loop-i.i (λ x. not (precedes x c.args.e)) c.loop-i-test.true c.entry_at-x.ensures (ap not (sym c.precedes.ensures) ∙ c.if-not-precedes.false), omega arith)
+    (c.loop-i.invariant.0 ∙ where-passed _ (room _ c.requires.1 c.requires.0) c.loop-i.i (λ x. not (precedes x c.args.e)) c.loop-i-test.true c.entry_at-x.ensures (ap not (sym c.precedes.ensures) ∙ ap not c.if-not-precedes.false), omega arith)
 
 pub returns : goal.returns
 unfolding rank
