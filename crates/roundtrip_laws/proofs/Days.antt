@@ -301,7 +301,7 @@ abbrev FromDays : List ℕ → DateValue → Type 0
 FromDays s v = ShortMonthRange v → (y : ℕ) × (m : ℕ) × DaysText s y m × (v ≡ days_upto y m 30)
 
 undated : {v : DateValue} → AllDated v → ShortMonthRange v → ⊥
-undated w (days_xx y m h l n) = omega (arith, w.1.Parts-in.1)
+undated w (days_xx y m h l n) = omega (arith, w.1.parts_in.1)
 
 day_there : OptionDay → ℕ
 day_there NoDay = 0

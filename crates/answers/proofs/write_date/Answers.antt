@@ -5,4 +5,4 @@ use Rattle.answers.proofs.write_date.Goals as goal
 pub returns-in-NoLength : goal.returns-in-NoLength
 returns-in-NoLength c =
     let e = no-text-line c.args.d c.date_length.ensures.value c.in-NoLength.is in
-    rw e at (c.write_refused.ensures.value, c.write_refused.ensures.out_after)
+    record { value = rw e at c.write_refused.ensures.value; out_after = rw e at c.write_refused.ensures.out_after }

@@ -6,4 +6,4 @@ use Rattle.answers.proofs.write_refused.Goals as goal
 pub returns : goal.returns
 returns c =
     let e = sym (refused-is c.args.e c.number.ensures) in
-    rw e at (c.write_number.ensures.value, c.write_number.ensures.out_after)
+    record { value = rw e at c.write_number.ensures.value; out_after = rw e at c.write_number.ensures.out_after }
