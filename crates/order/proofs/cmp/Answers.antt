@@ -1,9 +1,10 @@
 use Rattle.dates.proofs.Signs.{less-test}
 use mir.Val.{of_z, to_z}
 use mathlib.Core.Path.{◌≡◌}
-use mathlib.Core.Bool.{Bool}
+use mathlib.Core.Bool.{Bool, false}
 use lib.Signed.{lt_z}
 use mir.Syntax.{w64}
+use borrow.Author.Rules.{rules}
 use Rattle.chars.specs.Pick.{pick}
 use Rattle.order.specs.Order.{number_order}
 use Rattle.order.proofs.cmp.Goals as goal
@@ -26,4 +27,4 @@ returns-then-b-a c = simp (up (goal.at.returns-then-b-a c).Start c.if-a-b.false,
 
 pub returns : goal.returns
 unfolding number_order pick
-returns c = simp (up (goal.at.returns c).Start c.if-a-b.false, down (goal.at.returns c).Start c.if-b-a.false)
+returns c = simp (up (goal.at.returns c).Start c.if-a-b.false, down (goal.at.returns c).Start {t = false} (search rules))
