@@ -69,7 +69,7 @@ pub record Usual (s : List ℕ) : Type 0 where
 data Spelled (acc : ℕ) : List ℕ → ℕ → Type 0 where
   digits : (ds : List ℕ) → AreDigits ds → Spelled acc (bytes ds) (value acc ds)
 
-one_more : {acc n : ℕ} {t : List ℕ} (b : ℕ) → is_ascii_digit b ≡ true → Spelled (acc * 10 + (b - 48)) t n → Spelled acc (b ∷ t) n
+one_more : {acc : ℕ} (b : ℕ) {n : ℕ} {t : List ℕ} → is_ascii_digit b ≡ true → Spelled (acc * 10 + (b - 48)) t n → Spelled acc (b ∷ t) n
 one_more {acc} b e (digits ds h) =
     let l = (digit b e).low in
     let k = (digit b e).high in

@@ -11,5 +11,5 @@ returns c =
     let m = c.is_set in
     let d = c.is_set-2 in
     let a = c.args in
-    let t = three (lent a.year.now a.year-table.now) (optional m.result a.month.now a.month-table.now) (optional d.result a.day.now a.day-table.now) in
+    let t = three (lent a.year.now a.year_table.now) (optional m.result a.month.now a.month_table.now) (optional d.result a.day.now a.day_table.now) in
     simp (← m.ensures, ← d.ensures) (read-answered (three_fields t) c.three_words-words.ensures.typed (c.put.ensures ∙ ap listed c.three_words-words.ensures.value))

@@ -15,9 +15,9 @@ read_clean-requires c =
     let a = c.args in
     let t =
     three
-    (lent a.year.now a.year-table.now)
-    (optional a.has-month a.month.now a.month-table.now)
-    (optional a.has-day a.day.now a.day-table.now) in
+    (lent a.year.now a.year_table.now)
+    (optional a.has_month a.month.now a.month_table.now)
+    (optional a.has_day a.day.now a.day_table.now) in
     let e : fields_checked t ≡ Clean = sym c.check_fields.ensures ∙ c.in-Clean.is in
     record { year_table_value = year-checked t e; month_table_value = λ h. month-checked t e h; day_table_value = λ h k. day-checked t e h k }
 

@@ -14,7 +14,7 @@ pub returns-in-PartsAre : goal.returns-in-PartsAre
 unfolding dated
 returns-in-PartsAre c =
     let e = rw (to_z-of_z w32 c.args.year c.ranges.year) at c.new-atom.ensures in
-    simp (c.in-PartsAre.is, ← e, ← c.from_datetime.ensures)
+    simp (c.in-PartsAre.is, e, c.from_datetime.ensures)
 
 pub returns-in-NoParts : goal.returns-in-NoParts
 unfolding dated

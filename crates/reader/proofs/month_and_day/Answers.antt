@@ -6,7 +6,7 @@ pub enum_known-m : goal.enum_known-m
 enum_known-m c = c.in-MonthRead.in-MonthRead-own.keys1
 
 pub day_of-requires : goal.day_of-requires
-day_of-requires c = rw c.month_of.auto.buf.1.1.0 c.requires.readable_2
+day_of-requires c = rw c.month_of.auto.buf c.requires.readable_2
 
 pub enum_known-d : goal.enum_known-d
 enum_known-d c = c.in-Given.in-Given-own.keys1

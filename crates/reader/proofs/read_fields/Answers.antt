@@ -8,7 +8,7 @@ pub enum_known-y : goal.enum_known-y
 enum_known-y c = c.in-YearIs.in-YearIs-own.keys1
 
 pub parts_of-parts-requires : goal.parts_of-parts-requires
-parts_of-parts-requires c = let k = c.year_of.auto.buf.1.1.0 in rw k (record { readable = c.requires.readable_2; readable_2 = c.requires.readable_3 })
+parts_of-parts-requires c = let k = c.year_of.auto.buf in rw k (record { readable = c.requires.readable_2; readable_2 = c.requires.readable_3 })
 
 pub enum_known-e : goal.enum_known-e
 enum_known-e c = c.in-NoFieldYear.in-NoFieldYear-own.keys2

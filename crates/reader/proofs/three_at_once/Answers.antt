@@ -12,7 +12,7 @@ module _ (c : After-day_at_once-d) where
   abbrev lists : Three
   lists =
       let a = c.args in
-      three (lent a.year.now a.year-table.now) (optional a.has-month a.month.now a.month-table.now) (optional a.has-day a.day.now a.day-table.now)
+      three (lent a.year.now a.year_table.now) (optional a.has_month a.month.now a.month_table.now) (optional a.has_day a.day.now a.day_table.now)
 
   parts : Joined c.year_at_once-y.result c.month_at_once-m.result c.day_at_once-d.result (words_or (list_three lists))
   unfolding day_or

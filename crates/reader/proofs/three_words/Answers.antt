@@ -9,7 +9,7 @@ use Rattle.reader.proofs.three_words.Goals as goal
 pub returns-then-w : goal.returns-then-w
 returns-then-w c =
     let a = c.args in
-    let t = three (lent a.year.now a.year-table.now) (optional a.has-month a.month.now a.month-table.now) (optional a.has-day a.day.now a.day-table.now) in
+    let t = three (lent a.year.now a.year_table.now) (optional a.has_month a.month.now a.month_table.now) (optional a.has_day a.day.now a.day_table.now) in
     let both = at_once (list_three t) (three_fields t) c.three_at_once-w.ensures c.if-w.true (λ r e. three_said t e) (λ r e. three-typed t e) in record { value = both.0; typed = both.1 }
 
 pub returns : goal.returns
