@@ -19,8 +19,8 @@ def bare(code):
     return re.sub(r'(?m)(?:^|(?<=\s))--(?:\s.*)?$|//.*', '', re.sub(r'b?"[^"\n]*"|b\'.\'', ' ', code))
 
 def words(code):
-    """The names in a piece of code; a field's, behind a blank and a point, is none."""
-    return [w for w in re.split(r'[\s()\[\]{},;⌜⌝]+', bare(code)) if w and not w.startswith('.')]
+    """The names in a piece of code; a field's, behind a bracket and a point, is none."""
+    return [w for w in re.split(r'[\s()\[\]{},;]+', bare(code)) if w and not w.startswith('.')]
 
 def binders(code):
     """The variables that a signature binds: (x y : T)."""
@@ -91,9 +91,9 @@ def header(function):
 # ---- names
 
 def module(path):
-    """The file that a module's path names: 'Rattle·days.specs.Covered' is days/specs/Covered; a type of the code is of days/src."""
-    m = re.fullmatch(r'Rattle·(\w+)(?:·(?:specs|proofs))?\.(.*)', path)
-    if not m:
+    """The file that a module's path names: 'Rattle.days.specs.Covered' is days/specs/Covered; a type of the code is of days/src."""
+    m = re.fullmatch(r'Rattle\.(\w+)\.(.*)', path)
+    if not m or not pathlib.Path(f'crates/{m[1]}').is_dir():
         return path
     if m[2].startswith('specs.declared.'):
         return f'{m[1]}/src'
@@ -110,7 +110,7 @@ def scope(path):
             continue
         for word in those.split(','):
             name, _, local = word.strip().partition(' as ')
-            variant = re.search(r'declared\.(?:\w+\.)*?(\w+)\.the-variants$', m[1])
+            variant = re.search(r'declared\.(?:\w+\.)*?(\w+)\.TheVariants$', m[1])
             names[local.strip() or name] = Key(target, variant[1]) if variant else found_in(target, name)
     if path.endswith('.antt'):
         file = path[len('crates/'):-len('.antt')]
@@ -119,14 +119,15 @@ def scope(path):
             names |= {part: item.key for part in parts(item) if item.kind == 'data'}
     else:
         crate = path.split('/')[1]
-        for m in re.finditer(r'^use (\w+)::(\w+);', text(path), re.M):
-            names[m[2]] = Key(f'{m[1]}/src', m[2])
+        for m in re.finditer(r'^use (\w+)::(?:(\w+)|\{(.*?)\});', text(path), re.M | re.S):
+            for name in (m[2] or m[3]).split(','):
+                names[name.strip()] = Key(f'{m[1]}/src', name.strip())
         names |= {name: Key(f'{crate}/src', name) for name in types(crate)}
     return names, modules
 
 def operators(names):
-    """A name with holes, as _+_, is used by the words between them."""
-    return {word: name for name in names if '_' in name and not re.fullmatch(r'\w+', name) for word in name.split('_') if word}
+    """A name with holes, as ◌+◌, is used by the words between them."""
+    return {word: name for name in names if '◌' in name for word in name.split('◌') if word}
 
 @functools.cache
 def known(file):
@@ -155,8 +156,10 @@ def meant(path, code):
             found.add(names[word])
         elif word in holes:
             found.add(names[holes[word]])
-        elif rest and front in modules:
-            found.add(found_in(modules[front], rest))
+        elif rest and front in modules:  # with a field behind it, as list.longest.0
+            found.add(found_in(modules[front], rest.partition('.')[0]))
+        elif rest and front in names:
+            found.add(names[front])
     return found
 
 @functools.cache
