@@ -53,9 +53,13 @@ def called(folder):
     """The name of a processor, and that it was not timed."""
     return PROCESSORS[folder] + {'times': '', 'counts': ', by instructions'}[cost(folder)]
 
+# Up to this day all was measured with the toolchain before today's.
+OLDER = '2026-11-18'
+
 def days(folder, *files):
-    """When they were measured."""
-    return '; '.join(dict.fromkeys(row.date for name in files for row in measured(folder, name, 2).values()))
+    """When they were measured, and whether with the toolchain before today's."""
+    there = dict.fromkeys(row.date for name in files for row in measured(folder, name, 2).values())
+    return '; '.join(f'{day}, older kit' if day <= OLDER else day for day in there)
 
 def parts(folder):
     """Each case that the Rust has too and something is aimed at, a sort of frames among them, to the part of its cost."""
