@@ -53,21 +53,21 @@ short_year s =
 unfoldable pub is_unknown : List ℕ → ℕ → Bool
 is_unknown s at = eqb (get_or s at 0) (code "X") && eqb (get_or s (at + 1) 0) (code "X")
 
--- dd_xx: the years of a century
+-- ddXX: the years of a century
 unfoldable pub years_of : List ℕ → Option ReadDate
 years_of s =
     pick (is_unknown s 2 && ltb (two_at s 0) 100)
     (some (range (datetime (pos (two_at s 0 * 100)) NoMonth NoDay NoTime) (datetime (pos (two_at s 0 * 100 + 99)) NoMonth NoDay NoTime)))
     none
 
--- dddd_XX: the months of a year
+-- dddd-XX: the months of a year
 unfoldable pub months_of : List ℕ → Option ReadDate
 months_of s =
     pick (is_unknown s 5 && (ltb (year_of s) 10000 && eqb (get_or s 4 0) (code "-")))
     (some (range (datetime (pos (year_of s)) (month 0) NoDay NoTime) (datetime (pos (year_of s)) (month 11) NoDay NoTime)))
     none
 
--- dddd_mm_XX: the days 1 to 31, whatever the month
+-- dddd-mm-XX: the days 1 to 31, whatever the month
 unfoldable pub days_of : List ℕ → Option ReadDate
 days_of s =
     pick (ltb (year_of s) 10000 && (ltb (part_at s 4) 12 && eqb (get_or s 7 0) (code "-")))

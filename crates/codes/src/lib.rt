@@ -923,7 +923,7 @@ fn is_unknown(s: &[u8], at: usize) -> bool
     false
 }
 
-// dd_xx
+// ddXX
 fn years_of(s: &[u8]) -> Words
     requires { 4 ≤ length s.now }
     ensures { result ≡ words.words_or (ported_specs.years_of s.now) }
@@ -939,7 +939,7 @@ fn years_of(s: &[u8]) -> Words
     no_words()
 }
 
-// dddd_XX
+// dddd-XX
 fn months_of(s: &[u8]) -> Words
     requires { 7 ≤ length s.now }
     ensures { result ≡ words.words_or (ported_specs.months_of s.now) }
@@ -957,7 +957,7 @@ fn months_of(s: &[u8]) -> Words
     no_words()
 }
 
-// dddd_mm_XX
+// dddd-mm-XX
 fn days_of(s: &[u8]) -> Words
     requires { 8 ≤ length s.now }
     ensures { result ≡ words.words_or (ported_specs.days_of s.now) }

@@ -1,4 +1,4 @@
--- The ported reader gives the days of a month for the texts dddd_mm_XX alone, with white space and more hyphens where it admits them.
+-- The ported reader gives the days of a month for the texts dddd-mm-XX alone, with white space and more hyphens where it admits them.
 -- Assumes nothing.
 use mathlib.Core.Path.{◌≡◌, refl, sym, ap, ◌∙◌, subst}
 use mathlib.Core.Bool.{true}

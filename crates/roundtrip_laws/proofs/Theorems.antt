@@ -80,7 +80,7 @@ no-t-in b table e h = accepted-in b table e (no-t b table e h)
 pub no-x-in : (b table : List ℕ) {d : Date} → parsed b table ≡ Accepted d → NoT (formatted b table) → NoX (formatted b table) → InDomain d.value
 no-x-in b table {d} e h k = accepted.in-domain d.value (accepted.no_x b table e k) (no-t b table e h)
 
--- Such a range is read from a text dddd_mm_XX alone, in upper case, trimmed and without its mark
+-- Such a range is read from a text dddd-mm-XX alone, in upper case, trimmed and without its mark
 pub from-days : (b table : List ℕ) {d : Date} → parsed b table ≡ Accepted d → ShortMonthRange d.value → (y : ℕ) × (m : ℕ) × DaysText (unmarked (trimmed (uppercase (formatted b table)))) y m × (d.value ≡ days_upto y m 30)
 from-days b table e k = days.from-days b table e k
 

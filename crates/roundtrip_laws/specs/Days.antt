@@ -1,4 +1,4 @@
--- The texts that the ported reader reads as the days of a month: dddd_mm_XX, with white space and more hyphens where it admits them.
+-- The texts that the ported reader reads as the days of a month: dddd-mm-XX, with white space and more hyphens where it admits them.
 use Rattle.std.specs.Prelude.{ℕ, ◌+◌, ◌<◌, ◌≡◌, true, List, [], ◌++◌, length}
 use Prim.Native.Char.{code}
 use Rattle.chars.specs.Ascii.{ascii}

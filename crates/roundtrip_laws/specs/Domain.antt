@@ -40,7 +40,7 @@ Known v = AllDated v ⊎ ShortMonthRange v
 abbrev pub days_upto : ℕ → ℕ → ℕ → DateValue
 days_upto y m last = Between (datetime (pos y) (month m) (day 0) NoTime) (datetime (pos y) (month m) (day last) NoTime)
 
--- a text dddd_mm_XX in a month under 31 days: the strict reader's range ends on the month's last day, the ported reader's on the 31st
+-- a text dddd-mm-XX in a month under 31 days: the strict reader's range ends on the month's last day, the ported reader's on the 31st
 pub data ShortDays : List ℕ → DateValue → DateValue → Type 0 where
   dddd_mm_XX : {s : List ℕ} {m : ℕ} (n : ℕ) → n < 10000 → Field (code "-") 1 12 s m → month_length m (pos n) < 31
       → ShortDays (digits 4 n ++ (s ++ ascii "-XX")) (days_upto n m (month_length m (pos n) - 1)) (days_upto n m 30)

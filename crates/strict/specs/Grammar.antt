@@ -65,7 +65,7 @@ plain n m d = datetime (pos n) m d NoTime
 unfoldable pub last_day : ℕ → ℕ → ℕ
 last_day m n = month_length m (pos n) - 1
 
--- two digits and XX, three digits and X, dddd_XX, dddd_XX_XX or dddd_mm_XX: from the first that it may be to the last
+-- two digits and XX, three digits and X, dddd-XX, dddd-XX-XX or dddd-mm-XX: from the first that it may be to the last
 pub data Unknown : List ℕ → DateValue → Type 0 where
   dd_xx : (n : ℕ) → n < 100 → Unknown (digits 2 n ++ ascii "XX") (Between (plain (n * 100) NoMonth NoDay) (plain (n * 100 + 99) NoMonth NoDay))
   ddd_x : (n : ℕ) → n < 1000 → Unknown (digits 3 n ++ ascii "X") (Between (plain (n * 10) NoMonth NoDay) (plain (n * 10 + 9) NoMonth NoDay))
