@@ -1,7 +1,5 @@
-/* What a program takes of the kit's C library for x86-64, for another processor: its arguments, a file opened to be read, and errno. */
-#define _GNU_SOURCE
+/* What a program takes of the kit's C library for x86-64, for another processor: its arguments, and errno. */
 #include <errno.h>
-#include <fcntl.h>
 #include <stddef.h>
 #include <string.h>
 #include <sys/types.h>
@@ -28,5 +26,3 @@ ssize_t rattle_arg(size_t i, unsigned char *buf, size_t room) {
     memcpy(buf, words[i], n < room ? n : room);
     return n <= room ? (ssize_t)n : -2;
 }
-
-int rattle_open_to_read(const unsigned char *path) { return open((const char *)path, O_RDONLY | O_NOCTTY | O_CLOEXEC); }
