@@ -6,11 +6,11 @@
 ghost use Rattle.std.specs.Prelude.{◌≡◌, true, ◌-◌, ◌≤◌, ◌<◌, length, take, drop};
 ghost use Rattle.datecheck.specs.Goes.{Went, Refilled, Turned};
 
+use sheets::{State, Taken};
 use std::env::{Env, FillError};
 use std::fs;
 use std::io::Read;
 use std::rt::Files;
-use sheets::{State, Taken};
 
 // Why the steps over a block ended: they wait for more of the file, there is no room for what the next may say, or the report is over.
 #[derive(Clone, Copy)]
@@ -79,7 +79,14 @@ fn stopped(from: usize, put: usize, stop: Stop, state: State) -> Done
 }
 
 // Moves what was not taken to the front of the block, and reads behind it, where there is room; nothing read is the file's end.
-fn refill<R: Read>(rt: &impl Eprint, file: &mut R, buf: &mut [u8], from: usize, have: usize, state: State) -> Progress
+fn refill<R: Read>(
+    rt: &impl Eprint,
+    file: &mut R,
+    buf: &mut [u8],
+    from: usize,
+    have: usize,
+    state: State,
+) -> Progress
     requires { (from ≤ have) × ((have ≤ length buf.old) × (have - from < length buf.old)) }
     ensures from_le_have { (result.from ≤ result.have) × (result.have ≤ length buf.new) }
     ensures state_value { (result.state ≡ state) × (result.more ≡ true → Refilled (drop from (take have buf.old)) result.last (drop result.from (take result.have buf.new))) }
@@ -107,7 +114,14 @@ fn refill<R: Read>(rt: &impl Eprint, file: &mut R, buf: &mut [u8], from: usize, 
 
 // The steps over what stands in the block. What they put is out before the next turn, and before the next read. Steps that wait have left so
 // little that there is room to read.
-fn turn<R: Read>(rt: &(impl Print + Eprint), file: &mut R, buf: &mut [u8], table: &mut [usize; 512], out: &mut [u8], p: Progress) -> Progress
+fn turn<R: Read>(
+    rt: &(impl Print + Eprint),
+    file: &mut R,
+    buf: &mut [u8],
+    table: &mut [usize; 512],
+    out: &mut [u8],
+    p: Progress,
+) -> Progress
     requires { (p.from ≤ p.have) × ((p.have ≤ length buf.old) × (65539 < length buf.old)) }
     ensures from_le_have { (result.from ≤ result.have) × (result.have ≤ length buf.new) }
     ensures turned { result.more ≡ true → Turned p.last (drop p.from (take p.have buf.old)) p.state out.new result.last (drop result.from (take result.have buf.new)) result.state }
@@ -147,7 +161,13 @@ fn turn<R: Read>(rt: &(impl Print + Eprint), file: &mut R, buf: &mut [u8], table
 }
 
 // The loop: a count of turns that no run uses up falls.
-fn run<R: Read>(rt: &(impl Print + Eprint), file: &mut R, buf: &mut [u8], table: &mut [usize; 512], out: &mut [u8])
+fn run<R: Read>(
+    rt: &(impl Print + Eprint),
+    file: &mut R,
+    buf: &mut [u8],
+    table: &mut [usize; 512],
+    out: &mut [u8],
+)
     requires { 65539 < length buf.old }
 {
     let mut turns = u64::MAX;

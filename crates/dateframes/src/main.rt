@@ -55,7 +55,14 @@ fn steps(rt: &(impl Print + Eprint), block: &[u8], long: bool, out: &mut [u8]) -
 
 // Answers the lines of a block, of which the first bytes were kept and as many as are counted were read behind them, and moves what is left
 // to its front: a run goes on with just those bytes read.
-fn answer_read(rt: &(impl Print + Eprint), buf: &mut [u8], have: usize, count: usize, long: bool, out: &mut [u8]) -> State
+fn answer_read(
+    rt: &(impl Print + Eprint),
+    buf: &mut [u8],
+    have: usize,
+    count: usize,
+    long: bool,
+    out: &mut [u8],
+) -> State
     requires { (have + count ≤ length buf.old) × (147 ≤ length out.old) }
     ensures onward { Onward line_answer 16384 (take count (drop have buf.old)) (take have buf.old) long (take result.have buf.new) result.long }
     ensures no_feed { result.more ≡ true → NoFeed (take result.have buf.new) × (result.have ≤ 16384) }
@@ -72,7 +79,13 @@ fn answer_read(rt: &(impl Print + Eprint), buf: &mut [u8], have: usize, count: u
 }
 
 // One read, and the lines that it completes: their answers are out before the next.
-fn turn<R: Read>(rt: &(impl Print + Eprint), input: &mut R, buf: &mut [u8], out: &mut [u8], st: State) -> State
+fn turn<R: Read>(
+    rt: &(impl Print + Eprint),
+    input: &mut R,
+    buf: &mut [u8],
+    out: &mut [u8],
+    st: State,
+) -> State
     requires { (st.have ≤ length buf.old) × (147 ≤ length out.old) }
     ensures { result.more ≡ true → NoFeed (take result.have buf.new) × (result.have ≤ 16384) }
 {
