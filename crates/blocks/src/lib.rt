@@ -39,8 +39,8 @@ pub fn flush(rt: &(impl Print + Eprint), out: &[u8], put: usize) -> bool
     false
 }
 
-// Reads, and again if a signal interrupted it; not more than a million times, so that it ends. The answer is -1, and then it is said of what is
-// read by this name why, or how many bytes were read, which are no more than were lent.
+// Reads, and again if a signal interrupted it; not more than a million times, so that it ends. The answer is -1, and then it says by this name
+// what was not read, and why; or how many bytes were read, which are no more than were lent.
 pub fn read_on<R: Read>(rt: &impl Eprint, from: &mut R, name: &str, buf: &mut [u8]) -> isize
     ensures { MayRead (length buf.old) result }
 {

@@ -192,27 +192,29 @@ fn check<R: Read>(rt: &(impl Print + Eprint), file: &mut R) {
     run(rt, file, &mut buf, &mut table, &mut out);
 }
 
-// The file of this name.
-fn check_named(rt: &(impl Print + Eprint + Files), name: &str) {
-    match fs::open(rt, name) {
+// The file at a path.
+fn check_path(rt: &(impl Print + Eprint + Files), path: &str) {
+    match fs::open(rt, path) {
         Ok(mut file) => check(rt, &mut file),
         Err(e) => {
-            let _ = eprintln!(rt; "{name}: {e}");
+            let _ = eprintln!(rt; "{path}: {e}");
         }
     }
 }
 
 // The file that the argument names.
-fn check_argument(rt: &(impl Print + Eprint + Files + Env)) {
+fn check_named(rt: &(impl Print + Eprint + Files + Env)) {
     let mut name = [0u8; 4096];
     let Ok(n) = rt.arg(1, &mut name) else {
         let _ = eprintln!(rt; "the file's name: File name too long");
         return;
     };
     match str::from_utf8(&name[..n]) {
-        Ok(path) => check_named(rt, path),
+        Ok(path) => check_path(rt, path),
         Err(_) => {
-            let _ = eprintln!(rt; "the file's name: bytes that are not UTF-8");
+            let _ = eprintln!(rt;
+                "the file's name: bytes that are not UTF-8; hand the file in on standard input"
+            );
         }
     }
 }
@@ -228,7 +230,7 @@ fn main(rt: HostRuntime) {
         return;
     }
     if given(&rt, 1) {
-        check_argument(&rt);
+        check_named(&rt);
         return;
     }
     check(&rt, &mut rt.stdin());

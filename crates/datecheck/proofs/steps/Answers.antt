@@ -1,7 +1,5 @@
-use mathlib.Core.Path.{◌≡◌}
 use Prim.Native.Nat.{◌+◌, ◌<◌}
 use native.Mathlib.Omega.{arith}
-use lib.ListN.{length}
 use Rattle.runs.proofs.Onwards.{onward-none}
 use Rattle.datecheck.proofs.Taking.{goes, went-waits, went-full, went-ends}
 use Rattle.datecheck.proofs.steps.Goals as goal
