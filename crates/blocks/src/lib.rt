@@ -5,7 +5,9 @@ ghost use Rattle.std.specs.Prelude.{◌≡◌, true, ◌≤◌, length};
 ghost use Rattle.blocks.specs.Moves.{moved_down};
 ghost use Rattle.blocks.specs.Reads.{MayRead};
 
-use libc::STDOUT_FILENO;
+use std::fmt::Display;
+use std::io;
+use std::io::{ErrorKind, Read};
 
 // Moves the bytes from a place to another down to the front; places that are not in the block in this order move nothing.
 pub fn move_down(buf: &mut [u8], from: usize, to: usize)
@@ -23,28 +25,49 @@ pub fn move_down(buf: &mut [u8], from: usize, to: usize)
 }
 
 // Writes the first bytes, as many as were put, to standard output, or says why it cannot; more than there are it does not write.
-pub fn flush(out: &[u8], put: usize) -> bool
+pub fn flush(rt: &(impl Print + Eprint), out: &[u8], put: usize) -> bool
     ensures { result ≡ true → put ≤ length out.now }
 {
     if put <= out.len() {
-        if io::write_all(STDOUT_FILENO, &out[..put]) {
-            return true;
+        match rt.write_all(&out[..put]) {
+            Ok(()) => return true,
+            Err(e) => fail(rt, "standard output", &e),
         }
+    } else {
+        fail(rt, "standard output", &"more was put than there is");
     }
-    os::fail(b"standard output");
     false
 }
 
-// Reads, and again if a signal interrupted it; not more than a million times, so that it ends. The answer is -1, or how many bytes were read,
-// which are no more than were lent.
-pub fn read_on(fd: i32, buf: &mut [u8]) -> isize
+// Reads, and again if a signal interrupted it; not more than a million times, so that it ends. The answer is -1, and then it says by this name
+// what was not read, and why; or how many bytes were read, which are no more than were lent.
+pub fn read_on<R: Read>(rt: &impl Eprint, from: &mut R, name: &str, buf: &mut [u8]) -> isize
     ensures { MayRead (length buf.old) result }
 {
-    let mut got = libc::read(fd, buf);
+    let mut got = from.read(buf);
     let mut tries: u32 = 1000000;
-    while tries > 0 && got < 0 && os::errno() == libc::EINTR {
-        got = libc::read(fd, buf);
+    while tries > 0 && interrupted(&got) {
+        got = from.read(buf);
         tries -= 1;
     }
-    got
+    match got {
+        Ok(n) => n as isize,
+        Err(e) => {
+            fail(rt, name, &e);
+            -1
+        }
+    }
+}
+
+// A signal came before a byte did.
+fn interrupted(got: &io::Result<usize>) -> bool {
+    match got {
+        Ok(_) => false,
+        Err(e) => e.kind() == ErrorKind::Interrupted,
+    }
+}
+
+// Says on standard error what failed, and why.
+fn fail(rt: &impl Eprint, what: &str, why: &impl Display) {
+    let _ = eprintln!(rt; "{what}: {why}");
 }

@@ -3,8 +3,7 @@
 use mathlib.Core.Path.{◌≡◌, refl, sym, ap, ◌∙◌}
 use mathlib.Core.Bool.{Bool, true, false, false≢true}
 use mathlib.Core.List.{List, [], ◌∷◌, ◌++◌, append-nil}
-use Prim.Native.Nat.{ℕ, ◌+◌, ◌-◌, ◌≤◌, ◌<◌, min}
-use native.Mathlib.Nat.{min-eq_left}
+use Prim.Native.Nat.{ℕ, ◌+◌, ◌-◌, ◌≤◌, ◌<◌}
 use native.Mathlib.Omega.{arith}
 use borrow.Author.Tests.{eqb-true, eqb-false}
 use borrow.Rule.Slice.PartMut.{put_mid}
@@ -12,11 +11,10 @@ use mir.Syntax.{w64}
 use mir.Val.{SFits, of_z, to_z}
 use mir.ValLaws.{to_z-of_z}
 use lib.Dec.{eqb}
-use lib.IntN.{ℤ, pos, negsuc}
+use lib.IntN.{ℤ, pos, negsuc, nat_abs}
 use lib.Signed.{lt_z}
 use lib.ListN.{length, take, drop, length-drop}
 use lib.Seq.{length-take-le, drop-drop}
-use Rattle.io.specs.Counts.{clamp_len}
 use Rattle.runs.specs.Runs.{Onward}
 use Rattle.runs.specs.Runs.Run.{read, end}
 use Rattle.blocks.specs.Moves.{moved_down}
@@ -38,42 +36,45 @@ nil-of (b ∷ s) h = absurd (omega arith)
 
 -- what was read stands behind what was kept, as many bytes as are counted; none is the end
 module _ (b new : List ℕ) where
-  read_some : (k most : ℕ) → k ≤ most → length new ≡ min k most → (t : Bool) → eqb k 0 ≡ t → Refilled b t (b ++ new)
-  read_some k most h l true q =
-      let e = eqb-true k 0 q in
-      let z : length new ≡ 0 = omega (arith, l ∙ min-eq_left h) in
+  read_some : (k : ℕ) → length new ≡ k → (t : Bool) → eqb k 0 ≡ t → Refilled b t (b ++ new)
+  read_some k l true q =
+      let z : length new ≡ 0 = l ∙ eqb-true k 0 q in
       rw (nil-of new z, append-nil b) none
-  read_some k most h l false q =
+  read_some k l false q =
       let e = eqb-false k 0 q in
-      let z : 0 < length new = omega (arith, l ∙ min-eq_left h) in
+      let z : 0 < length new = omega arith in
       bytes new z
 
-  read-in : (z : ℤ) (most : ℕ) → lt_z z (pos 0) ≡ false → MayRead most z → length new ≡ clamp_len z most → Refilled b (eqb (of_z w64 z) 0) (b ++ new)
-  read-in (pos k) most n h l = read_some k most h l (eqb k 0) refl
-  read-in (negsuc k) most n h l = absurd (false≢true (sym n))
+  read-in : (z : ℤ) → lt_z z (pos 0) ≡ false → length new ≡ nat_abs z → Refilled b (eqb (of_z w64 z) 0) (b ++ new)
+  read-in (pos k) n l = read_some k l (eqb k 0) refl
+  read-in (negsuc k) n l = absurd (false≢true (sym n))
+
+-- what is no failure counts no more bytes than were lent
+within : (z : ℤ) (lent : ℕ) → lt_z z (pos 0) ≡ false → MayRead lent z → nat_abs z ≤ lent
+within (pos k) lent n r = r
+within (negsuc k) lent n r = absurd (false≢true (sym n))
 
 -- in the buffer to whose front it was moved
-module _ (buf m part : List ℕ) (from have count : ℕ) (h : from ≤ have) (g : have ≤ length buf) (e : m ≡ moved_down from have buf) (l : length m ≡ length buf)
-    (p : length part ≡ length buf - (have - from)) (k : count ≤ length part)
-    (w : length (put_mid (have - from) (length m - (have - from)) m part) ≡ length buf) where
+module _ (buf m part : List ℕ) (from have : ℕ) (h : from ≤ have) (g : have ≤ length buf) (e : m ≡ moved_down from have buf) (l : length m ≡ length buf)
+    (p : length part ≡ length buf - (have - from)) where
   abbrev after : List ℕ
   after = put_mid (have - from) (length m - (have - from)) m part
 
-  front-is : take (have - from + count) after ≡ drop from (take have buf) ++ take count part
-  front-is =
+  front-is : (count : ℕ) → count ≤ length part → take (have - from + count) after ≡ drop from (take have buf) ++ take count part
+  front-is count k =
       filled m part (have - from) count (omega arith) k
       ∙ ap (λ (x : List ℕ). x ++ take count part) (ap (take (have - from)) e ∙ moved-kept from have buf h g)
 
-  -- the part that was lent, and the part that was counted in
-  rest-long : (x : List ℕ) → length x ≡ length buf → length (take (length x - (have - from)) (drop (have - from) x)) ≡ length part
-  rest-long x i = let d = length-drop (have - from) x in length-take-le (length x - (have - from)) (drop (have - from) x) (omega arith) ∙ omega arith
+  -- the part that was lent
+  rest-long : length (take (length m - (have - from)) (drop (have - from) m)) ≡ length part
+  rest-long = let d = length-drop (have - from) m in length-take-le (length m - (have - from)) (drop (have - from) m) (omega arith) ∙ omega arith
 
   pub refilled : (z : ℤ) → SFits w64 z → lt_z (to_z w64 (of_z w64 z)) (pos 0) ≡ false → MayRead (length (take (length m - (have - from)) (drop (have - from) m))) z
-      → count ≡ clamp_len (to_z w64 (of_z w64 z)) (length (take (length after - (have - from)) (drop (have - from) after)))
-      → Refilled (drop from (take have buf)) (eqb (of_z w64 z) 0) (take (have - from + count) after)
-  refilled z f n r c =
-      rw front-is
-      (read-in (drop from (take have buf)) (take count part) z (length part) (rw (to_z-of_z w64 z f) at n) (rw (rest-long m l) at r) (length-take-le count part k ∙ (rw (to_z-of_z w64 z f, rest-long after w) at c)))
+      → Refilled (drop from (take have buf)) (eqb (of_z w64 z) 0) (take (have - from + nat_abs (to_z w64 (of_z w64 z))) after)
+  refilled z f n r =
+      let i = rw (to_z-of_z w64 z f) at n in
+      let k = within z (length part) i (rw rest-long at r) in
+      rw (to_z-of_z w64 z f, front-is (nat_abs z) k) (read-in (drop from (take have buf)) (take (nat_abs z) part) z i (length-take-le (nat_abs z) part k))
 
 -- steps that wait do so before the file's end, and have left little
 pub waits-little : {last : Bool} {b b' put : List ℕ} {st st' : State} → Went last b st Waits b' st' put → (last ≡ false) × (length b' ≤ 65539)

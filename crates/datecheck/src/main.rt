@@ -6,8 +6,11 @@
 ghost use Rattle.std.specs.Prelude.{◌≡◌, true, ◌-◌, ◌≤◌, ◌<◌, length, take, drop};
 ghost use Rattle.datecheck.specs.Goes.{Went, Refilled, Turned};
 
-use libc::{STDERR_FILENO, STDIN_FILENO};
 use sheets::{State, Taken};
+use std::env::{Env, FillError};
+use std::fs;
+use std::io::Read;
+use std::rt::Files;
 
 // Why the steps over a block ended: they wait for more of the file, there is no room for what the next may say, or the report is over.
 #[derive(Clone, Copy)]
@@ -76,16 +79,22 @@ fn stopped(from: usize, put: usize, stop: Stop, state: State) -> Done
 }
 
 // Moves what was not taken to the front of the block, and reads behind it, where there is room; nothing read is the file's end.
-fn refill(fd: i32, buf: &mut [u8], from: usize, have: usize, state: State) -> Progress
+fn refill<R: Read>(
+    rt: &impl Eprint,
+    file: &mut R,
+    buf: &mut [u8],
+    from: usize,
+    have: usize,
+    state: State,
+) -> Progress
     requires { (from ≤ have) × ((have ≤ length buf.old) × (have - from < length buf.old)) }
     ensures from_le_have { (result.from ≤ result.have) × (result.have ≤ length buf.new) }
     ensures state_value { (result.state ≡ state) × (result.more ≡ true → Refilled (drop from (take have buf.old)) result.last (drop result.from (take result.have buf.new))) }
 {
     let n = have - from;
     blocks::move_down(buf, from, have);
-    let got = blocks::read_on(fd, &mut buf[n..]);
+    let got = blocks::read_on(rt, file, "the file", &mut buf[n..]);
     if got < 0 {
-        os::fail(b"the file");
         return Progress {
             from: 0,
             have: 0,
@@ -94,10 +103,9 @@ fn refill(fd: i32, buf: &mut [u8], from: usize, have: usize, state: State) -> Pr
             state,
         };
     }
-    let count = io::count(got, &buf[n..]);
     Progress {
         from: 0,
-        have: n + count,
+        have: n + got as usize,
         last: got == 0,
         more: true,
         state,
@@ -106,7 +114,14 @@ fn refill(fd: i32, buf: &mut [u8], from: usize, have: usize, state: State) -> Pr
 
 // The steps over what stands in the block. What they put is out before the next turn, and before the next read. Steps that wait have left so
 // little that there is room to read.
-fn turn(fd: i32, buf: &mut [u8], table: &mut [usize; 512], out: &mut [u8], p: Progress) -> Progress
+fn turn<R: Read>(
+    rt: &(impl Print + Eprint),
+    file: &mut R,
+    buf: &mut [u8],
+    table: &mut [usize; 512],
+    out: &mut [u8],
+    p: Progress,
+) -> Progress
     requires { (p.from ≤ p.have) × ((p.have ≤ length buf.old) × (65539 < length buf.old)) }
     ensures from_le_have { (result.from ≤ result.have) × (result.have ≤ length buf.new) }
     ensures turned { result.more ≡ true → Turned p.last (drop p.from (take p.have buf.old)) p.state out.new result.last (drop result.from (take result.have buf.new)) result.state }
@@ -117,12 +132,12 @@ fn turn(fd: i32, buf: &mut [u8], table: &mut [usize; 512], out: &mut [u8], p: Pr
     let d = steps(&buf[from..have], p.last, st, table, out);
     let at = from + d.from;
     let kept = d.state;
-    let good = blocks::flush(out, d.put);
+    let good = blocks::flush(rt, out, d.put);
     let stop = d.stop;
     match stop {
         Stop::Waits => {
             if good {
-                return refill(fd, buf, at, have, kept);
+                return refill(rt, file, buf, at, have, kept);
             }
         }
         Stop::Full => {
@@ -146,7 +161,13 @@ fn turn(fd: i32, buf: &mut [u8], table: &mut [usize; 512], out: &mut [u8], p: Pr
 }
 
 // The loop: a count of turns that no run uses up falls.
-fn run(fd: i32, buf: &mut [u8], table: &mut [usize; 512], out: &mut [u8])
+fn run<R: Read>(
+    rt: &(impl Print + Eprint),
+    file: &mut R,
+    buf: &mut [u8],
+    table: &mut [usize; 512],
+    out: &mut [u8],
+)
     requires { 65539 < length buf.old }
 {
     let mut turns = u64::MAX;
@@ -158,44 +179,59 @@ fn run(fd: i32, buf: &mut [u8], table: &mut [usize; 512], out: &mut [u8])
         state: sheets::fresh(),
     };
     while turns > 0 && p.more {
-        p = turn(fd, buf, table, out, p);
+        p = turn(rt, file, buf, table, out, p);
         turns -= 1;
     }
 }
 
 // A file that is open.
-fn check(fd: i32) {
+fn check<R: Read>(rt: &(impl Print + Eprint), file: &mut R) {
     let mut buf = [0u8; 262144];
     let mut out = [0u8; 524288];
     let mut table = [0usize; 512];
-    run(fd, &mut buf, &mut table, &mut out);
+    run(rt, file, &mut buf, &mut table, &mut out);
+}
+
+// The file at a path.
+fn check_path(rt: &(impl Print + Eprint + Files), path: &str) {
+    match fs::open(rt, path) {
+        Ok(mut file) => check(rt, &mut file),
+        Err(e) => {
+            let _ = eprintln!(rt; "{path}: {e}");
+        }
+    }
 }
 
 // The file that the argument names.
-fn check_named() {
+fn check_named(rt: &(impl Print + Eprint + Files + Env)) {
     let mut name = [0u8; 4096];
-    let n = os::arg(1, &mut name);
-    if os::errno() != 0 {
-        os::fail(b"the file's name");
+    let Ok(n) = rt.arg(1, &mut name) else {
+        let _ = eprintln!(rt; "the file's name: File name too long");
         return;
+    };
+    match str::from_utf8(&name[..n]) {
+        Ok(path) => check_path(rt, path),
+        Err(_) => {
+            let _ = eprintln!(rt;
+                "the file's name: bytes that are not UTF-8; hand the file in on standard input"
+            );
+        }
     }
-    let fd = os::open_read(&name[..n]);
-    if fd < 0 {
-        os::fail(&name[..n]);
-        return;
-    }
-    check(fd);
 }
 
-fn main() {
-    let count = os::arg_count();
-    if count > 2 {
-        io::write_all(STDERR_FILENO, b"datecheck: one file, or standard input\n");
+// Whether there is an argument of this number.
+fn given(rt: &impl Env, i: usize) -> bool {
+    !matches!(rt.arg(i, &mut []), Err(FillError::NotPresent))
+}
+
+fn main(rt: HostRuntime) {
+    if given(&rt, 2) {
+        let _ = eprintln!(rt; "datecheck: one file, or standard input");
         return;
     }
-    if count == 2 {
-        check_named();
+    if given(&rt, 1) {
+        check_named(&rt);
         return;
     }
-    check(STDIN_FILENO);
+    check(&rt, &mut rt.stdin());
 }

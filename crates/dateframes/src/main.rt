@@ -8,7 +8,7 @@ ghost use Rattle.lines.specs.Lines.{NoFeed};
 ghost use Rattle.lines.specs.Runs.{Onward};
 ghost use Rattle.frames.specs.Frame.{line_answer};
 
-use libc::STDIN_FILENO;
+use std::io::Read;
 
 // What is kept between reads: how many bytes of a line stand at the front of the block, whether that line is too long already, and whether
 // to go on.
@@ -29,7 +29,7 @@ struct Done {
 
 // Steps over a block until no line feed is left in it, and writes what each put. There is room for the longest answer, so that each step that
 // stops for room took a line, and only a write that fails ends this early.
-fn steps(block: &[u8], long: bool, out: &mut [u8]) -> Done
+fn steps(rt: &(impl Print + Eprint), block: &[u8], long: bool, out: &mut [u8]) -> Done
     requires { 147 ≤ length out.old }
     ensures from_in_bounds { result.from ≤ length block.now }
     ensures onward { Onward line_answer 16384 [] block.now long (drop result.from block.now) result.long }
@@ -41,7 +41,7 @@ fn steps(block: &[u8], long: bool, out: &mut [u8]) -> Done
         let t = lines::step(&block[at..], l, out);
         at += t.bytes;
         l = t.long;
-        let good = blocks::flush(out, t.put);
+        let good = blocks::flush(rt, out, t.put);
         if t.full & good {
             continue;
         }
@@ -55,13 +55,20 @@ fn steps(block: &[u8], long: bool, out: &mut [u8]) -> Done
 
 // Answers the lines of a block, of which the first bytes were kept and as many as are counted were read behind them, and moves what is left
 // to its front: a run goes on with just those bytes read.
-fn answer_read(buf: &mut [u8], have: usize, count: usize, long: bool, out: &mut [u8]) -> State
+fn answer_read(
+    rt: &(impl Print + Eprint),
+    buf: &mut [u8],
+    have: usize,
+    count: usize,
+    long: bool,
+    out: &mut [u8],
+) -> State
     requires { (have + count ≤ length buf.old) × (147 ≤ length out.old) }
     ensures onward { Onward line_answer 16384 (take count (drop have buf.old)) (take have buf.old) long (take result.have buf.new) result.long }
     ensures no_feed { result.more ≡ true → NoFeed (take result.have buf.new) × (result.have ≤ 16384) }
 {
     let n = have + count;
-    let d = steps(&buf[..n], long, out);
+    let d = steps(rt, &buf[..n], long, out);
     let from = d.from;
     blocks::move_down(buf, from, n);
     State {
@@ -72,7 +79,13 @@ fn answer_read(buf: &mut [u8], have: usize, count: usize, long: bool, out: &mut 
 }
 
 // One read, and the lines that it completes: their answers are out before the next.
-fn turn(buf: &mut [u8], out: &mut [u8], st: State) -> State
+fn turn<R: Read>(
+    rt: &(impl Print + Eprint),
+    input: &mut R,
+    buf: &mut [u8],
+    out: &mut [u8],
+    st: State,
+) -> State
     requires { (st.have ≤ length buf.old) × (147 ≤ length out.old) }
     ensures { result.more ≡ true → NoFeed (take result.have buf.new) × (result.have ≤ 16384) }
 {
@@ -82,22 +95,20 @@ fn turn(buf: &mut [u8], out: &mut [u8], st: State) -> State
         long: false,
         more: false,
     };
-    let got = blocks::read_on(STDIN_FILENO, &mut buf[have..]);
+    let got = blocks::read_on(rt, input, "standard input", &mut buf[have..]);
     if got < 0 {
-        os::fail(b"standard input");
         return stop;
     }
     if got == 0 {
         let k = lines::finish(&buf[..have], st.long, out);
-        blocks::flush(out, k);
+        blocks::flush(rt, out, k);
         return stop;
     }
-    let count = io::count(got, &buf[have..]);
-    answer_read(buf, have, count, st.long, out)
+    answer_read(rt, buf, have, got as usize, st.long, out)
 }
 
 // The loop: a count of turns that no run uses up falls.
-fn run(buf: &mut [u8], out: &mut [u8])
+fn run<R: Read>(rt: &(impl Print + Eprint), input: &mut R, buf: &mut [u8], out: &mut [u8])
     requires { (16384 < length buf.old) × (147 ≤ length out.old) }
 {
     let mut turns = u64::MAX;
@@ -107,13 +118,13 @@ fn run(buf: &mut [u8], out: &mut [u8])
         more: true,
     };
     while turns > 0 && st.more {
-        st = turn(buf, out, st);
+        st = turn(rt, input, buf, out, st);
         turns -= 1;
     }
 }
 
-fn main() {
-    let mut buf = io::large_buffer();
-    let mut out = io::large_buffer();
-    run(&mut buf, &mut out);
+fn main(rt: HostRuntime) {
+    let mut buf = [0u8; 65536];
+    let mut out = [0u8; 65536];
+    run(&rt, &mut rt.stdin(), &mut buf, &mut out);
 }
