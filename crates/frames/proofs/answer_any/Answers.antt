@@ -14,5 +14,5 @@ pub returns : goal.returns
 returns c =
     let a = c.args in
     let x = frame_read a.f.now in
-    let e = answer_is a.f.now {(c.read_frame.ensures.value, c.read_frame.ensures.typed) = x} c.byte_at.ensures c.asked-op.ensures refl in
+    let e = answer_is a.f.now {r = x} c.byte_at.ensures c.asked-op.ensures refl in
     answer-tried (frame_answer a.f.now) a.out.now (c.write_said.ensures.value x c.read_frame.ensures.value c.read_frame.ensures.typed ∙ ap (λ (l : List ℕ). answer false l (length a.out.now)) e) (c.write_said.ensures.out_after x c.read_frame.ensures.value c.read_frame.ensures.typed ∙ ap (λ (l : List ℕ). afterwards false l a.out.now) e) c.length_of.ensures
