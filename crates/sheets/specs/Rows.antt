@@ -19,12 +19,12 @@ use Rattle.sheets.specs.declared.Checked.TheVariants.{Good, Bad}
 use Rattle.sheets.specs.Tallies.{one_row, one_bad, one_date}
 
 -- the own bytes of the cell of a column; none where there is no such column
-abbrev pub field_own : List (List ℕ) → ℕ → List ℕ
-field_own cs k = get_or cs k []
+abbrev pub own_at : List (List ℕ) → ℕ → List ℕ
+own_at cs k = get_or cs k []
 
 -- its text
 abbrev pub text_at : List (List ℕ) → ℕ → List ℕ
-text_at cs k = undoubled (field_own cs k)
+text_at cs k = undoubled (own_at cs k)
 
 -- the column of the key: `key`, else `id`
 unfoldable pub key_column : Columns → ℕ
@@ -32,7 +32,7 @@ key_column c = pick (ltb c.key 256) c.key c.id
 
 -- a cell is longer than 4,096 bytes
 abbrev pub is_long : List (List ℕ) → ℕ → Bool
-is_long cs k = ltb 4096 (length (field_own cs k))
+is_long cs k = ltb 4096 (length (own_at cs k))
 
 -- one of the six cells of a start and an end is
 unfoldable pub long_six : Columns → List (List ℕ) → Bool

@@ -63,7 +63,7 @@ use Rattle.puts.specs.Marks.{mark_text}
 use Rattle.puts.specs.Answers.{measured}
 use Rattle.writer.specs.Texts.{minus, year_text, written_month, written_day, day_parts, month_parts, parts_of, part_text, hyphen_part, parts_text, datetime_text, value_text, date_text, too_large, end_panics, value_panics, panics}
 use Rattle.writer.specs.Answers.{date_measured}
-use Rattle.verdicts.specs.Dates as dates◌
+use Rattle.verdicts.specs.Dates as dates_specs
 use Rattle.verdicts.specs.Plain as plains
 use Rattle.verdicts.specs.Windows as windows
 use Rattle.verdicts.specs.Fields as cells_of
