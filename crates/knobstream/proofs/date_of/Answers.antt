@@ -5,4 +5,4 @@ use Rattle.knobstream.proofs.date_of.Goals as goal
 pub returns : goal.returns
 unfolding date_by
 returns c =
-    simp (← c.value_of_lem.ensures, ← c.is_set-uncertain.ensures, ← c.is_set-approximate.ensures)
+    simp (← c.value_of-value.ensures, ← c.is_set-uncertain.ensures, ← c.is_set-approximate.ensures)
