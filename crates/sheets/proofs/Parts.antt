@@ -562,14 +562,14 @@ one-past {st = st} r a o x =
 more-some : (a b : List ℕ) → 0 < length b → 0 < length (a ++ b)
 more-some a b h = let l = length-append a b in omega arith
 
-rows-past : {k : Separator} {st : State} {a : List ℕ} (b : List ℕ) → 0 < length b → st.phase ≡ Rows → st.separator ≡ k → RowsOf k b a → Past st a
-rows-past {st = st} b h p q no_row = record { mid = st; upto = here; in_rows = p }
-rows-past {k} b h p q (a_row r a l m) =
-    let o = over-row p q r (row-known k r (a ++ b) (more-some a b h) l) in
-    one-past r a o (rows-past b h o.in_rows o.by_separator m)
-rows-past b h p q (a_bad r a e m) =
-    let o = over-bad p q r e in
-    one-past r a o (rows-past b h o.in_rows o.by_separator m)
+rows-past : {k : Separator} (b : List ℕ) → 0 < length b → {st : State} {a : List ℕ} → st.phase ≡ Rows → st.separator ≡ k → RowsOf k b a → Past st a
+rows-past b h {st = st} p q no_row = record { mid = st; upto = here; in_rows = p }
+rows-past {k} b h {st = st} p q (a_row r a l m) =
+    let o = over-row {st = st} p q r (row-known k r (a ++ b) (more-some a b h) l) in
+    one-past r a o (rows-past b h {st = o.kept} o.in_rows o.by_separator m)
+rows-past b h {st = st} p q (a_bad r a e m) =
+    let o = over-bad {st = st} p q r e in
+    one-past r a o (rows-past b h {st = o.kept} o.in_rows o.by_separator m)
 
 -- a file has a header, then rows, then more: it counts what the header with the rows and the header with the rest count
 pub rows-add : (h : List ℕ) {st : State} → next false h fresh ≡ took (length h) [] st → (a b : List ℕ) → 0 < length b → RowsOf st.separator b a
