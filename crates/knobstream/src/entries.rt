@@ -66,8 +66,7 @@ fn plain_reply(a: Reply) -> PlainReply
 }
 
 // Adds the entry of an identifier and its days. A refusal changes nothing.
-#[unsafe(no_mangle)]
-pub extern "C" fn knobstream_add_entry(
+pub fn knobstream_add_entry(
     count: &mut usize,
     firsts: &mut [i32; 512],
     lasts: &mut [i32; 512],
@@ -83,8 +82,7 @@ pub extern "C" fn knobstream_add_entry(
 }
 
 // Removes the entry of an identifier. A refusal changes nothing.
-#[unsafe(no_mangle)]
-pub extern "C" fn knobstream_remove_entry(
+pub fn knobstream_remove_entry(
     count: &mut usize,
     firsts: &mut [i32; 512],
     lasts: &mut [i32; 512],
@@ -98,8 +96,7 @@ pub extern "C" fn knobstream_remove_entry(
 }
 
 // How many entries there are.
-#[unsafe(no_mangle)]
-pub extern "C" fn knobstream_count_entries(
+pub fn knobstream_count_entries(
     count: &usize,
     firsts: &[i32; 512],
     lasts: &[i32; 512],
@@ -111,8 +108,7 @@ pub extern "C" fn knobstream_count_entries(
 }
 
 // The entries in list order, three numbers each, at the front of the lent numbers; a refusal stores nothing.
-#[unsafe(no_mangle)]
-pub extern "C" fn knobstream_list_entries(
+pub fn knobstream_list_entries(
     count: &usize,
     firsts: &[i32; 512],
     lasts: &[i32; 512],
@@ -126,8 +122,7 @@ pub extern "C" fn knobstream_list_entries(
 }
 
 // Whether anything is dated in a period, and how many entries were read to tell.
-#[unsafe(no_mangle)]
-pub extern "C" fn knobstream_any_dated(
+pub fn knobstream_any_dated(
     count: &usize,
     firsts: &[i32; 512],
     lasts: &[i32; 512],

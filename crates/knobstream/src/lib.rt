@@ -25,15 +25,15 @@ use order::{Compared, Order};
 use puts::{Measured, Written};
 
 // The calls on a chronology.
-mod entries;
+pub mod entries;
 // Six fields.
-mod six;
+pub mod six;
 // Days and instants.
-mod moments;
+pub mod moments;
 // The text of a Date with its times.
-mod times;
+pub mod times;
 // Page ranges.
-mod ranges;
+pub mod ranges;
 
 // A Datetime. A part that is absent has 0 in its `has_` number and in its own.
 #[repr(C)]
@@ -341,40 +341,35 @@ fn write_far(
 const VERSION: u32 = 5;
 
 // The version of these calls and of their structs: a caller that was made for another must not go on.
-#[unsafe(no_mangle)]
-pub extern "C" fn knobstream_version() -> u32
+pub fn knobstream_version() -> u32
     ensures { result ≡ 5 }
 {
     VERSION
 }
 
 // A date field, read as the Rust reads it.
-#[unsafe(no_mangle)]
-pub extern "C" fn knobstream_parse(bytes: &[u8], table: &[u64], answer: &mut [u64; 7])
+pub fn knobstream_parse(bytes: &[u8], table: &[u64], answer: &mut [u64; 7])
     ensures { Answered answer.new (plain.read (parsed bytes.now table.now)) }
 {
     put(reader::parse_words(bytes, table), answer);
 }
 
 // A date field, read by the strict grammar alone.
-#[unsafe(no_mangle)]
-pub extern "C" fn knobstream_parse_strict(bytes: &[u8], table: &[u64], answer: &mut [u64; 7])
+pub fn knobstream_parse_strict(bytes: &[u8], table: &[u64], answer: &mut [u64; 7])
     ensures { Answered answer.new (plain.read (parsed_strict bytes.now table.now)) }
 {
     put(reader::parse_strict_words(bytes, table), answer);
 }
 
 // A date field, read by the grammar of level one: strict texts, seasons and long years.
-#[unsafe(no_mangle)]
-pub extern "C" fn knobstream_parse_level_one(bytes: &[u8], table: &[u64], answer: &mut [u64; 7])
+pub fn knobstream_parse_level_one(bytes: &[u8], table: &[u64], answer: &mut [u64; 7])
     ensures { Answered answer.new (plain.read (parsed_level_one bytes.now table.now)) }
 {
     put(reader::level_words(bytes, table), answer);
 }
 
 // The fields year, month and day; a list is absent if the number before it is 0, and then is not looked at.
-#[unsafe(no_mangle)]
-pub extern "C" fn knobstream_parse_three_fields(
+pub fn knobstream_parse_three_fields(
     year: &[u8],
     year_table: &[u64],
     has_month: u8,
@@ -402,8 +397,7 @@ pub extern "C" fn knobstream_parse_three_fields(
 
 // How long the text of a Date is, for whoever must reserve room before it is written; it refuses what the writer refuses, apart from NoRoom. The
 // Date is passed part by part: so its Datetimes go in registers.
-#[unsafe(no_mangle)]
-pub extern "C" fn knobstream_measure_date(
+pub fn knobstream_measure_date(
     first: PlainDatetime,
     second: PlainDatetime,
     shape: u8,
@@ -428,8 +422,7 @@ pub extern "C" fn knobstream_measure_date(
 }
 
 // The text of a Date, at the front of the lent buffer; a refusal stores nothing. Usual numbers are put at once.
-#[unsafe(no_mangle)]
-pub extern "C" fn knobstream_write_date(
+pub fn knobstream_write_date(
     first: PlainDatetime,
     second: PlainDatetime,
     out: &mut [u8],
@@ -461,8 +454,7 @@ pub extern "C" fn knobstream_write_date(
 }
 
 // The fields of a Date as lines, likewise.
-#[unsafe(no_mangle)]
-pub extern "C" fn knobstream_write_fields(
+pub fn knobstream_write_fields(
     first: PlainDatetime,
     second: PlainDatetime,
     out: &mut [u8],
@@ -484,8 +476,7 @@ pub extern "C" fn knobstream_write_fields(
 }
 
 // How long the text of a Date is by the writer of level one, likewise; it knows seasons, and refuses none.
-#[unsafe(no_mangle)]
-pub extern "C" fn knobstream_measure_level_one(
+pub fn knobstream_measure_level_one(
     first: PlainDatetime,
     second: PlainDatetime,
     shape: u8,
@@ -505,8 +496,7 @@ pub extern "C" fn knobstream_measure_level_one(
 }
 
 // The text of a Date by that writer, at the front of the lent buffer; a refusal stores nothing.
-#[unsafe(no_mangle)]
-pub extern "C" fn knobstream_write_level_one(
+pub fn knobstream_write_level_one(
     first: PlainDatetime,
     second: PlainDatetime,
     out: &mut [u8],
@@ -528,8 +518,7 @@ pub extern "C" fn knobstream_write_level_one(
 }
 
 // How the first Datetime stands to the second: -1 less, 0 equal, 1 greater, 2 none of these; or the number of the refusal, if one has a season.
-#[unsafe(no_mangle)]
-pub extern "C" fn knobstream_compare(a: PlainDatetime, b: PlainDatetime) -> i32
+pub fn knobstream_compare(a: PlainDatetime, b: PlainDatetime) -> i32
     ensures { result ≡ plain.compared_number (partial_cmp (back.datetime_of a) (back.datetime_of b)) }
 {
     let x = datetime_of(a);
@@ -538,8 +527,7 @@ pub extern "C" fn knobstream_compare(a: PlainDatetime, b: PlainDatetime) -> i32
 }
 
 // The answer to a line of hexadecimal digits, as a line at the front of the lent buffer; without room for it nothing is stored.
-#[unsafe(no_mangle)]
-pub extern "C" fn knobstream_answer_frame(line: &[u8], out: &mut [u8]) -> PlainWritten
+pub fn knobstream_answer_frame(line: &[u8], out: &mut [u8]) -> PlainWritten
     ensures value { result ≡ plain.written (answer false (line_answer line.now) (length out.old)) }
     ensures out_after { out.new ≡ afterwards false (line_answer line.now) out.old }
 {

@@ -66,8 +66,7 @@ fn plain_instant(i: Instant) -> PlainInstant
 }
 
 // The first and the last day that a Datetime covers.
-#[unsafe(no_mangle)]
-pub extern "C" fn knobstream_days(d: PlainDatetime) -> PlainDays
+pub fn knobstream_days(d: PlainDatetime) -> PlainDays
     ensures { result ≡ plain_days (covered (datetime_of d)) }
 {
     let x = crate::datetime_of(d);
@@ -75,8 +74,7 @@ pub extern "C" fn knobstream_days(d: PlainDatetime) -> PlainDays
 }
 
 // The seconds from the start of day 0 in UTC to a Datetime.
-#[unsafe(no_mangle)]
-pub extern "C" fn knobstream_instant(d: PlainDatetime) -> PlainInstant
+pub fn knobstream_instant(d: PlainDatetime) -> PlainInstant
     ensures { result ≡ plain_instant (instant_of (datetime_of d)) }
 {
     let x = crate::datetime_of(d);
@@ -84,8 +82,7 @@ pub extern "C" fn knobstream_instant(d: PlainDatetime) -> PlainInstant
 }
 
 // How the first instant stands to the second: -1 before it, 0 at once with it, 1 after it; or the number of the refusal.
-#[unsafe(no_mangle)]
-pub extern "C" fn knobstream_compare_instants(a: PlainDatetime, b: PlainDatetime) -> i32
+pub fn knobstream_compare_instants(a: PlainDatetime, b: PlainDatetime) -> i32
     ensures { result ≡ compared_number (compared (datetime_of a) (datetime_of b)) }
 {
     let x = crate::datetime_of(a);

@@ -28,8 +28,7 @@ fn put_answer(a: Answer, words: &mut [u64; 4])
 }
 
 // Pieces as page ranges, two numbers each at the front of the lent numbers; a refusal stores nothing there.
-#[unsafe(no_mangle)]
-pub extern "C" fn knobstream_parse_pages(
+pub fn knobstream_parse_pages(
     bytes: &[u8],
     table: &[u64],
     counts: &[usize],
@@ -43,8 +42,7 @@ pub extern "C" fn knobstream_parse_pages(
 }
 
 // The text of a page range, at the front of the lent buffer; without room for it nothing is stored.
-#[unsafe(no_mangle)]
-pub extern "C" fn knobstream_write_range(start: u32, end: u32, out: &mut [u8]) -> PlainWritten
+pub fn knobstream_write_range(start: u32, end: u32, out: &mut [u8]) -> PlainWritten
     ensures value { result ≡ plain.written (answer false (written_range start end) (length out.old)) }
     ensures out_after { out.new ≡ afterwards false (written_range start end) out.old }
 {

@@ -6,8 +6,7 @@ ghost use Rattle.knobstream.specs.Layout.{Answered};
 ghost use Rattle.knobstream.specs.Back.{is_set};
 
 // The fields year, month, day, endyear, endmonth and endday; a list is absent if the number before it is 0, and then is not looked at.
-#[unsafe(no_mangle)]
-pub extern "C" fn knobstream_parse_six_fields(
+pub fn knobstream_parse_six_fields(
     year: &[u8],
     year_table: &[u64],
     has_month: u8,

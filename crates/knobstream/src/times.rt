@@ -40,8 +40,7 @@ fn timed_date(p: PlainDate) -> Date
 }
 
 // How long the text of a Date with its times is; it refuses what the writer refuses, apart from NoRoom.
-#[unsafe(no_mangle)]
-pub extern "C" fn knobstream_measure_timed(
+pub fn knobstream_measure_timed(
     first: PlainDatetime,
     second: PlainDatetime,
     shape: u8,
@@ -61,8 +60,7 @@ pub extern "C" fn knobstream_measure_timed(
 }
 
 // The text of a Date with its times, at the front of the lent buffer; a refusal stores nothing.
-#[unsafe(no_mangle)]
-pub extern "C" fn knobstream_write_timed(
+pub fn knobstream_write_timed(
     first: PlainDatetime,
     second: PlainDatetime,
     out: &mut [u8],
