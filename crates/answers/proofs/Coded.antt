@@ -10,15 +10,12 @@ use lib.ListN.{length, length-append}
 use lib.Signed.{mag}
 use borrow.Author.Tests.{eq-eqb, ne_eqb}
 use Rattle.chars.specs.Pick.{pick}
-use Rattle.dates.specs.declared.OptionMonth.{OptionMonth}
-use Rattle.dates.specs.declared.OptionMonth.TheVariants.{NoMonth, SomeMonth}
-use Rattle.dates.specs.declared.OptionDay.{OptionDay}
-use Rattle.dates.specs.declared.OptionDay.TheVariants.{NoDay, SomeDay}
+use Rattle.dates.specs.declared.Day.{Day}
+use Rattle.dates.specs.declared.Month.{Month}
+use Rattle.dates.specs.declared.Time.{Time}
+use Rattle.dates.specs.declared.TimeOffset.{TimeOffset}
+use Rattle.std.specs.Prelude.{Option, Some, None, Ok, Err}
 use Rattle.dates.specs.declared.TimeOffset.TheVariants.{Utc, Offset}
-use Rattle.dates.specs.declared.OptionOffset.{OptionOffset}
-use Rattle.dates.specs.declared.OptionOffset.TheVariants.{NoOffset, SomeOffset}
-use Rattle.dates.specs.declared.OptionTime.{OptionTime}
-use Rattle.dates.specs.declared.OptionTime.TheVariants.{NoTime, SomeTime}
 use Rattle.dates.specs.declared.Datetime.{Datetime}
 use Rattle.dates.specs.declared.DateValue.{DateValue}
 use Rattle.dates.specs.declared.DateValue.TheVariants.{At, After, Before, Between}
@@ -26,7 +23,6 @@ use Rattle.dates.specs.declared.Date.{Date}
 use Rattle.dates.specs.Ends.{EachEnd}
 use Rattle.dates.specs.Value.{season_number}
 use Rattle.refusals.specs.declared.Refusal.{Refusal}
-use Rattle.refusals.specs.declared.ReadDate.TheVariants.{Accepted, Refused}
 use Rattle.refusals.specs.Refusal.{number}
 use Rattle.codes.specs.declared.Words.{Words}
 use Rattle.codes.specs.Words.{twos, flag, has_month, month_number, has_day, day_number, has_time, clock_of, offset_sort, shift_of, hours_of, minutes_of, four_bytes, time_word_of, last_word, day_word, time_word, value_words, words_of}
@@ -153,48 +149,48 @@ unfolding twos
 twos-below (pos n) h = omega arith
 twos-below (negsuc n) h = omega arith
 
-month_there : (m : OptionMonth) → has_month m < 256
-month_there NoMonth = omega arith
-month_there (SomeMonth m) = omega arith
+month_there : (m : Option Month) → has_month m < 256
+month_there None = omega arith
+month_there (Some m) = omega arith
 
-day_there : (d : OptionDay) → has_day d < 256
-day_there NoDay = omega arith
-day_there (SomeDay d) = omega arith
+day_there : (d : Option Day) → has_day d < 256
+day_there None = omega arith
+day_there (Some d) = omega arith
 
-time-there : (t : OptionTime) → has_time t < 256
-time-there NoTime = omega arith
-time-there (SomeTime t) = omega arith
+time-there : (t : Option Time) → has_time t < 256
+time-there None = omega arith
+time-there (Some t) = omega arith
 
-sort-small : (o : OptionOffset) → offset_sort o < 256
-sort-small NoOffset = omega arith
-sort-small (SomeOffset Utc) = omega arith
-sort-small (SomeOffset (Offset true h m)) = omega arith
-sort-small (SomeOffset (Offset false h m)) = omega arith
+sort-small : (o : Option TimeOffset) → offset_sort o < 256
+sort-small None = omega arith
+sort-small (Some Utc) = omega arith
+sort-small (Some (Offset true h m)) = omega arith
+sort-small (Some (Offset false h m)) = omega arith
 
-month_is : (m : OptionMonth) → part_byte (has_month m) (month_number m) ≡ month_byte m
+month_is : (m : Option Month) → part_byte (has_month m) (month_number m) ≡ month_byte m
 unfolding part_byte month_byte pick
-month_is NoMonth = refl
-month_is (SomeMonth m) = refl
+month_is None = refl
+month_is (Some m) = refl
 
-day_is : (d : OptionDay) → part_byte (has_day d) (day_number d) ≡ day_byte d
+day_is : (d : Option Day) → part_byte (has_day d) (day_number d) ≡ day_byte d
 unfolding part_byte day_byte pick
-day_is NoDay = refl
-day_is (SomeDay d) = refl
+day_is None = refl
+day_is (Some d) = refl
 
-offset_is : (o : OptionOffset) → offset_sort o ∷ hours_of (shift_of o) ∷ minutes_of (shift_of o) ∷ [] ≡ offset_bytes o
+offset_is : (o : Option TimeOffset) → offset_sort o ∷ hours_of (shift_of o) ∷ minutes_of (shift_of o) ∷ [] ≡ offset_bytes o
 unfolding offset_bytes shift_bytes
-offset_is NoOffset = refl
-offset_is (SomeOffset Utc) = refl
-offset_is (SomeOffset (Offset true h m)) = refl
-offset_is (SomeOffset (Offset false h m)) = refl
+offset_is None = refl
+offset_is (Some Utc) = refl
+offset_is (Some (Offset true h m)) = refl
+offset_is (Some (Offset false h m)) = refl
 
-time_is : (t : OptionTime)
+time_is : (t : Option Time)
     → has_time t ∷ (clock_of t).hour ∷ (clock_of t).minute ∷ (clock_of t).second
     ∷ (offset_sort (clock_of t).offset ∷ hours_of (shift_of (clock_of t).offset) ∷ minutes_of (shift_of (clock_of t).offset) ∷ [])
     ≡ time_bytes t
 unfolding time_bytes
-time_is NoTime = refl
-time_is (SomeTime t) = ap (λ (l : List ℕ). 1 ∷ t.hour ∷ t.minute ∷ t.second ∷ l) (offset_is t.offset)
+time_is None = refl
+time_is (Some t) = ap (λ (l : List ℕ). 1 ∷ t.hour ∷ t.minute ∷ t.second ∷ l) (offset_is t.offset)
 
 joined_is : {a b s t : List ℕ} → a ≡ b → s ≡ t → a ++ s ≡ b ++ t
 joined_is e f = rw (e, f)
@@ -255,12 +251,12 @@ module _ (text : List ℕ) where
       ∙ line_as s (marks-are 3 u a (omega arith)) (joined_is (end_is c t.0) (end_is d t.1))
 
 -- what the words of a Date say is answered by its line
-pub accepted-coded : {w : Words} (d : Date) (text : List ℕ) → w ≡ words_of (Accepted d) → Typed (Accepted d) → words_line w text ≡ accepted_line false d text
+pub accepted-coded : {w : Words} (d : Date) (text : List ℕ) → w ≡ words_of (Ok d) → Typed (Ok d) → words_line w text ≡ accepted_line false d text
 unfolding accepted_bytes
 accepted-coded d text e t = rw e (value_line text d.value d.uncertain d.approximate t)
 
 -- and what those of a refusal say, by its
-pub refused-coded : {w : Words} (e : Refusal) → w ≡ words_of (Refused e) → refused_words w ≡ refused_line e
+pub refused-coded : {w : Words} (e : Refusal) → w ≡ words_of (Err e) → refused_words w ≡ refused_line e
 unfolding refused_bytes
 refused-coded e f =
     let n = number e.kind in

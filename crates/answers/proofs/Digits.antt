@@ -13,11 +13,8 @@ use Rattle.chars.proofs.Below.{agree}
 use Rattle.chars.proofs.Spelled.{bytes_at, entries}
 use Rattle.dates.specs.declared.TimeOffset.{TimeOffset}
 use Rattle.dates.specs.declared.TimeOffset.TheVariants.{Utc, Offset}
-use Rattle.dates.specs.declared.OptionOffset.{OptionOffset}
-use Rattle.dates.specs.declared.OptionOffset.TheVariants.{NoOffset, SomeOffset}
+use Rattle.std.specs.Prelude.{Option, Some, None}
 use Rattle.dates.specs.declared.Time.{Time}
-use Rattle.dates.specs.declared.OptionTime.{OptionTime}
-use Rattle.dates.specs.declared.OptionTime.TheVariants.{NoTime, SomeTime}
 use Rattle.dates.specs.declared.Datetime.{Datetime}
 use Rattle.dates.specs.declared.DateValue.{DateValue}
 use Rattle.dates.specs.declared.DateValue.TheVariants.{At, After, Before, Between}
@@ -100,25 +97,25 @@ length_shift Utc = refl
 length_shift (Offset true h m) = refl
 length_shift (Offset false h m) = refl
 
-pub length-offset : (o : OptionOffset) → length (offset_bytes o) ≡ 3
+pub length-offset : (o : Option TimeOffset) → length (offset_bytes o) ≡ 3
 unfolding offset_bytes
-length-offset NoOffset = refl
-length-offset (SomeOffset o) = length_shift o
+length-offset None = refl
+length-offset (Some o) = length_shift o
 
-pub length-time : (t : OptionTime) → length (time_bytes t) ≡ 7
+pub length-time : (t : Option Time) → length (time_bytes t) ≡ 7
 unfolding time_bytes
-length-time NoTime = refl
-length-time (SomeTime t) = let e = length-offset t.offset in omega arith
+length-time None = refl
+length-time (Some t) = let e = length-offset t.offset in omega arith
 
 pub length-datetime : (d : Datetime) → length (datetime_bytes d) ≡ 13
 unfolding datetime_bytes
 length-datetime d = let e = length-time d.time in omega arith
 
-pub no_time : {t : OptionTime} → t ≡ NoTime → 0 ∷ 0 ∷ 0 ∷ 0 ∷ 0 ∷ 0 ∷ 0 ∷ [] ≡ time_bytes t
+pub no_time : {t : Option Time} → t ≡ None → 0 ∷ 0 ∷ 0 ∷ 0 ∷ 0 ∷ 0 ∷ 0 ∷ [] ≡ time_bytes t
 unfolding time_bytes
 no_time e = rw e refl
 
-pub some-time : {t : OptionTime} {u : Time} {o : List ℕ} → t ≡ SomeTime u → o ≡ offset_bytes u.offset → (1 ∷ u.hour ∷ u.minute ∷ u.second ∷ []) ++ bytes_at 3 0 o ≡ time_bytes t
+pub some-time : {t : Option Time} {u : Time} {o : List ℕ} → t ≡ Some u → o ≡ offset_bytes u.offset → (1 ∷ u.hour ∷ u.minute ∷ u.second ∷ []) ++ bytes_at 3 0 o ≡ time_bytes t
 unfolding time_bytes
 some-time {u = u} {o = o} e g = rw e (ap (λ (l : List ℕ). 1 ∷ u.hour ∷ u.minute ∷ u.second ∷ l) (entries 3 o (ap length g ∙ length-offset u.offset) ∙ g))
 

@@ -1,29 +1,20 @@
 -- The answer to a frame: bytes, and the line of hexadecimal digits that says them.
 use Prim.Native.Char.{code}
-use Rattle.std.specs.Prelude.{ℕ, ◌+◌, ◌-◌, ◌*◌, ◌/◌, ◌%◌, Bool, true, false, List, [], ◌∷◌, ◌++◌, ltb}
+use Rattle.std.specs.Prelude.{ℕ, ◌+◌, ◌-◌, ◌*◌, ◌/◌, ◌%◌, Bool, true, false, List, [], ◌∷◌, ◌++◌, ltb, Option, Some, None, Result, Ok, Err}
 use Rattle.chars.specs.Pick.{pick}
 use Rattle.refusals.specs.declared.Refusal.{Refusal}
 use Rattle.refusals.specs.Refusal.{number}
-use Rattle.dates.specs.declared.OptionMonth.{OptionMonth}
-use Rattle.dates.specs.declared.OptionMonth.TheVariants.{NoMonth, SomeMonth}
-use Rattle.dates.specs.declared.OptionDay.{OptionDay}
-use Rattle.dates.specs.declared.OptionDay.TheVariants.{NoDay, SomeDay}
+use Rattle.dates.specs.declared.Day.{Day}
+use Rattle.dates.specs.declared.Month.{Month}
+use Rattle.dates.specs.declared.Time.{Time}
 use Rattle.dates.specs.declared.TimeOffset.{TimeOffset}
 use Rattle.dates.specs.declared.TimeOffset.TheVariants.{Utc, Offset}
-use Rattle.dates.specs.declared.OptionOffset.{OptionOffset}
-use Rattle.dates.specs.declared.OptionOffset.TheVariants.{NoOffset, SomeOffset}
-use Rattle.dates.specs.declared.OptionTime.{OptionTime}
-use Rattle.dates.specs.declared.OptionTime.TheVariants.{NoTime, SomeTime}
 use Rattle.dates.specs.declared.Datetime.{Datetime}
 use Rattle.dates.specs.declared.DateValue.{DateValue}
 use Rattle.dates.specs.declared.DateValue.TheVariants.{At, After, Before, Between}
 use Rattle.dates.specs.declared.Date.{Date}
 use Rattle.dates.specs.Value.{season_number}
-use Rattle.refusals.specs.declared.ReadDate.{ReadDate}
-use Rattle.refusals.specs.declared.ReadDate.TheVariants.{Accepted, Refused}
 use Rattle.codes.specs.Words.{twos}
-use Rattle.puts.specs.declared.Measured.{Measured}
-use Rattle.puts.specs.declared.Measured.TheVariants.{Length, NoLength}
 use Rattle.writer.specs.Texts.{date_text}
 use Rattle.puts.specs.Answers.{measured}
 use Rattle.writer.specs.Answers.{date_measured}
@@ -47,14 +38,14 @@ abbrev pub long_bytes : ℕ → List ℕ
 long_bytes n = word_bytes (n / 4294967296) ++ word_bytes (n % 4294967296)
 
 -- a stored month; ff if it is absent
-unfoldable pub month_byte : OptionMonth → ℕ
-month_byte NoMonth = 255
-month_byte (SomeMonth m) = m.0
+unfoldable pub month_byte : Option Month → ℕ
+month_byte None = 255
+month_byte (Some m) = m.0
 
 -- a stored day likewise
-unfoldable pub day_byte : OptionDay → ℕ
-day_byte NoDay = 255
-day_byte (SomeDay d) = d.0
+unfoldable pub day_byte : Option Day → ℕ
+day_byte None = 255
+day_byte (Some d) = d.0
 
 -- an offset: 1 UTC, 2 plus, 3 minus; then its hours and minutes
 unfoldable pub shift_bytes : TimeOffset → List ℕ
@@ -63,14 +54,14 @@ shift_bytes (Offset true h m) = 2 ∷ h ∷ m ∷ []
 shift_bytes (Offset false h m) = 3 ∷ h ∷ m ∷ []
 
 -- zeros if it is absent
-unfoldable pub offset_bytes : OptionOffset → List ℕ
-offset_bytes NoOffset = 0 ∷ 0 ∷ 0 ∷ []
-offset_bytes (SomeOffset o) = shift_bytes o
+unfoldable pub offset_bytes : Option TimeOffset → List ℕ
+offset_bytes None = 0 ∷ 0 ∷ 0 ∷ []
+offset_bytes (Some o) = shift_bytes o
 
 -- a time: 01, hour, minute, second and the offset; zeros if it is absent
-unfoldable pub time_bytes : OptionTime → List ℕ
-time_bytes NoTime = 0 ∷ 0 ∷ 0 ∷ 0 ∷ 0 ∷ 0 ∷ 0 ∷ []
-time_bytes (SomeTime t) = 1 ∷ t.hour ∷ t.minute ∷ t.second ∷ offset_bytes t.offset
+unfoldable pub time_bytes : Option Time → List ℕ
+time_bytes None = 0 ∷ 0 ∷ 0 ∷ 0 ∷ 0 ∷ 0 ∷ 0 ∷ []
+time_bytes (Some t) = 1 ∷ t.hour ∷ t.minute ∷ t.second ∷ offset_bytes t.offset
 
 -- a Datetime: the year, the month and the day, the time
 unfoldable pub datetime_bytes : Datetime → List ℕ
@@ -138,16 +129,16 @@ abbrev pub refused_line : Refusal → List ℕ
 refused_line e = line_of (refused_bytes e)
 
 -- the line of a text that was measured: of the Date with it, or of the refusal
-unfoldable pub measured_line : Bool → Date → List ℕ → Measured → List ℕ
-measured_line level d text (Length n) = accepted_line level d text
-measured_line level d text (NoLength e) = refused_line e
+unfoldable pub measured_line : Bool → Date → List ℕ → Result ℕ Refusal → List ℕ
+measured_line level d text (Ok n) = accepted_line level d text
+measured_line level d text (Err e) = refused_line e
 
 -- the line of what a reader answered; where the Date cannot be written, that is the refusal
-unfoldable pub answer_line : ReadDate → List ℕ
-answer_line (Accepted d) = measured_line false d (date_text d) (date_measured d (date_text d))
-answer_line (Refused e) = refused_line e
+unfoldable pub answer_line : Result Date Refusal → List ℕ
+answer_line (Ok d) = measured_line false d (date_text d) (date_measured d (date_text d))
+answer_line (Err e) = refused_line e
 
 -- the line of what the reader of level one answered: with the seasons, and its own writer's text
-unfoldable pub level_line : ReadDate → List ℕ
-level_line (Accepted d) = measured_line true d (level_text d) (measured (level_panics d) (level_text d))
-level_line (Refused e) = refused_line e
+unfoldable pub level_line : Result Date Refusal → List ℕ
+level_line (Ok d) = measured_line true d (level_text d) (measured (level_panics d) (level_text d))
+level_line (Err e) = refused_line e

@@ -2,23 +2,17 @@
 // a buffer with the room for it give the place behind it.
 #![tactic(auto)]
 
-ghost use Rattle.std.specs.Prelude.{◌≡◌, false, [], ◌∷◌, ◌+◌, ◌*◌, ◌/◌, ◌%◌, ◌≤◌, ◌<◌, ltb, length};
+ghost use Rattle.std.specs.Prelude.{◌≡◌, false, [], ◌∷◌, ◌+◌, ◌*◌, ◌/◌, ◌%◌, ◌≤◌, ◌<◌, ltb, length, Ok};
 ghost use Rattle.puts.specs.Answers as writing;
 ghost use Rattle.puts.specs.Answers.{Put, Tried};
-ghost use Rattle.refusals.specs.declared.ReadDate.TheVariants.{Accepted};
-ghost use Rattle.puts.specs.declared.Measured.TheVariants.{Length};
 ghost use Rattle.answers.specs.Answer as spec;
 ghost use Rattle.answers.specs.Shapes as shapes;
 ghost use Rattle.answers.specs.Coded as coded;
 ghost use Rattle.answers.specs.Lengths as lengths;
 
 use codes::Words;
-use dates::{
-    Date, DateValue, Datetime, OptionDay, OptionMonth, OptionOffset, OptionTime, TimeOffset,
-    season_number,
-};
-use puts::{Measured, Written};
-use refusals::{Kind, ReadDate, Refusal};
+use dates::{Date, DateValue, Datetime, Day, Month, Time, TimeOffset, season_number};
+use refusals::{Kind, Refusal};
 
 // ---- the bytes of an answer
 
@@ -35,22 +29,24 @@ fn word(n: u32) -> [u8; 4]
 }
 
 // A stored month; ff if it is absent.
-fn month_byte(m: OptionMonth) -> u8
+#[tactic(auto, unfolding(crate::specs::Answer::month_byte))]
+fn month_byte(m: Option<Month>) -> u8
     ensures { result ≡ spec.month_byte m }
 {
     match m {
-        OptionMonth::NoMonth => 255,
-        OptionMonth::SomeMonth(m) => m.0,
+        None => 255,
+        Some(m) => m.0,
     }
 }
 
 // A stored day; ff if it is absent.
-fn day_byte(d: OptionDay) -> u8
+#[tactic(auto, unfolding(crate::specs::Answer::day_byte))]
+fn day_byte(d: Option<Day>) -> u8
     ensures { result ≡ spec.day_byte d }
 {
     match d {
-        OptionDay::NoDay => 255,
-        OptionDay::SomeDay(d) => d.0,
+        None => 255,
+        Some(d) => d.0,
     }
 }
 
@@ -74,22 +70,23 @@ fn shift_bytes(o: TimeOffset) -> [u8; 3]
 }
 
 // The same of one that may be absent.
-fn offset_bytes(o: OptionOffset) -> [u8; 3]
+#[tactic(auto, unfolding(crate::specs::Answer::offset_bytes))]
+fn offset_bytes(o: Option<TimeOffset>) -> [u8; 3]
     ensures { result ≡ spec.offset_bytes o }
 {
     match o {
-        OptionOffset::NoOffset => [0, 0, 0],
-        OptionOffset::SomeOffset(o) => shift_bytes(o),
+        None => [0, 0, 0],
+        Some(o) => shift_bytes(o),
     }
 }
 
 // A time, and its offset; zeros if it is absent.
-fn time_bytes(t: OptionTime) -> [u8; 7]
+fn time_bytes(t: Option<Time>) -> [u8; 7]
     ensures { result ≡ spec.time_bytes t }
 {
     match t {
-        OptionTime::NoTime => [0, 0, 0, 0, 0, 0, 0],
-        OptionTime::SomeTime(t) => {
+        None => [0, 0, 0, 0, 0, 0, 0],
+        Some(t) => {
             let offset = t.offset;
             let o = offset_bytes(offset);
             [1, t.hour, t.minute, t.second, o[0], o[1], o[2]]
@@ -171,14 +168,12 @@ fn put_hex(t: &[u8], out: &mut [u8], at: usize) -> usize
     requires { at + 2 * length t.now ≤ length out.old }
     ensures { Put (spec.hex_text t.now) out.old at out.new result }
 {
-    let mut i = 0;
-    while i < t.len() {
-        let d = pair(t[i]);
+    for (i, &b) in t.iter().enumerate() {
+        let d = pair(b);
         out[at + 2 * i] = (d % 256) as u8;
         out[at + 2 * i + 1] = (d / 256) as u8;
-        i += 1;
     }
-    at + 2 * i
+    at + 2 * t.len()
 }
 
 // Each answer ends its line, so that an answer can be read as soon as it is written.
@@ -393,25 +388,25 @@ fn put_two_coded(w: Words, text: &[u8], out: &mut [u8]) -> usize
 // ---- the calls
 
 // There is no room for the line.
-fn no_room() -> Written
-    ensures { result ≡ writing.decided (Length 1) 0 }
+fn no_room() -> Result<usize, Refusal>
+    ensures { result ≡ writing.decided (Ok 1) 0 }
 {
-    Written::Refused(refusals::nowhere(Kind::NoRoom))
+    Err(refusals::nowhere(Kind::NoRoom))
 }
 
 // The line of a refusal by its number, with its place, if there is room for it.
-fn write_number(number: u8, start: u64, end: u64, out: &mut [u8]) -> Written
+fn write_number(number: u8, start: u64, end: u64, out: &mut [u8]) -> Result<usize, Refusal>
     ensures value { result ≡ writing.answer false (spec.line_of (spec.refusal_bytes number start end)) (length out.old) }
     ensures out_after { out.new ≡ writing.afterwards false (spec.line_of (spec.refusal_bytes number start end)) out.old }
 {
     if out.len() < 35 {
         return no_room();
     }
-    Written::Done(put_refused(number, start, end, out))
+    Ok(put_refused(number, start, end, out))
 }
 
 // The line of a refusal.
-fn write_refused(e: Refusal, out: &mut [u8]) -> Written
+fn write_refused(e: Refusal, out: &mut [u8]) -> Result<usize, Refusal>
     ensures value { result ≡ writing.answer false (spec.refused_line e) (length out.old) }
     ensures out_after { out.new ≡ writing.afterwards false (spec.refused_line e) out.old }
 {
@@ -440,14 +435,21 @@ fn end_length(level: bool) -> usize
 }
 
 // The line of a Date with one Datetime, by the numbers of its shape and its marks, whose written text is given, if there is room for it.
-fn write_one(level: bool, shape: u8, marks: u8, d: Datetime, text: &[u8], out: &mut [u8]) -> Written
+fn write_one(
+    level: bool,
+    shape: u8,
+    marks: u8,
+    d: Datetime,
+    text: &[u8],
+    out: &mut [u8],
+) -> Result<usize, Refusal>
     ensures value { result ≡ writing.answer false (shapes.one_line level shape marks d text.now) (length out.old) }
     ensures out_after { out.new ≡ writing.afterwards false (shapes.one_line level shape marks d text.now) out.old }
 {
     if is_short(out.len(), 3 + end_length(level), text.len()) {
         return no_room();
     }
-    Written::Done(put_one(level, shape, marks, d, text, out))
+    Ok(put_one(level, shape, marks, d, text, out))
 }
 
 // The same of a range with two.
@@ -458,18 +460,18 @@ fn write_two(
     b: Datetime,
     text: &[u8],
     out: &mut [u8],
-) -> Written
+) -> Result<usize, Refusal>
     ensures value { result ≡ writing.answer false (shapes.two_line level marks a b text.now) (length out.old) }
     ensures out_after { out.new ≡ writing.afterwards false (shapes.two_line level marks a b text.now) out.old }
 {
     if is_short(out.len(), 3 + 2 * end_length(level), text.len()) {
         return no_room();
     }
-    Written::Done(put_two(level, marks, a, b, text, out))
+    Ok(put_two(level, marks, a, b, text, out))
 }
 
 // The line of a Date, whose written text is given, if there is room for it.
-fn write_accepted(level: bool, d: Date, text: &[u8], out: &mut [u8]) -> Written
+fn write_accepted(level: bool, d: Date, text: &[u8], out: &mut [u8]) -> Result<usize, Refusal>
     ensures value { result ≡ writing.answer false (spec.accepted_line level d text.now) (length out.old) }
     ensures out_after { out.new ≡ writing.afterwards false (spec.accepted_line level d text.now) out.old }
 {
@@ -484,59 +486,61 @@ fn write_accepted(level: bool, d: Date, text: &[u8], out: &mut [u8]) -> Written
 }
 
 // The line of a Date, with its text written.
-fn write_with_text(d: Date, out: &mut [u8]) -> Written
-    ensures value { result ≡ writing.answer false (spec.answer_line (Accepted d)) (length out.old) }
-    ensures out_after { out.new ≡ writing.afterwards false (spec.answer_line (Accepted d)) out.old }
+fn write_with_text(d: Date, out: &mut [u8]) -> Result<usize, Refusal>
+    ensures value { result ≡ writing.answer false (spec.answer_line (Ok d)) (length out.old) }
+    ensures out_after { out.new ≡ writing.afterwards false (spec.answer_line (Ok d)) out.old }
 {
     let mut text = [0u8; 40];
     match writer::write_text(d, &mut text) {
-        Written::Done(n) => write_accepted(false, d, &text[..n], out),
-        Written::Refused(e) => write_refused(e, out),
+        Ok(n) => write_accepted(false, d, &text[..n], out),
+        Err(e) => write_refused(e, out),
     }
 }
 
 // The line of a Date, which is measured first; where it has no written text, that of the refusal.
-fn write_date(d: Date, out: &mut [u8]) -> Written
-    ensures value { result ≡ writing.answer false (spec.answer_line (Accepted d)) (length out.old) }
-    ensures out_after { out.new ≡ writing.afterwards false (spec.answer_line (Accepted d)) out.old }
+fn write_date(d: Date, out: &mut [u8]) -> Result<usize, Refusal>
+    ensures value { result ≡ writing.answer false (spec.answer_line (Ok d)) (length out.old) }
+    ensures out_after { out.new ≡ writing.afterwards false (spec.answer_line (Ok d)) out.old }
 {
     match writer::date_length(d) {
-        Measured::Length(_) => write_with_text(d, out),
-        Measured::NoLength(e) => write_refused(e, out),
+        Ok(_) => write_with_text(d, out),
+        Err(e) => write_refused(e, out),
     }
 }
 
 // The line of what a reader answered, at the front of the lent buffer; without room for it nothing is stored.
-pub fn write_answer(r: ReadDate, out: &mut [u8]) -> Written
+#[tactic(auto, unfolding(crate::specs::Answer::answer_line))]
+pub fn write_answer(r: Result<Date, Refusal>, out: &mut [u8]) -> Result<usize, Refusal>
     ensures value { result ≡ writing.answer false (spec.answer_line r) (length out.old) }
     ensures out_after { out.new ≡ writing.afterwards false (spec.answer_line r) out.old }
 {
     match r {
-        ReadDate::Accepted(d) => write_date(d, out),
-        ReadDate::Refused(e) => write_refused(e, out),
+        Ok(d) => write_date(d, out),
+        Err(e) => write_refused(e, out),
     }
 }
 
 // The line of a Date by level one, with its text written.
-fn write_level_date(d: Date, out: &mut [u8]) -> Written
-    ensures value { result ≡ writing.answer false (spec.level_line (Accepted d)) (length out.old) }
-    ensures out_after { out.new ≡ writing.afterwards false (spec.level_line (Accepted d)) out.old }
+fn write_level_date(d: Date, out: &mut [u8]) -> Result<usize, Refusal>
+    ensures value { result ≡ writing.answer false (spec.level_line (Ok d)) (length out.old) }
+    ensures out_after { out.new ≡ writing.afterwards false (spec.level_line (Ok d)) out.old }
 {
     let mut text = [0u8; 42];
     match writer::write_level(d, &mut text) {
-        Written::Done(n) => write_accepted(true, d, &text[..n], out),
-        Written::Refused(e) => write_refused(e, out),
+        Ok(n) => write_accepted(true, d, &text[..n], out),
+        Err(e) => write_refused(e, out),
     }
 }
 
 // The line of what the reader of level one answered, likewise.
-pub fn write_level_answer(r: ReadDate, out: &mut [u8]) -> Written
+#[tactic(auto, unfolding(crate::specs::Answer::level_line))]
+pub fn write_level_answer(r: Result<Date, Refusal>, out: &mut [u8]) -> Result<usize, Refusal>
     ensures value { result ≡ writing.answer false (spec.level_line r) (length out.old) }
     ensures out_after { out.new ≡ writing.afterwards false (spec.level_line r) out.old }
 {
     match r {
-        ReadDate::Accepted(d) => write_level_date(d, out),
-        ReadDate::Refused(e) => write_refused(e, out),
+        Ok(d) => write_level_date(d, out),
+        Err(e) => write_refused(e, out),
     }
 }
 
@@ -557,17 +561,17 @@ pub fn put_words(w: Words, text: &[u8], out: &mut [u8]) -> usize
 }
 
 // What is answered where a line of so many bytes was put; no line is empty, so that 0 says that there was no room.
-pub fn written(n: usize) -> Written
+pub fn written(n: usize) -> Result<usize, Refusal>
     ensures { result ≡ lengths.answered n }
 {
     if n == 0 {
         return no_room();
     }
-    Written::Done(n)
+    Ok(n)
 }
 
 // The same as an answer.
-pub fn write_words(w: Words, text: &[u8], out: &mut [u8]) -> Written
+pub fn write_words(w: Words, text: &[u8], out: &mut [u8]) -> Result<usize, Refusal>
     ensures value { result ≡ writing.answer false (coded.words_line w text.now) (length out.old) }
     ensures out_after { out.new ≡ writing.afterwards false (coded.words_line w text.now) out.old }
 {
@@ -576,7 +580,7 @@ pub fn write_words(w: Words, text: &[u8], out: &mut [u8]) -> Written
 }
 
 // The line of a refusal, by its words, if there is room for it.
-pub fn write_refused_words(w: Words, out: &mut [u8]) -> Written
+pub fn write_refused_words(w: Words, out: &mut [u8]) -> Result<usize, Refusal>
     ensures value { result ≡ writing.answer false (coded.refused_words w) (length out.old) }
     ensures out_after { out.new ≡ writing.afterwards false (coded.refused_words w) out.old }
 {

@@ -1,7 +1,7 @@
 -- What a read into a block may answer.
-use Rattle.std.specs.Prelude.{◌≡◌, ℕ, ◌≤◌, ℤ, pos, negsuc}
+use Rattle.std.specs.Prelude.{ℕ, ◌≤◌, Option, Some, None}
 
--- of so many bytes that were lent, no more are read; a failure is -1
-abbrev pub MayRead : ℕ → ℤ → Type 0
-MayRead lent (pos n) = n ≤ lent
-MayRead lent (negsuc n) = n ≡ 0
+-- of so many bytes that were lent, no more are read, or it failed
+abbrev pub MayRead : ℕ → Option ℕ → Type 0
+MayRead lent (Some n) = n ≤ lent
+MayRead lent None = Unit {0}

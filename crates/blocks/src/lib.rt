@@ -15,11 +15,7 @@ pub fn move_down(buf: &mut [u8], from: usize, to: usize)
 {
     if from <= to {
         if to <= buf.len() {
-            let mut i = 0;
-            while i < to - from {
-                buf[i] = buf[from + i];
-                i += 1;
-            }
+            buf.copy_within(from..to, 0);
         }
     }
 }
@@ -39,22 +35,23 @@ pub fn flush(rt: &(impl Print + Eprint), out: &[u8], put: usize) -> bool
     false
 }
 
-// Reads, and again if a signal interrupted it; not more than a million times, so that it ends. The answer is -1, and then it says by this name
-// what was not read, and why; or how many bytes were read, which are no more than were lent.
-pub fn read_on<R: Read>(rt: &impl Eprint, from: &mut R, name: &str, buf: &mut [u8]) -> isize
+// Reads, and again if a signal interrupted it; not more than a million times, so that it ends. The answer is how many bytes were read, which are
+// no more than were lent. `None`: it says by this name what was not read, and why.
+pub fn read_on<R: Read>(rt: &impl Eprint, from: &mut R, name: &str, buf: &mut [u8]) -> Option<usize>
     ensures { MayRead (length buf.old) result }
 {
     let mut got = from.read(buf);
-    let mut tries: u32 = 1000000;
-    while tries > 0 && interrupted(&got) {
+    for _ in 0..1000000 {
+        if !interrupted(&got) {
+            break;
+        }
         got = from.read(buf);
-        tries -= 1;
     }
     match got {
-        Ok(n) => n as isize,
+        Ok(n) => Some(n),
         Err(e) => {
             fail(rt, name, &e);
-            -1
+            None
         }
     }
 }

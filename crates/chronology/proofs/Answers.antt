@@ -14,8 +14,7 @@ use Rattle.refusals.specs.declared.Refusal.{Refusal}
 use Rattle.refusals.specs.declared.Kind.TheVariants.{NoRoom, BadPeriod, DuplicateEntry, ChronologyFull, UnknownEntry, BadChronology}
 use Rattle.days.specs.declared.Period.{Period}
 use Rattle.chronology.specs.declared.Entry.{Entry}
-use Rattle.chronology.specs.declared.Answer.{Answer}
-use Rattle.chronology.specs.declared.Answer.TheVariants.{Entries, Refused}
+use Rattle.std.specs.Prelude.{Result, Ok, Err}
 use Rattle.chronology.specs.Entries.{good_period, entry_of, ids_of, among, has, well_kept, listed}
 use Rattle.chronology.specs.Store.{Store, store, Wide, contents, sound, index_of, rank, inserted, removed}
 use Rattle.chronology.specs.Calls.{refused, accepted, count_answer, add_answer, remove_answer, list_answer, with_entry, without_at, after_add, after_remove, after_list}
@@ -71,7 +70,7 @@ pub place_found : (s : Store) (d : ℕ) {k : ℕ} → Room s → has d (contents
 place_found s d {k} r t e = let h = place-below s d r t in let q = ap (index_of d) (contents-ids s r) in omega arith
 
 -- a refusal is no count
-apart : {m : ℕ} {e : Refusal} → Refused e ≡ Entries m → ⊥
+apart : {m : ℕ} {e : Refusal} → Err e ≡ Ok m → ⊥
 unfolding accepted
 apart q = false≢true (ap accepted q)
 
@@ -80,7 +79,7 @@ pub count-bad : (s : Store) → sound s ≡ false → refused BadChronology ≡ 
 unfolding count_answer pick
 count-bad s t = rw t
 
-pub count-done : (s : Store) → sound s ≡ true → Entries s.count ≡ count_answer s
+pub count-done : (s : Store) → sound s ≡ true → Ok s.count ≡ count_answer s
 unfolding count_answer pick
 count-done s t = rw t
 
@@ -102,7 +101,7 @@ module _ (s : Store) (p : Period) (d : ℕ) where
   unfolding add_answer pick
   add-full t u v w = rw (t, u, v, eq-eqb s.count 512 w)
 
-  pub add_done : sound s ≡ true → good_period p ≡ true → has d (contents s) ≡ false → (s.count ≡ 512 → ⊥) → Entries (s.count + 1) ≡ add_answer s p d
+  pub add_done : sound s ≡ true → good_period p ≡ true → has d (contents s) ≡ false → (s.count ≡ 512 → ⊥) → Ok (s.count + 1) ≡ add_answer s p d
   unfolding add_answer pick
   add_done t u v w = rw (t, u, v, ne_eqb s.count 512 w)
 
@@ -115,38 +114,38 @@ pub record Added (s : Store) (p : Period) (d m : ℕ) : Type 0 where
   pub one_more : s.count + 1 ≡ m
 
 -- how many an answer says, or else n
-many : ℕ → Answer → ℕ
-many n (Entries m) = m
-many n (Refused e) = n
+many : ℕ → Result ℕ Refusal → ℕ
+many n (Ok m) = m
+many n (Err e) = n
 
-entries-same : {m n : ℕ} → Entries m ≡ Entries n → m ≡ n
+entries-same : {m n : ℕ} → ◌≡◌ {A = Result ℕ Refusal} (Ok m) (Ok n) → m ≡ n
 unfolding many
-entries-same {m} q = ap (λ (a : Answer). many m a) q
+entries-same {m} q = ap (λ (a : Result ℕ Refusal). many m a) q
 
-pub add-says : (s : Store) (p : Period) (d m : ℕ) → add_answer s p d ≡ Entries m → Added s p d m
+pub add-says : (s : Store) (p : Period) (d m : ℕ) → add_answer s p d ≡ Ok m → Added s p d m
 unfolding add_answer refused pick
 add-says s p d m q = first (sound s) refl q
   where
-    last : (t : Bool) → sound s ≡ true → good_period p ≡ true → has d (contents s) ≡ false → eqb s.count 512 ≡ t → pick t (refused ChronologyFull) (Entries (s.count + 1)) ≡ Entries m → Added s p d m
+    last : (t : Bool) → sound s ≡ true → good_period p ≡ true → has d (contents s) ≡ false → eqb s.count 512 ≡ t → pick t (refused ChronologyFull) (Ok (s.count + 1)) ≡ Ok m → Added s p d m
     last true a b c e z = absurd (apart z)
     last false a b c e z =
         let n : s.count ≡ 512 → ⊥ = eqb-false s.count 512 e in
         record { was_sound = a; period_good = b; id_new = c; not_full = omega (arith, sound-few s a, n); one_more = entries-same z }
 
-    third : (t : Bool) → sound s ≡ true → good_period p ≡ true → has d (contents s) ≡ t → pick t (refused DuplicateEntry) (pick (eqb s.count 512) (refused ChronologyFull) (Entries (s.count + 1))) ≡ Entries m → Added s p d m
+    third : (t : Bool) → sound s ≡ true → good_period p ≡ true → has d (contents s) ≡ t → pick t (refused DuplicateEntry) (pick (eqb s.count 512) (refused ChronologyFull) (Ok (s.count + 1))) ≡ Ok m → Added s p d m
     third true a b e z = absurd (apart z)
     third false a b e z = last (eqb s.count 512) a b e refl z
 
-    second : (t : Bool) → sound s ≡ true → good_period p ≡ t → pick t (pick (has d (contents s)) (refused DuplicateEntry) (pick (eqb s.count 512) (refused ChronologyFull) (Entries (s.count + 1)))) (refused BadPeriod) ≡ Entries m → Added s p d m
+    second : (t : Bool) → sound s ≡ true → good_period p ≡ t → pick t (pick (has d (contents s)) (refused DuplicateEntry) (pick (eqb s.count 512) (refused ChronologyFull) (Ok (s.count + 1)))) (refused BadPeriod) ≡ Ok m → Added s p d m
     second true a e z = third (has d (contents s)) a e refl z
     second false a e z = absurd (apart z)
 
-    first : (t : Bool) → sound s ≡ t → pick t (pick (good_period p) (pick (has d (contents s)) (refused DuplicateEntry) (pick (eqb s.count 512) (refused ChronologyFull) (Entries (s.count + 1)))) (refused BadPeriod)) (refused BadChronology) ≡ Entries m → Added s p d m
+    first : (t : Bool) → sound s ≡ t → pick t (pick (good_period p) (pick (has d (contents s)) (refused DuplicateEntry) (pick (eqb s.count 512) (refused ChronologyFull) (Ok (s.count + 1)))) (refused BadPeriod)) (refused BadChronology) ≡ Ok m → Added s p d m
     first true e z = second (good_period p) e refl z
     first false e z = absurd (apart z)
 
 -- the store after an add
-pub add-leaves : (s : Store) (p : Period) (d : ℕ) {m i : ℕ} {e : Entry} {fs ls : List ℤ} {ds : List ℕ} → add_answer s p d ≡ Entries m → e ≡ entry_of p d → i ≡ rank e (contents s)
+pub add-leaves : (s : Store) (p : Period) (d : ℕ) {m i : ℕ} {e : Entry} {fs ls : List ℤ} {ds : List ℕ} → add_answer s p d ≡ Ok m → e ≡ entry_of p d → i ≡ rank e (contents s)
     → fs ≡ inserted s.firsts s.count i e.first → ls ≡ inserted s.lasts s.count i e.last → ds ≡ inserted s.ids s.count i e.id
     → store m fs ls ds ≡ after_add s p d
 unfolding after_add with_entry accepted pick
@@ -160,7 +159,7 @@ add-leaves s p d {m} {i} {e} {fs} {ls} {ds} q a b f g h =
     let x = h ∙ ap (λ (x : Entry). inserted s.ids n i x.id) a in
     rw (t, ← k, u, v, x, w.one_more)
 
-pub add-keeps : (s : Store) (p : Period) (d : ℕ) {x : Refusal} → add_answer s p d ≡ Refused x → s ≡ after_add s p d
+pub add-keeps : (s : Store) (p : Period) (d : ℕ) {x : Refusal} → add_answer s p d ≡ Err x → s ≡ after_add s p d
 unfolding after_add accepted pick
 add-keeps s p d q = let t : accepted (add_answer s p d) ≡ false = ap accepted q in rw t
 
@@ -174,7 +173,7 @@ module _ (s : Store) (d : ℕ) where
   unfolding remove_answer pick
   remove-unknown t u = rw (t, u)
 
-  pub remove-done : sound s ≡ true → has d (contents s) ≡ true → Entries (s.count - 1) ≡ remove_answer s d
+  pub remove-done : sound s ≡ true → has d (contents s) ≡ true → Ok (s.count - 1) ≡ remove_answer s d
   unfolding remove_answer pick
   remove-done t u = rw (t, u)
 
@@ -184,20 +183,20 @@ pub record Taken (s : Store) (d m : ℕ) : Type 0 where
   pub id_there : has d (contents s) ≡ true
   pub one_less : s.count - 1 ≡ m
 
-pub remove-says : (s : Store) (d m : ℕ) → remove_answer s d ≡ Entries m → Taken s d m
+pub remove-says : (s : Store) (d m : ℕ) → remove_answer s d ≡ Ok m → Taken s d m
 unfolding remove_answer refused pick
 remove-says s d m q = first (sound s) refl q
   where
-    second : (t : Bool) → sound s ≡ true → has d (contents s) ≡ t → pick t (Entries (s.count - 1)) (refused UnknownEntry) ≡ Entries m → Taken s d m
+    second : (t : Bool) → sound s ≡ true → has d (contents s) ≡ t → pick t (Ok (s.count - 1)) (refused UnknownEntry) ≡ Ok m → Taken s d m
     second true a e z = record { was_sound = a; id_there = e; one_less = entries-same z }
     second false a e z = absurd (apart z)
 
-    first : (t : Bool) → sound s ≡ t → pick t (pick (has d (contents s)) (Entries (s.count - 1)) (refused UnknownEntry)) (refused BadChronology) ≡ Entries m → Taken s d m
+    first : (t : Bool) → sound s ≡ t → pick t (pick (has d (contents s)) (Ok (s.count - 1)) (refused UnknownEntry)) (refused BadChronology) ≡ Ok m → Taken s d m
     first true e z = second (has d (contents s)) e refl z
     first false e z = absurd (apart z)
 
 -- the store after a removal
-pub remove-leaves : (s : Store) (d : ℕ) {m i : ℕ} {fs ls : List ℤ} {ds : List ℕ} → Wide s → remove_answer s d ≡ Entries m → i ≡ 0 + index_of d (take s.count s.ids)
+pub remove-leaves : (s : Store) (d : ℕ) {m i : ℕ} {fs ls : List ℤ} {ds : List ℕ} → Wide s → remove_answer s d ≡ Ok m → i ≡ 0 + index_of d (take s.count s.ids)
     → fs ≡ removed s.firsts s.count i → ls ≡ removed s.lasts s.count i → ds ≡ removed s.ids s.count i → store m fs ls ds ≡ after_remove s d
 unfolding after_remove without_at accepted pick
 remove-leaves s d {m} {i} {fs} {ls} {ds} x q b f g h =
@@ -206,7 +205,7 @@ remove-leaves s d {m} {i} {fs} {ls} {ds} x q b f g h =
     let k : i ≡ index_of d (ids_of (contents s)) = b ∙ (let z : 0 + index_of d (take s.count s.ids) ≡ index_of d (take s.count s.ids) = omega arith in z) ∙ ap (index_of d) (sym (contents-ids s (sound-room s x w.was_sound))) in
     rw (t, ← k, f, g, h, w.one_less)
 
-pub remove-keeps : (s : Store) (d : ℕ) {x : Refusal} → remove_answer s d ≡ Refused x → s ≡ after_remove s d
+pub remove-keeps : (s : Store) (d : ℕ) {x : Refusal} → remove_answer s d ≡ Err x → s ≡ after_remove s d
 unfolding after_remove accepted pick
 remove-keeps s d q = let t : accepted (remove_answer s d) ≡ false = ap accepted q in rw t
 
@@ -220,31 +219,31 @@ module _ (s : Store) (k : ℕ) where
   unfolding list_answer pick
   list-narrow t u = rw (t, lt-leb (3 * s.count) k u)
 
-  pub list_done : sound s ≡ true → 3 * s.count ≤ k → Entries s.count ≡ list_answer s k
+  pub list_done : sound s ≡ true → 3 * s.count ≤ k → Ok s.count ≡ list_answer s k
   unfolding list_answer pick
   list_done t u = rw (t, le-leb (3 * s.count) k u)
 
 -- what an accepted listing says
-pub list-says : (s : Store) (k m : ℕ) → list_answer s k ≡ Entries m → (sound s ≡ true) × (3 * s.count ≤ k)
+pub list-says : (s : Store) (k m : ℕ) → list_answer s k ≡ Ok m → (sound s ≡ true) × (3 * s.count ≤ k)
 unfolding list_answer refused pick
 list-says s k m q = first (sound s) refl q
   where
-    second : (t : Bool) → sound s ≡ true → leb (3 * s.count) k ≡ t → pick t (Entries s.count) (refused NoRoom) ≡ Entries m → (sound s ≡ true) × (3 * s.count ≤ k)
+    second : (t : Bool) → sound s ≡ true → leb (3 * s.count) k ≡ t → pick t (Ok s.count) (refused NoRoom) ≡ Ok m → (sound s ≡ true) × (3 * s.count ≤ k)
     second true a e z = (a, leb-true (3 * s.count) k e)
     second false a e z = absurd (apart z)
 
-    first : (t : Bool) → sound s ≡ t → pick t (pick (leb (3 * s.count) k) (Entries s.count) (refused NoRoom)) (refused BadChronology) ≡ Entries m → (sound s ≡ true) × (3 * s.count ≤ k)
+    first : (t : Bool) → sound s ≡ t → pick t (pick (leb (3 * s.count) k) (Ok s.count) (refused NoRoom)) (refused BadChronology) ≡ Ok m → (sound s ≡ true) × (3 * s.count ≤ k)
     first true e z = second (leb (3 * s.count) k) e refl z
     first false e z = absurd (apart z)
 
 -- the lent numbers after a listing
-pub list-leaves : (s : Store) (out : List ℤ) {m : ℕ} {after : List ℤ} → Wide s → list_answer s (length out) ≡ Entries m → after ≡ sets out 0 (listed (contents s)) → after ≡ after_list s out
+pub list-leaves : (s : Store) (out : List ℤ) {m : ℕ} {after : List ℤ} → Wide s → list_answer s (length out) ≡ Ok m → after ≡ sets out 0 (listed (contents s)) → after ≡ after_list s out
 unfolding after_list accepted pick
 list-leaves s out {m} {after} x q e =
     let w = list-says s (length out) m q in
     let t : accepted (list_answer s (length out)) ≡ true = ap accepted q in
     rw t (e ∙ listed-front s (sound-room s x w.0) out w.1)
 
-pub list-keeps : (s : Store) (out : List ℤ) {x : Refusal} → list_answer s (length out) ≡ Refused x → out ≡ after_list s out
+pub list-keeps : (s : Store) (out : List ℤ) {x : Refusal} → list_answer s (length out) ≡ Err x → out ≡ after_list s out
 unfolding after_list accepted pick
 list-keeps s out q = let t : accepted (list_answer s (length out)) ≡ false = ap accepted q in rw t

@@ -12,7 +12,8 @@ use Rattle.days.specs.declared.Period.{Period}
 use Rattle.dates.proofs.Less.{lt_not_le}
 use Rattle.refusals.specs.declared.Kind.TheVariants.{BadPeriod, BadChronology}
 use Rattle.chronology.specs.declared.Entry.{Entry}
-use Rattle.chronology.specs.declared.Reply.TheVariants.{Told}
+use Rattle.refusals.specs.declared.Refusal.{Refusal}
+use Rattle.std.specs.Prelude.{Result, Ok}
 use Rattle.chronology.specs.Entries.{good_period, before_next, well_kept}
 use Rattle.chronology.specs.Store.{Store, Wide, contents, sound, first_where}
 use Rattle.chronology.specs.Asked.{begins_after, touches, any_touches, stops, stop_at, entries_read, untold, reply}
@@ -69,11 +70,11 @@ module _ (p : Period) where
 -- ---- the walk's reply, in the columns
 
 module _ (s : Store) (p : Period) {i : ℕ} (e : i ≡ stop_at p (contents s)) where
-  pub walk-stops : {b : Bool} → i < s.count → b ≡ touches p (row_at s i) → Told b (i + 1) ≡ walked s p
+  pub walk-stops : {b : Bool} → i < s.count → b ≡ touches p (row_at s i) → Ok (b, i + 1) ≡ walked s p
   unfolding walked pick
   walk-stops h f = rw (sym e, lt-ltb i s.count h, f)
 
-  pub walk_ends : s.count ≤ i → Told false s.count ≡ walked s p
+  pub walk_ends : s.count ≤ i → Ok (false, s.count) ≡ walked s p
   unfolding walked pick
   walk_ends h = rw (sym e, le-ltb i s.count h)
 
@@ -93,14 +94,14 @@ module _ (s : Store) (p : Period) where
     place = first_where (stops p) (contents s)
 
     told : (t : Bool) → ltb place s.count ≡ t
-        → pick t (Told (touches p (row_at s place)) (place + 1)) (Told false s.count) ≡ Told (any_touches p (contents s)) (pick t (place + 1) s.count)
+        → pick {A = Result (Bool × ℕ) Refusal} t (Ok (touches p (row_at s place), place + 1)) (Ok (false, s.count)) ≡ Ok (any_touches p (contents s), pick t (place + 1) s.count)
     unfolding pick
     told true h =
         let c = contents-cons s (sound-room s wide e) place (ltb-true place s.count h) in
-        ap (λ (b : Bool). Told b (place + 1)) (sym (touched p (contents s) (row_at s place) (drop (suc place) (contents s)) (sound-well s e) c))
+        ap (λ (b : Bool). Ok (b, place + 1)) (sym (touched p (contents s) (row_at s place) (drop (suc place) (contents s)) (sound-well s e) c))
     told false h =
         let n = contents-length s (sound-room s wide e) in
-        ap (λ (b : Bool). Told b s.count) (sym (untouched p (contents s) (omega (arith, n, ltb-false place s.count h))))
+        ap (λ (b : Bool). Ok (b, s.count)) (sym (untouched p (contents s) (omega (arith, n, ltb-false place s.count h))))
 
     pub reply-walked : walked s p ≡ reply s p
     unfolding walked reply entries_read stop_at pick

@@ -8,8 +8,8 @@ use Rattle.chars.specs.Pick.{pick}
 use Rattle.dates.specs.declared.Datetime.{Datetime}
 use Rattle.dates.specs.Value.{has_season}
 use Rattle.days.specs.declared.Period.{Period}
-use Rattle.days.specs.declared.Covered.{Covered}
-use Rattle.days.specs.declared.Covered.TheVariants.{Days, Refused}
+use Rattle.refusals.specs.declared.Refusal.{Refusal}
+use Rattle.std.specs.Prelude.{Result, Ok, Err}
 use Rattle.days.specs.Covered.{is_date, first_day, last_day, period, not_adate, calendar_days, seasoned, covered}
 use Rattle.days.proofs.Theorems.{bounds, first-last}
 use Rattle.chronology.specs.Entries.{in_span, good_period}
@@ -38,15 +38,15 @@ dated d e =
     rw (at_most b.0, at_most high, at_most low, at_most b.1, at_most f)
 
 -- the period that is answered for a Datetime
-good-if : Covered → Type 0
-good-if (Days p) = good_period p ≡ true
-good-if (Refused e) = Unit {0}
+good-if : Result Period Refusal → Type 0
+good-if (Ok p) = good_period p ≡ true
+good-if (Err e) = Unit {0}
 
 answered : (d : Datetime) → good-if (covered d)
 unfolding good-if covered seasoned calendar_days not_adate pick
 answered d = season (has_season d)
   where
-    date : (t : Bool) → is_date d ≡ t → good-if (pick t (Days (period (first_day d) (last_day d))) not_adate)
+    date : (t : Bool) → is_date d ≡ t → good-if (pick t (Ok (period (first_day d) (last_day d))) not_adate)
     date true q = dated d q
     date false q = tt
 
@@ -55,6 +55,6 @@ answered d = season (has_season d)
     season false = date (is_date d) refl
 
 -- each period that a Datetime is answered with is one that may be added
-pub covered-good : (d : Datetime) (p : Period) → covered d ≡ Days p → good_period p ≡ true
+pub covered-good : (d : Datetime) (p : Period) → covered d ≡ Ok p → good_period p ≡ true
 unfolding good-if
 covered-good d p e = subst good-if e (answered d)

@@ -10,10 +10,8 @@ use Rattle.refusals.specs.declared.Kind.{Kind}
 use Rattle.refusals.specs.declared.Kind.TheVariants.{NoRoom, BadPeriod, DuplicateEntry, ChronologyFull, UnknownEntry, BadChronology}
 use Rattle.refusals.specs.Refusal.{file_span, refusal}
 use Rattle.days.specs.Covered.{period}
-use Rattle.chronology.specs.declared.Answer.{Answer}
-use Rattle.chronology.specs.declared.Answer.TheVariants.{Entries, Refused}
-use Rattle.chronology.specs.declared.Reply.{Reply}
-use Rattle.chronology.specs.declared.Reply.TheVariants.{Told, Untold}
+use Rattle.refusals.specs.declared.Refusal.{Refusal}
+use Rattle.std.specs.Prelude.{Result, Ok, Err, Bool}
 use Rattle.chronology.specs.Entries.{sooner, precedes, in_span, good_period, good_days, ids_of, among, has, before_next, kept_first, well_kept, listed}
 use Rattle.chronology.specs.Store.{Store, store, rows, contents, sound, index_of, first_where, rank, inserted, removed}
 use Rattle.chronology.specs.Calls.{refused, accepted, count_answer, add_answer, remove_answer, list_answer, with_entry, without_at, after_add, after_remove}
@@ -34,11 +32,11 @@ pub kept : ℕ → List ℤ → List ℤ → List ℕ → Store
 kept n fs ls ds = store n (days fs) (days ls) (numbers ds)
 
 -- what is answered: no refusal here names a place
-abbrev pub no : Kind → Answer
-no k = Refused (refusal k (file_span 0 0))
+abbrev pub no : Kind → Result ℕ Refusal
+no k = Err (refusal k (file_span 0 0))
 
-abbrev pub unsaid : Kind → Reply
-unsaid k = Untold (refusal k (file_span 0 0))
+abbrev pub unsaid : Kind → Result (Bool × ℕ) Refusal
+unsaid k = Err (refusal k (file_span 0 0))
 
 -- three adds from an empty start, the latest first
 pub three : Store
@@ -54,7 +52,7 @@ unfolding three kept days numbers contents rows after_calls after_call after_add
 one-removed = refl
 
 -- what each call answers
-pub answers : List Answer
+pub answers : List (Result ℕ Refusal)
 answers =
     add_answer three (period (pos 6) (pos 5)) 7
     ∷ add_answer three (period (pos 0) (pos 3652425)) 9
@@ -69,7 +67,7 @@ answers =
     ∷ []
 
 pub answered : answers
-    ≡ no BadPeriod ∷ no BadPeriod ∷ no BadPeriod ∷ no DuplicateEntry ∷ Entries 4 ∷ no UnknownEntry ∷ Entries 2 ∷ Entries 3 ∷ no NoRoom ∷ Entries 3 ∷ []
+    ≡ no BadPeriod ∷ no BadPeriod ∷ no BadPeriod ∷ no DuplicateEntry ∷ Ok 4 ∷ no UnknownEntry ∷ Ok 2 ∷ Ok 3 ∷ no NoRoom ∷ Ok 3 ∷ []
 unfolding answers three kept days numbers contents rows after_calls after_call after_add accepted add_answer with_entry inserted rank first_where precedes sooner good_period in_span has among ids_of sound well_kept kept_first before_next good_days pick remove_answer count_answer list_answer refused
 answered = refl
 
@@ -92,7 +90,7 @@ unfolding bad kept days numbers contents rows precedes sooner good_period in_spa
 all-bad = refl
 
 -- the widest period of all, and one behind the count that is not looked at
-pub widest : count_answer (kept 1 (negsuc 3652058 ∷ pos 9 ∷ []) (pos 3652424 ∷ pos 8 ∷ []) (4294967295 ∷ [])) ≡ Entries 1
+pub widest : count_answer (kept 1 (negsuc 3652058 ∷ pos 9 ∷ []) (pos 3652424 ∷ pos 8 ∷ []) (4294967295 ∷ [])) ≡ Ok 1
 unfolding kept days numbers contents rows precedes sooner good_period in_span has among ids_of sound well_kept kept_first before_next good_days pick count_answer
 widest = refl
 
@@ -110,7 +108,7 @@ filled = refl
 
 -- whether anything is dated in a period, and how many entries are read: before all, at the first, from its last day on, behind all, at the
 -- second; of no entries; a bad period; no chronology
-pub replies : List Reply
+pub replies : List (Result (Bool × ℕ) Refusal)
 replies =
     reply three (period (negsuc 9) (negsuc 3))
     ∷ reply three (period (negsuc 9) (negsuc 2))
@@ -124,6 +122,6 @@ replies =
     ∷ []
 
 pub replied : replies
-    ≡ Told false 1 ∷ Told true 1 ∷ Told true 1 ∷ Told false 3 ∷ Told true 2 ∷ Told false 2 ∷ Told false 0 ∷ unsaid BadPeriod ∷ unsaid BadChronology ∷ []
+    ≡ Ok (false, 1) ∷ Ok (true, 1) ∷ Ok (true, 1) ∷ Ok (false, 3) ∷ Ok (true, 2) ∷ Ok (false, 2) ∷ Ok (false, 0) ∷ unsaid BadPeriod ∷ unsaid BadChronology ∷ []
 unfolding replies three kept days numbers contents rows after_calls after_call after_add accepted add_answer with_entry inserted rank first_where precedes sooner good_period in_span has among ids_of sound well_kept kept_first before_next good_days pick reply untold entries_read stop_at stops any_touches touches begins_after
 replied = refl

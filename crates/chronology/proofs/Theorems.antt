@@ -14,13 +14,11 @@ use Rattle.refusals.specs.declared.Refusal.{Refusal}
 use Rattle.refusals.specs.declared.Kind.TheVariants.{NoRoom, BadPeriod, DuplicateEntry, ChronologyFull, UnknownEntry}
 use Rattle.days.specs.declared.Period.{Period}
 use Rattle.chronology.specs.declared.Entry.{Entry}
-use Rattle.chronology.specs.declared.Answer.{Answer}
-use Rattle.chronology.specs.declared.Answer.TheVariants.{Entries, Refused}
+use Rattle.std.specs.Prelude.{Result, Ok, Err}
 use Rattle.chronology.specs.Entries.{before_next, good_period, entry_of, good_days, ids_of, among, has, well_kept, insert, without, listed}
 use Rattle.chronology.specs.Store.{Store, Wide, contents, sound, index_of}
 use Rattle.chronology.specs.Calls.{refused, accepted, count_answer, add_answer, remove_answer, list_answer, with_entry, without_at, after_add, after_remove, after_list}
 use Rattle.chronology.specs.Asked.{any_touches, entries_read, untold, reply}
-use Rattle.chronology.specs.declared.Reply.TheVariants.{Told as told-it}
 use Rattle.chronology.specs.History.{Call, adds, removes, counts, lists, asks, accepts, after_call, after_calls, told, history, Empty, sorted, id_times}
 use Rattle.chronology.specs.Order.{Before, AllBefore, InOrder}
 use Rattle.chronology.specs.Order.AllBefore.{last, next}
@@ -38,7 +36,7 @@ wide_of : (s : Store) → Room s → Wide s
 wide_of s r = record { of_firsts = r.of_firsts; of_lasts = r.of_lasts; of_ids = r.of_ids }
 
 -- an accepted add: the entries are those that were and the new one, in its place
-module _ (s : Store) (wide : Wide s) (p : Period) (d m : ℕ) (yes : add_answer s p d ≡ Entries m) where
+module _ (s : Store) (wide : Wide s) (p : Period) (d m : ℕ) (yes : add_answer s p d ≡ Ok m) where
   added_is : after_add s p d ≡ with_entry s (entry_of p d)
   unfolding after_add accepted pick
   added_is = let t : accepted (add_answer s p d) ≡ true = ap accepted yes in rw t
@@ -69,7 +67,7 @@ module _ (s : Store) (wide : Wide s) (p : Period) (d m : ℕ) (yes : add_answer 
   added-count = ap (λ (t : Store). t.count) added_is ∙ (add-says s p d m yes).one_more
 
 -- an accepted removal: the entries are those that were without the one of the identifier
-module _ (s : Store) (wide : Wide s) (d m : ℕ) (yes : remove_answer s d ≡ Entries m) where
+module _ (s : Store) (wide : Wide s) (d m : ℕ) (yes : remove_answer s d ≡ Ok m) where
   removed-is : after_remove s d ≡ without_at s (index_of d (ids_of (contents s)))
   unfolding after_remove accepted pick
   removed-is = let t : accepted (remove_answer s d) ≡ true = ap accepted yes in rw t
@@ -101,7 +99,7 @@ module _ (s : Store) (wide : Wide s) (d m : ℕ) (yes : remove_answer s d ≡ En
   removed-count = ap (λ (t : Store). t.count) removed-is ∙ (remove-says s d m yes).one_less
 
   -- the room is used again: an entry that is not there may be added, as the count was
-  pub room-again : (p : Period) (c : ℕ) → good_period p ≡ true → has c (contents (after_remove s d)) ≡ false → add_answer (after_remove s d) p c ≡ Entries s.count
+  pub room-again : (p : Period) (c : ℕ) → good_period p ≡ true → has c (contents (after_remove s d)) ≡ false → add_answer (after_remove s d) p c ≡ Ok s.count
   room-again p c g n =
       let w = remove-says s d m yes in
       let r = sound-room s wide w.was_sound in
@@ -110,7 +108,7 @@ module _ (s : Store) (wide : Wide s) (d m : ℕ) (yes : remove_answer s d ≡ En
       let f = r.few in
       let below : (after_remove s d).count ≡ 512 → ⊥ = λ (q : (after_remove s d).count ≡ 512). omega arith in
       let one : (after_remove s d).count + 1 ≡ s.count = omega arith in
-      sym (add_done (after_remove s d) p c removed-sound g n below) ∙ ap Entries one
+      sym (add_done (after_remove s d) p c removed-sound g n below) ∙ ap Ok one
 
 -- a refused call changes nothing
 pub refused-keeps : (c : Call) (s : Store) → accepts c s ≡ false → after_call c s ≡ s
@@ -195,11 +193,11 @@ asked c h s i k t = go (accepts c (after_calls h s)) refl
         let u = more-told c h s i q ∙ t in
         record { wide = subst Wide (sym k) i.wide; keeps = ap sound k ∙ i.keeps; holds = ap contents k ∙ i.holds ∙ ap sorted (sym u); fine = subst Fine (sym u) i.fine }
 
-is-yes : {a : Answer} {m : ℕ} → a ≡ Entries m → accepted a ≡ true
+is-yes : {a : Result ℕ Refusal} {m : ℕ} → a ≡ Ok m → accepted a ≡ true
 unfolding accepted
 is-yes q = ap accepted q
 
-is-no : {a : Answer} {x : Refusal} → a ≡ Refused x → accepted a ≡ false
+is-no : {a : Result ℕ Refusal} {x : Refusal} → a ≡ Err x → accepted a ≡ false
 unfolding accepted
 is-no q = ap accepted q
 
@@ -207,9 +205,9 @@ one-call : (c : Call) (h : List Call) (s : Store) → Told h s → Told (c ∷ h
 unfolding after_calls after_call accepts told sorted good_days
 one-call (adds p d) h s i = go (add_answer (after_calls h s) p d) refl
   where
-    go : (a : Answer) → add_answer (after_calls h s) p d ≡ a → Told (adds p d ∷ h) s
-    go (Refused x) q = still (adds p d) h s i (is-no q)
-    go (Entries m) q =
+    go : (a : Result ℕ Refusal) → add_answer (after_calls h s) p d ≡ a → Told (adds p d ∷ h) s
+    go (Err x) q = still (adds p d) h s i (is-no q)
+    go (Ok m) q =
         let t = after_calls h s in
         let w = add-says t p d m q in
         let u = more-told (adds p d) h s i (is-yes q) in
@@ -222,9 +220,9 @@ one-call (adds p d) h s i = go (add_answer (after_calls h s) p d) refl
         }
 one-call (removes d) h s i = go (remove_answer (after_calls h s) d) refl
   where
-    go : (a : Answer) → remove_answer (after_calls h s) d ≡ a → Told (removes d ∷ h) s
-    go (Refused x) q = still (removes d) h s i (is-no q)
-    go (Entries m) q =
+    go : (a : Result ℕ Refusal) → remove_answer (after_calls h s) d ≡ a → Told (removes d ∷ h) s
+    go (Err x) q = still (removes d) h s i (is-no q)
+    go (Ok m) q =
         let t = after_calls h s in
         let u = more-told (removes d) h s i (is-yes q) in
         record {
@@ -276,22 +274,22 @@ module _ (h : List Call) (s : Store) (e : Empty s) where
       → add_answer (after_calls h s) p d
       ≡ pick (good_period p)
       (pick (has d (history h s)) (refused DuplicateEntry)
-      (pick (eqb (length (history h s)) 512) (refused ChronologyFull) (Entries (length (history h s) + 1))))
+      (pick (eqb (length (history h s)) 512) (refused ChronologyFull) (Ok (length (history h s) + 1))))
       (refused BadPeriod)
   unfolding add_answer pick
   add-by-history p d = rw (always-sound h s e, always-has h s e d, always-counted h s e)
 
   pub remove-by-history : (d : ℕ)
-      → remove_answer (after_calls h s) d ≡ pick (has d (history h s)) (Entries (length (history h s) - 1)) (refused UnknownEntry)
+      → remove_answer (after_calls h s) d ≡ pick (has d (history h s)) (Ok (length (history h s) - 1)) (refused UnknownEntry)
   unfolding remove_answer pick
   remove-by-history d = rw (always-sound h s e, always-has h s e d, always-counted h s e)
 
-  pub count-by-history : count_answer (after_calls h s) ≡ Entries (length (history h s))
+  pub count-by-history : count_answer (after_calls h s) ≡ Ok (length (history h s))
   unfolding count_answer pick
   count-by-history = rw (always-sound h s e, always-counted h s e)
 
   pub list-answer-by-history : (room : ℕ)
-      → list_answer (after_calls h s) room ≡ pick (leb (3 * length (history h s)) room) (Entries (length (history h s))) (refused NoRoom)
+      → list_answer (after_calls h s) room ≡ pick (leb (3 * length (history h s)) room) (Ok (length (history h s))) (refused NoRoom)
   unfolding list_answer pick
   list-answer-by-history room = rw (always-sound h s e, always-counted h s e)
 
@@ -306,7 +304,7 @@ module _ (h : List Call) (s : Store) (e : Empty s) where
 
   pub asked-by-history : (p : Period)
       → reply (after_calls h s) p
-      ≡ pick (good_period p) (told-it (any_touches p (sorted (history h s))) (entries_read p (sorted (history h s)))) (untold BadPeriod)
+      ≡ pick (good_period p) (Ok (any_touches p (sorted (history h s)), entries_read p (sorted (history h s)))) (untold BadPeriod)
   unfolding reply pick
   asked-by-history p = rw (always-sound h s e, always-told h s e)
 

@@ -1,5 +1,5 @@
 -- Is anything dated in a period, and how many entries are read to tell.
-use Rattle.std.specs.Prelude.{ℕ, ◌+◌, Bool, false, ◌&&◌, ◌||◌, List, [], ◌∷◌, ltb, length}
+use Rattle.std.specs.Prelude.{ℕ, ◌+◌, Bool, false, ◌&&◌, ◌||◌, List, [], ◌∷◌, ltb, length, Result, Ok, Err}
 use Rattle.std.specs.Int.Signed.{lt_z, le_z}
 use Rattle.chars.specs.Pick.{pick}
 use Rattle.refusals.specs.declared.Kind.{Kind}
@@ -7,8 +7,7 @@ use Rattle.refusals.specs.declared.Kind.TheVariants.{BadPeriod, BadChronology}
 use Rattle.refusals.specs.Refusal.{file_span, refusal}
 use Rattle.days.specs.declared.Period.{Period}
 use Rattle.chronology.specs.declared.Entry.{Entry}
-use Rattle.chronology.specs.declared.Reply.{Reply}
-use Rattle.chronology.specs.declared.Reply.TheVariants.{Told, Untold}
+use Rattle.refusals.specs.declared.Refusal.{Refusal}
 use Rattle.chronology.specs.Entries.{good_period}
 use Rattle.chronology.specs.Store.{Store, contents, sound, first_where}
 
@@ -38,11 +37,11 @@ unfoldable pub entries_read : Period → List Entry → ℕ
 entries_read p l = pick (ltb (stop_at p l) (length l)) (stop_at p l + 1) (length l)
 
 -- a refusal; none here names a place
-unfoldable pub untold : Kind → Reply
-untold k = Untold (refusal k (file_span 0 0))
+unfoldable pub untold : Kind → Result (Bool × ℕ) Refusal
+untold k = Err (refusal k (file_span 0 0))
 
 -- the reply: what a reading of all entries says, and how many are read
-unfoldable pub reply : Store → Period → Reply
+unfoldable pub reply : Store → Period → Result (Bool × ℕ) Refusal
 reply s p =
-    pick (sound s) (pick (good_period p) (Told (any_touches p (contents s)) (entries_read p (contents s))) (untold BadPeriod))
+    pick (sound s) (pick (good_period p) (Ok (any_touches p (contents s), entries_read p (contents s))) (untold BadPeriod))
     (untold BadChronology)

@@ -1,45 +1,44 @@
 -- What the calls answer, and what they leave in the lent store.
-use Rattle.std.specs.Prelude.{ℕ, ◌+◌, ◌-◌, ◌*◌, Bool, true, false, List, ◌++◌, eqb, leb, ℤ, length, drop}
+use Rattle.std.specs.Prelude.{ℕ, ◌+◌, ◌-◌, ◌*◌, Bool, true, false, List, ◌++◌, eqb, leb, ℤ, length, drop, Result, Ok, Err}
 use Rattle.chars.specs.Pick.{pick}
 use Rattle.refusals.specs.declared.Kind.{Kind}
 use Rattle.refusals.specs.declared.Kind.TheVariants.{NoRoom, BadPeriod, DuplicateEntry, ChronologyFull, UnknownEntry, BadChronology}
 use Rattle.refusals.specs.Refusal.{file_span, refusal}
 use Rattle.days.specs.declared.Period.{Period}
 use Rattle.chronology.specs.declared.Entry.{Entry}
-use Rattle.chronology.specs.declared.Answer.{Answer}
-use Rattle.chronology.specs.declared.Answer.TheVariants.{Entries, Refused}
+use Rattle.refusals.specs.declared.Refusal.{Refusal}
 use Rattle.chronology.specs.Entries.{good_period, entry_of, ids_of, has, listed}
 use Rattle.chronology.specs.Store.{Store, store, contents, sound, index_of, rank, inserted, removed}
 
 -- a refusal; none here names a place
-unfoldable pub refused : Kind → Answer
-refused k = Refused (refusal k (file_span 0 0))
+unfoldable pub refused : Kind → Result ℕ Refusal
+refused k = Err (refusal k (file_span 0 0))
 
 -- whether a call was accepted
-unfoldable pub accepted : Answer → Bool
-accepted (Entries n) = true
-accepted (Refused e) = false
+unfoldable pub accepted : Result ℕ Refusal → Bool
+accepted (Ok n) = true
+accepted (Err e) = false
 
 -- what asking for the count is answered
-unfoldable pub count_answer : Store → Answer
-count_answer s = pick (sound s) (Entries s.count) (refused BadChronology)
+unfoldable pub count_answer : Store → Result ℕ Refusal
+count_answer s = pick (sound s) (Ok s.count) (refused BadChronology)
 
 -- what an add is answered: the new count, or what is refused first
-unfoldable pub add_answer : Store → Period → ℕ → Answer
+unfoldable pub add_answer : Store → Period → ℕ → Result ℕ Refusal
 add_answer s p d =
     pick (sound s)
     (pick (good_period p)
-    (pick (has d (contents s)) (refused DuplicateEntry) (pick (eqb s.count 512) (refused ChronologyFull) (Entries (s.count + 1))))
+    (pick (has d (contents s)) (refused DuplicateEntry) (pick (eqb s.count 512) (refused ChronologyFull) (Ok (s.count + 1))))
     (refused BadPeriod))
     (refused BadChronology)
 
 -- what a removal is answered: the new count, or what is refused first
-unfoldable pub remove_answer : Store → ℕ → Answer
-remove_answer s d = pick (sound s) (pick (has d (contents s)) (Entries (s.count - 1)) (refused UnknownEntry)) (refused BadChronology)
+unfoldable pub remove_answer : Store → ℕ → Result ℕ Refusal
+remove_answer s d = pick (sound s) (pick (has d (contents s)) (Ok (s.count - 1)) (refused UnknownEntry)) (refused BadChronology)
 
 -- what a listing is answered, with so much room: it takes three numbers an entry
-unfoldable pub list_answer : Store → ℕ → Answer
-list_answer s room = pick (sound s) (pick (leb (3 * s.count) room) (Entries s.count) (refused NoRoom)) (refused BadChronology)
+unfoldable pub list_answer : Store → ℕ → Result ℕ Refusal
+list_answer s room = pick (sound s) (pick (leb (3 * s.count) room) (Ok s.count) (refused NoRoom)) (refused BadChronology)
 
 -- a store with an entry more, at its place
 unfoldable pub with_entry : Store → Entry → Store

@@ -1,10 +1,9 @@
 -- Calls one after the other on a lent store, and which entries their history says there are. Lists of calls have the latest first.
-use Rattle.std.specs.Prelude.{◌≡◌, ℕ, suc, Bool, true, false, List, [], ◌∷◌, eqb}
+use Rattle.std.specs.Prelude.{◌≡◌, ℕ, suc, Bool, true, false, List, [], ◌∷◌, eqb, Result, Ok, Err}
 use Rattle.chars.specs.Pick.{pick}
 use Rattle.days.specs.declared.Period.{Period}
 use Rattle.chronology.specs.declared.Entry.{Entry}
-use Rattle.chronology.specs.declared.Reply.{Reply}
-use Rattle.chronology.specs.declared.Reply.TheVariants.{Told, Untold}
+use Rattle.refusals.specs.declared.Refusal.{Refusal}
 use Rattle.chronology.specs.Entries.{entry_of, insert, without}
 use Rattle.chronology.specs.Store.{Store, Wide}
 use Rattle.chronology.specs.Calls.{accepted, count_answer, add_answer, remove_answer, list_answer, after_add, after_remove}
@@ -24,9 +23,9 @@ pub data Call : Type 0 where
   asks : Period → Call
 
 -- whether a question was answered
-unfoldable pub answered : Reply → Bool
-answered (Told found read) = true
-answered (Untold e) = false
+unfoldable pub answered : Result (Bool × ℕ) Refusal → Bool
+answered (Ok (found, read)) = true
+answered (Err e) = false
 
 -- whether a store accepts a call
 unfoldable pub accepts : Call → Store → Bool

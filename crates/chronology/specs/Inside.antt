@@ -1,10 +1,9 @@
 -- What functions inside compute. No public contract rests on it.
-use Rattle.std.specs.Prelude.{◌≡◌, ℕ, suc, ◌+◌, ◌%◌, Bool, true, false, List, ltb, ℤ, pos, get_or, drop}
+use Rattle.std.specs.Prelude.{◌≡◌, ℕ, suc, ◌+◌, ◌%◌, Bool, true, false, List, ltb, ℤ, pos, get_or, drop, Result, Ok}
 use Rattle.chars.specs.Pick.{pick}
 use Rattle.days.specs.declared.Period.{Period}
 use Rattle.chronology.specs.declared.Entry.{Entry}
-use Rattle.chronology.specs.declared.Reply.{Reply}
-use Rattle.chronology.specs.declared.Reply.TheVariants.{Told}
+use Rattle.refusals.specs.declared.Refusal.{Refusal}
 use Rattle.chronology.specs.Entries.{entry, among, before_next, kept_first}
 use Rattle.chronology.specs.Store.{Store, contents}
 use Rattle.chronology.specs.Asked.{touches, stop_at}
@@ -30,7 +29,7 @@ abbrev pub Marked : List ℕ → List ℕ → Type 0
 Marked marks l = (d : ℕ) → among d l ≡ true → (get_or marks (d % 4096) 0 ≡ 1) × (get_or marks (d % 4093) 0 ≡ 1)
 
 -- the walk's reply: the entry at which it stops decides
-unfoldable pub walked : Store → Period → Reply
+unfoldable pub walked : Store → Period → Result (Bool × ℕ) Refusal
 walked s p =
     let i = stop_at p (contents s) in
-    pick (ltb i s.count) (Told (touches p (row_at s i)) (i + 1)) (Told false s.count)
+    pick (ltb i s.count) (Ok (touches p (row_at s i), i + 1)) (Ok (false, s.count))

@@ -30,36 +30,20 @@ pub struct Entry {
     pub id: u32,
 }
 
-// What a call answers.
-#[derive(Clone, Copy)]
-pub enum Answer {
-    // So many entries: those that there are now, or that were listed.
-    Entries(usize),
-    Refused(Refusal),
-}
-
-// What is answered to the question whether anything is dated in a period.
-#[derive(Clone, Copy)]
-pub enum Reply {
-    // Whether an entry touches the period, and how many entries were read to tell.
-    Told { found: bool, read: usize },
-    Untold(Refusal),
-}
-
 // ---- refusals
 
 // The refusal of a call. None here names a place.
-fn refused(kind: Kind) -> Answer
+fn refused(kind: Kind) -> Result<usize, Refusal>
     ensures { result ≡ calls.refused kind }
 {
-    Answer::Refused(nowhere(kind))
+    Err(nowhere(kind))
 }
 
 // The refusal of the question.
-fn untold(kind: Kind) -> Reply
+fn untold(kind: Kind) -> Result<(bool, usize), Refusal>
     ensures { result ≡ asked.untold kind }
 {
-    Reply::Untold(nowhere(kind))
+    Err(nowhere(kind))
 }
 
 // ---- entries
@@ -135,14 +119,12 @@ fn find(ids: &[u32], from: usize, count: usize, id: u32) -> usize
     requires { (from ≤ count) × (count ≤ 512) × (length ids.now ≡ 512) }
     ensures { (result ≡ from + spec.index_of id (drop from (take count ids.now))) × (result ≤ count) }
 {
-    let mut i = from;
-    while i < count {
+    for i in from..count {
         if ids[i] == id {
             return i;
         }
-        i += 1;
     }
-    i
+    count
 }
 
 // Whether an identifier is among those of a column from a place on. All are looked at, so that many are compared at once.
@@ -151,10 +133,8 @@ fn occurs(ids: &[u32], from: usize, count: usize, id: u32) -> bool
     ensures { result ≡ entries.among id (drop from (take count ids.now)) }
 {
     let mut found = false;
-    let mut i = from;
-    while i < count {
+    for i in from..count {
         found = found | (ids[i] == id);
-        i += 1;
     }
     found
 }
@@ -230,9 +210,7 @@ fn well_kept(count: &usize, firsts: &[i32], lasts: &[i32], ids: &[u32]) -> bool
     ensures { result ≡ entries.well_kept (spec.contents (before count firsts lasts ids)) }
 {
     let mut marks = [0u8; 4096];
-    let mut i = *count;
-    while 0 < i {
-        i -= 1;
+    for i in (0..*count).rev() {
         if !kept_at(count, firsts, lasts, ids, i, &marks) {
             return false;
         }
@@ -263,15 +241,13 @@ fn rank(count: &usize, firsts: &[i32], lasts: &[i32], ids: &[u32], e: Entry) -> 
     requires { (count.now ≤ 512) × spec.Wide (lent count firsts lasts ids) }
     ensures { (result ≡ spec.rank e (spec.contents (before count firsts lasts ids))) × (result ≤ count.now) }
 {
-    let mut i = 0;
-    while i < *count {
+    for i in 0..*count {
         let x = entry_at(firsts, lasts, ids, i);
         if !precedes(x, e) {
             return i;
         }
-        i += 1;
     }
-    i
+    *count
 }
 
 // Puts an entry at a place among the first n rows: those from there on move up by one.
@@ -279,13 +255,9 @@ fn insert_row(firsts: &mut [i32], lasts: &mut [i32], ids: &mut [u32], n: usize, 
     requires { (at ≤ n) × (n < 512) × (length firsts.old ≡ 512) × (length lasts.old ≡ 512) × (length ids.old ≡ 512) }
     ensures { (firsts.new ≡ spec.inserted firsts.old n at e.first) × (lasts.new ≡ spec.inserted lasts.old n at e.last) × (ids.new ≡ spec.inserted ids.old n at e.id) }
 {
-    let mut i = n;
-    while at < i {
-        firsts[i] = firsts[i - 1];
-        lasts[i] = lasts[i - 1];
-        ids[i] = ids[i - 1];
-        i -= 1;
-    }
+    firsts.copy_within(at..n, at + 1);
+    lasts.copy_within(at..n, at + 1);
+    ids.copy_within(at..n, at + 1);
     let first = e.first;
     let last = e.last;
     firsts[at] = first;
@@ -298,13 +270,9 @@ fn remove_row(firsts: &mut [i32], lasts: &mut [i32], ids: &mut [u32], n: usize, 
     requires { (at < n) × (n ≤ 512) × (length firsts.old ≡ 512) × (length lasts.old ≡ 512) × (length ids.old ≡ 512) }
     ensures { (firsts.new ≡ spec.removed firsts.old n at) × (lasts.new ≡ spec.removed lasts.old n at) × (ids.new ≡ spec.removed ids.old n at) }
 {
-    let mut i = at;
-    while i + 1 < n {
-        firsts[i] = firsts[i + 1];
-        lasts[i] = lasts[i + 1];
-        ids[i] = ids[i + 1];
-        i += 1;
-    }
+    firsts.copy_within(at + 1..n, at);
+    lasts.copy_within(at + 1..n, at);
+    ids.copy_within(at + 1..n, at);
 }
 
 // ---- the calls
@@ -317,7 +285,7 @@ fn add_answer(
     ids: &[u32],
     period: Period,
     id: u32,
-) -> Answer
+) -> Result<usize, Refusal>
     requires { spec.Wide (lent count firsts lasts ids) }
     ensures { result ≡ calls.add_answer (before count firsts lasts ids) period id }
 {
@@ -333,7 +301,7 @@ fn add_answer(
     if *count == ENTRIES {
         return refused(Kind::ChronologyFull);
     }
-    Answer::Entries(*count + 1)
+    Ok(*count + 1)
 }
 
 // An add.
@@ -344,29 +312,31 @@ fn add_entry(
     ids: &mut [u32],
     period: Period,
     id: u32,
-) -> Answer
+) -> Result<usize, Refusal>
     requires { spec.Wide (lent_mut count firsts lasts ids) }
     ensures value { result ≡ calls.add_answer (before_mut count firsts lasts ids) period id }
     ensures ids_value { after count firsts lasts ids ≡ calls.after_add (before_mut count firsts lasts ids) period id }
 {
-    match add_answer(count, firsts, lasts, ids, period, id) {
-        Answer::Entries(n) => {
-            let e = Entry {
-                first: period.first,
-                last: period.last,
-                id,
-            };
-            let at = rank(count, firsts, lasts, ids, e);
-            insert_row(firsts, lasts, ids, *count, at, e);
-            *count = n;
-            Answer::Entries(n)
-        }
-        Answer::Refused(e) => Answer::Refused(e),
-    }
+    let n = add_answer(count, firsts, lasts, ids, period, id)?;
+    let e = Entry {
+        first: period.first,
+        last: period.last,
+        id,
+    };
+    let at = rank(count, firsts, lasts, ids, e);
+    insert_row(firsts, lasts, ids, *count, at, e);
+    *count = n;
+    Ok(n)
 }
 
 // What a removal answers.
-fn remove_answer(count: &usize, firsts: &[i32], lasts: &[i32], ids: &[u32], id: u32) -> Answer
+fn remove_answer(
+    count: &usize,
+    firsts: &[i32],
+    lasts: &[i32],
+    ids: &[u32],
+    id: u32,
+) -> Result<usize, Refusal>
     requires { spec.Wide (lent count firsts lasts ids) }
     ensures { result ≡ calls.remove_answer (before count firsts lasts ids) id }
 {
@@ -374,7 +344,7 @@ fn remove_answer(count: &usize, firsts: &[i32], lasts: &[i32], ids: &[u32], id: 
         return refused(Kind::BadChronology);
     }
     if find(ids, 0, *count, id) < *count {
-        return Answer::Entries(*count - 1);
+        return Ok(*count - 1);
     }
     refused(Kind::UnknownEntry)
 }
@@ -386,29 +356,25 @@ fn remove_entry(
     lasts: &mut [i32],
     ids: &mut [u32],
     id: u32,
-) -> Answer
+) -> Result<usize, Refusal>
     requires { spec.Wide (lent_mut count firsts lasts ids) }
     ensures value { result ≡ calls.remove_answer (before_mut count firsts lasts ids) id }
     ensures ids_value { after count firsts lasts ids ≡ calls.after_remove (before_mut count firsts lasts ids) id }
 {
-    match remove_answer(count, firsts, lasts, ids, id) {
-        Answer::Entries(left) => {
-            let at = find(ids, 0, *count, id);
-            remove_row(firsts, lasts, ids, *count, at);
-            *count = left;
-            Answer::Entries(left)
-        }
-        Answer::Refused(e) => Answer::Refused(e),
-    }
+    let left = remove_answer(count, firsts, lasts, ids, id)?;
+    let at = find(ids, 0, *count, id);
+    remove_row(firsts, lasts, ids, *count, at);
+    *count = left;
+    Ok(left)
 }
 
 // What asking for the count answers.
-fn count_answer(count: &usize, firsts: &[i32], lasts: &[i32], ids: &[u32]) -> Answer
+fn count_answer(count: &usize, firsts: &[i32], lasts: &[i32], ids: &[u32]) -> Result<usize, Refusal>
     requires { spec.Wide (lent count firsts lasts ids) }
     ensures { result ≡ calls.count_answer (before count firsts lasts ids) }
 {
     if sound(count, firsts, lasts, ids) {
-        return Answer::Entries(*count);
+        return Ok(*count);
     }
     refused(Kind::BadChronology)
 }
@@ -428,16 +394,20 @@ fn put_entries(count: &usize, firsts: &[i32], lasts: &[i32], ids: &[u32], out: &
     requires { (count.now ≤ 512) × spec.Wide (lent count firsts lasts ids) × (3 * count.now ≤ length out.old) }
     ensures { out.new ≡ sets out.old 0 (entries.listed (spec.contents (before count firsts lasts ids))) }
 {
-    let mut i = 0;
-    while i < *count {
+    for i in 0..*count {
         let e = entry_at(firsts, lasts, ids, i);
         put_entry(e, out, 3 * i);
-        i += 1;
     }
 }
 
 // What a listing answers, with so much room.
-fn list_answer(count: &usize, firsts: &[i32], lasts: &[i32], ids: &[u32], room: usize) -> Answer
+fn list_answer(
+    count: &usize,
+    firsts: &[i32],
+    lasts: &[i32],
+    ids: &[u32],
+    room: usize,
+) -> Result<usize, Refusal>
     requires { spec.Wide (lent count firsts lasts ids) }
     ensures { result ≡ calls.list_answer (before count firsts lasts ids) room }
 {
@@ -445,7 +415,7 @@ fn list_answer(count: &usize, firsts: &[i32], lasts: &[i32], ids: &[u32], room: 
         return refused(Kind::BadChronology);
     }
     if 3 * *count <= room {
-        return Answer::Entries(*count);
+        return Ok(*count);
     }
     refused(Kind::NoRoom)
 }
@@ -457,18 +427,14 @@ fn list_entries(
     lasts: &[i32],
     ids: &[u32],
     out: &mut [i64],
-) -> Answer
+) -> Result<usize, Refusal>
     requires { spec.Wide (lent count firsts lasts ids) }
     ensures value { result ≡ calls.list_answer (before count firsts lasts ids) (length out.old) }
     ensures out_after { out.new ≡ calls.after_list (before count firsts lasts ids) out.old }
 {
-    match list_answer(count, firsts, lasts, ids, out.len()) {
-        Answer::Entries(n) => {
-            put_entries(count, firsts, lasts, ids, out);
-            Answer::Entries(n)
-        }
-        Answer::Refused(e) => Answer::Refused(e),
-    }
+    let n = list_answer(count, firsts, lasts, ids, out.len())?;
+    put_entries(count, firsts, lasts, ids, out);
+    Ok(n)
 }
 
 // ---- is anything dated in a period
@@ -492,38 +458,42 @@ fn stop_at(count: &usize, firsts: &[i32], lasts: &[i32], ids: &[u32], period: Pe
     requires { (count.now ≤ 512) × spec.Wide (lent count firsts lasts ids) }
     ensures { (result ≡ asked.stop_at period (spec.contents (before count firsts lasts ids))) × (result ≤ count.now) }
 {
-    let mut i = 0;
-    while i < *count {
+    for i in 0..*count {
         let e = entry_at(firsts, lasts, ids, i);
         if stops(period, e) {
             return i;
         }
-        i += 1;
     }
-    i
+    *count
 }
 
 // The walk: the entry at which it stops decides, and none behind it is read.
-fn walk(count: &usize, firsts: &[i32], lasts: &[i32], ids: &[u32], period: Period) -> Reply
+fn walk(
+    count: &usize,
+    firsts: &[i32],
+    lasts: &[i32],
+    ids: &[u32],
+    period: Period,
+) -> Result<(bool, usize), Refusal>
     requires { (count.now ≤ 512) × spec.Wide (lent count firsts lasts ids) }
     ensures { result ≡ inside.walked (before count firsts lasts ids) period }
 {
     let at = stop_at(count, firsts, lasts, ids, period);
     if at < *count {
         let e = entry_at(firsts, lasts, ids, at);
-        return Reply::Told {
-            found: touches(period, e),
-            read: at + 1,
-        };
+        return Ok((touches(period, e), at + 1));
     }
-    Reply::Told {
-        found: false,
-        read: *count,
-    }
+    Ok((false, *count))
 }
 
 // The question.
-fn asked_entries(count: &usize, firsts: &[i32], lasts: &[i32], ids: &[u32], period: Period) -> Reply
+fn asked_entries(
+    count: &usize,
+    firsts: &[i32],
+    lasts: &[i32],
+    ids: &[u32],
+    period: Period,
+) -> Result<(bool, usize), Refusal>
     requires { spec.Wide (lent count firsts lasts ids) }
     ensures { result ≡ asked.reply (before count firsts lasts ids) period }
 {
@@ -546,7 +516,7 @@ pub fn add(
     ids: &mut [u32; 512],
     period: Period,
     id: u32,
-) -> Answer
+) -> Result<usize, Refusal>
     ensures value { result ≡ calls.add_answer (before_mut count firsts lasts ids) period id }
     ensures ids_value { after count firsts lasts ids ≡ calls.after_add (before_mut count firsts lasts ids) period id }
 {
@@ -560,7 +530,7 @@ pub fn remove(
     lasts: &mut [i32; 512],
     ids: &mut [u32; 512],
     id: u32,
-) -> Answer
+) -> Result<usize, Refusal>
     ensures value { result ≡ calls.remove_answer (before_mut count firsts lasts ids) id }
     ensures ids_value { after count firsts lasts ids ≡ calls.after_remove (before_mut count firsts lasts ids) id }
 {
@@ -568,7 +538,12 @@ pub fn remove(
 }
 
 // How many entries there are.
-pub fn count(count: &usize, firsts: &[i32; 512], lasts: &[i32; 512], ids: &[u32; 512]) -> Answer
+pub fn count(
+    count: &usize,
+    firsts: &[i32; 512],
+    lasts: &[i32; 512],
+    ids: &[u32; 512],
+) -> Result<usize, Refusal>
     ensures { result ≡ calls.count_answer (before count firsts lasts ids) }
 {
     count_answer(count, firsts, lasts, ids)
@@ -581,7 +556,7 @@ pub fn list(
     lasts: &[i32; 512],
     ids: &[u32; 512],
     out: &mut [i64],
-) -> Answer
+) -> Result<usize, Refusal>
     ensures value { result ≡ calls.list_answer (before count firsts lasts ids) (length out.old) }
     ensures out_after { out.new ≡ calls.after_list (before count firsts lasts ids) out.old }
 {
@@ -595,7 +570,7 @@ pub fn any_dated(
     lasts: &[i32; 512],
     ids: &[u32; 512],
     period: Period,
-) -> Reply
+) -> Result<(bool, usize), Refusal>
     ensures { result ≡ asked.reply (before count firsts lasts ids) period }
 {
     asked_entries(count, firsts, lasts, ids, period)

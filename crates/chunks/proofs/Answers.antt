@@ -14,9 +14,7 @@ use Rattle.chars.proofs.Cases.{of_test}
 use Rattle.refusals.specs.declared.Kind.TheVariants.{NoRoom}
 use Rattle.refusals.specs.declared.Refusal.{Refusal}
 use Rattle.refusals.specs.Refusal.{file_span, refusal}
-use Rattle.chunks.specs.declared.Checked.{Checked}
-use Rattle.chunks.specs.declared.Checked.TheVariants.{Clean, Faulty}
-use Rattle.chunks.specs.declared.Formatted.TheVariants.{Text, Refused}
+use Rattle.std.specs.Prelude.{Result, Ok, Err}
 use Rattle.chunks.specs.Chunks.{chunks_of, fits, is_short}
 use Rattle.chunks.specs.Check.{fault_of, checked}
 use Rattle.chunks.specs.Format.{formatted}
@@ -34,39 +32,39 @@ module _ (b table : List ℕ) where
   room-is = omega (arith, count table)
 
   -- a list without a fault has a table that fits
-  pub clean-fits : checked b table ≡ Clean → fits b table ≡ true
+  pub clean-fits : checked b table ≡ (Ok tt) → fits b table ≡ true
   unfolding checked pick
   clean-fits e = of_test (fits b table) (λ t. t) (λ t. absurd (faulty-not (rw t at e)))
 
-  pub clean-faultless : checked b table ≡ Clean → fault_of 0 b (chunks_of table) ≡ Clean
+  pub clean-faultless : checked b table ≡ (Ok tt) → fault_of 0 b (chunks_of table) ≡ (Ok tt)
   unfolding checked pick
   clean-faultless e =
       of_test (is_short b table) (λ t. rw (clean-fits e, t) at e) (λ t. absurd (faulty-not (rw (clean-fits e, t) at e)))
 
   -- and keeps within the limits
-  pub clean-short : checked b table ≡ Clean → is_short b table ≡ true
+  pub clean-short : checked b table ≡ (Ok tt) → is_short b table ≡ true
   unfolding checked pick
   clean-short e = of_test (is_short b table) (λ t. t) (λ t. absurd (faulty-not (rw (clean-fits e, t) at e)))
 
   -- upper case keeps its text's length
-  pub upper-same : checked b table ≡ Clean → length (uppercase (formatted b table)) ≡ length (formatted b table)
+  pub upper-same : checked b table ≡ (Ok tt) → length (uppercase (formatted b table)) ≡ length (formatted b table)
   upper-same e = upper-keeps (proper-text b table (clean-faultless e))
 
-  pub same-long : (u : Bool) → checked b table ≡ Clean → length (text_of u b table) ≡ length (formatted b table)
+  pub same-long : (u : Bool) → checked b table ≡ (Ok tt) → length (text_of u b table) ≡ length (formatted b table)
   unfolding text_of pick
   same-long true e = upper-same e
   same-long false e = refl
 
   module _ (u : Bool) (buf : List ℕ) where
-    pub faulted : {e : Refusal} → checked b table ≡ Faulty e → (Refused e ≡ format_answer u b table buf) × (buf ≡ buffer_after (Refused e) (text_of u b table) buf)
+    pub faulted : {e : Refusal} → checked b table ≡ Err e → (Err e ≡ format_answer u b table buf) × (buf ≡ buffer_after (Err e) (text_of u b table) buf)
     unfolding format_answer answered buffer_after
     faulted h = rw h (refl, refl)
 
-    pub no_room : {e : Refusal} → checked b table ≡ Clean → length buf < room_of b table → e ≡ refusal NoRoom (file_span 0 0) → (Refused e ≡ format_answer u b table buf) × (buf ≡ buffer_after (Refused e) (text_of u b table) buf)
+    pub no_room : {e : Refusal} → checked b table ≡ (Ok tt) → length buf < room_of b table → e ≡ refusal NoRoom (file_span 0 0) → (Err e ≡ format_answer u b table buf) × (buf ≡ buffer_after (Err e) (text_of u b table) buf)
     unfolding format_answer answered buffer_after pick
     no_room h l e = rw (h, lt-leb _ _ l, e) (refl, refl)
 
-    pub texted : (n : ℕ) (last : List ℕ) → checked b table ≡ Clean → room_of b table ≤ length buf → n ≡ length (text_of u b table) → last ≡ sets buf 0 (text_of u b table) → (Text n ≡ format_answer u b table buf) × (last ≡ buffer_after (Text n) (text_of u b table) buf)
+    pub texted : (n : ℕ) (last : List ℕ) → checked b table ≡ (Ok tt) → room_of b table ≤ length buf → n ≡ length (text_of u b table) → last ≡ sets buf 0 (text_of u b table) → (Ok n ≡ format_answer u b table buf) × (last ≡ buffer_after (Ok n) (text_of u b table) buf)
     unfolding format_answer answered buffer_after pick
     texted n last h l e g =
         rw (h, le-leb _ _ l, e)
@@ -93,27 +91,27 @@ module _ (b table : List ℕ) {u : Bool} where
   plain-as-is e = rw e
 
 -- the answer taken apart
-text-of : (k : Checked) (room : Bool) (m n : ℕ) → Text n ≡ answered k room m → (k ≡ Clean) × (room ≡ true) × (n ≡ m)
+text-of : (k : Result (Unit {0}) Refusal) (room : Bool) (m n : ℕ) → Ok n ≡ answered k room m → (k ≡ (Ok tt)) × (room ≡ true) × (n ≡ m)
 unfolding answered pick
-text-of Clean true m n e = (refl, refl, cc)
-text-of Clean false m n e = let z : ◌≡◌ {A = ℕ} 0 1 = cc in absurd (omega arith)
-text-of (Faulty f) room m n e = let z : ◌≡◌ {A = ℕ} 0 1 = cc in absurd (omega arith)
+text-of (Ok tt) true m n e = (refl, refl, cc)
+text-of (Ok tt) false m n e = let z : ◌≡◌ {A = ℕ} 0 1 = cc in absurd (omega arith)
+text-of (Err f) room m n e = let z : ◌≡◌ {A = ℕ} 0 1 = cc in absurd (omega arith)
 
-refused-of : (k : Checked) (room : Bool) (m : ℕ) {e : Refusal} → Refused e ≡ answered k room m → (k ≡ Clean → room ≡ true) → k ≡ Faulty e
+refused-of : (k : Result (Unit {0}) Refusal) (room : Bool) (m : ℕ) {e : Refusal} → Err e ≡ answered k room m → (k ≡ (Ok tt) → room ≡ true) → k ≡ Err e
 unfolding answered pick
-refused-of Clean true m e h = let z : ◌≡◌ {A = ℕ} 0 1 = cc in absurd (omega arith)
-refused-of Clean false m e h = absurd (false≢true (h refl))
-refused-of (Faulty f) room m e h = cc
+refused-of (Ok tt) true m e h = let z : ◌≡◌ {A = ℕ} 0 1 = cc in absurd (omega arith)
+refused-of (Ok tt) false m e h = absurd (false≢true (h refl))
+refused-of (Err f) room m e h = cc
 
 -- What a caller that lends a buffer with room enough knows of the answer.
 module _ (u : Bool) (b table buf : List ℕ) where
   -- a text: the list has no fault, and the text stands at the buffer's front
   pub record Given (n : ℕ) (last : List ℕ) : Type 0 where
-    pub clean : checked b table ≡ Clean
+    pub clean : checked b table ≡ (Ok tt)
     pub front : take n last ≡ text_of u b table
     pub within : n ≤ length last
 
-  pub given : (n : ℕ) (last : List ℕ) → Text n ≡ format_answer u b table buf → last ≡ buffer_after (Text n) (text_of u b table) buf → Given n last
+  pub given : (n : ℕ) (last : List ℕ) → Ok n ≡ format_answer u b table buf → last ≡ buffer_after (Ok n) (text_of u b table) buf → Given n last
   unfolding format_answer buffer_after
   given n last e g =
       let t = text-of (checked b table) (leb (room_of b table) (length buf)) (length (text_of u b table)) n e in
@@ -125,7 +123,7 @@ module _ (u : Bool) (b table buf : List ℕ) where
       }
 
   -- a refusal: it is the list's fault
-  pub not_given : {e : Refusal} → Refused e ≡ format_answer u b table buf → (is_short b table ≡ true → room_of b table ≤ length buf) → checked b table ≡ Faulty e
+  pub not_given : {e : Refusal} → Err e ≡ format_answer u b table buf → (is_short b table ≡ true → room_of b table ≤ length buf) → checked b table ≡ Err e
   unfolding format_answer
   not_given e h =
       refused-of (checked b table) (leb (room_of b table) (length buf)) (length (text_of u b table)) e

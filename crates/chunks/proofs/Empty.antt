@@ -8,8 +8,7 @@ use borrow.Author.Tests.{le-leb}
 use lib.ListN.{length}
 use Rattle.chars.specs.Pick.{pick}
 use Rattle.refusals.specs.Refusal.{file_span}
-use Rattle.chunks.specs.declared.Checked.TheVariants.{Clean}
-use Rattle.chunks.specs.declared.Formatted.TheVariants.{Text}
+use Rattle.std.specs.Prelude.{Ok}
 use Rattle.chunks.specs.Characters.{up_to, characters, codes_of, codes}
 use Rattle.chunks.specs.Chunks.{chunks_of, kinds_known, lengths, fits, is_short, span_of}
 use Rattle.chunks.specs.Check.{fault_of, checked}
@@ -18,7 +17,7 @@ use Rattle.chunks.specs.Upper.{uppers, uppercase}
 use Rattle.chunks.specs.Answer.{text_of, room_of, answered, format_answer, buffer_after}
 
 -- it has no fault
-pub empty-clean : checked [] [] ≡ Clean
+pub empty-clean : checked [] [] ≡ (Ok tt)
 unfolding checked fits is_short chunks_of kinds_known lengths fault_of pick
 empty-clean = refl
 
@@ -29,7 +28,7 @@ empty-text true = refl
 empty-text false = refl
 
 -- every buffer has room for it
-pub empty-answer : (upper : Bool) (buf : List ℕ) → format_answer upper [] [] buf ≡ Text 0
+pub empty-answer : (upper : Bool) (buf : List ℕ) → format_answer upper [] [] buf ≡ Ok 0
 unfolding format_answer answered room_of chunks_of pick
 empty-answer upper buf = rw (empty-clean, le-leb 0 (length buf) zero-le, empty-text upper)
 

@@ -14,10 +14,8 @@ use Rattle.chars.specs.Utf8.{len_of, is_cont, is_surrogate, decode2, decode3, de
 use Rattle.refusals.specs.declared.Kind.{Kind}
 use Rattle.refusals.specs.declared.Kind.TheVariants.{BadUtf8, UnsupportedChar, NoRoom, BadChunks, TooLong}
 use Rattle.refusals.specs.Refusal.{file_span, refusal}
-use Rattle.chunks.specs.declared.Checked.{Checked}
-use Rattle.chunks.specs.declared.Checked.TheVariants.{Clean, Faulty}
-use Rattle.chunks.specs.declared.Formatted.{Formatted}
-use Rattle.chunks.specs.declared.Formatted.TheVariants.{Text, Refused}
+use Rattle.refusals.specs.declared.Refusal.{Refusal}
+use Rattle.std.specs.Prelude.{Result, Ok, Err}
 use Rattle.chunks.specs.Characters.{and_then, up_to, characters, codes_of, codes}
 use Rattle.chunks.specs.Chunks.{chunks_of, kinds_known, no_math, lengths, fits, is_short, last_end, span_of}
 use Rattle.chunks.specs.Check.{fault_in, or_else, fault_of, checked}
@@ -29,8 +27,8 @@ use Rattle.chunks.specs.Answer.{text_of, room_of, answered, format_answer, buffe
 use Rattle.chunks.proofs.Plains.{chunk-plain}
 
 -- a fault at a place, written out
-abbrev fault : Kind → ℕ → ℕ → Checked
-fault kind start end = Faulty (record { kind = kind; place = file_span start end })
+abbrev fault : Kind → ℕ → ℕ → Result (Unit {0}) Refusal
+fault kind start end = Err (record { kind = kind; place = file_span start end })
 
 -- so many Normal chunks without a text
 abbrev blanks : ℕ → List ℕ
@@ -41,13 +39,13 @@ blanks (suc n) = 0 ∷ 0 ∷ 0 ∷ 0 ∷ blanks n
 pub record CheckExample : Type 0 where
   pub bytes : List ℕ
   pub table : List ℕ
-  pub says : Checked
+  pub says : Result (Unit {0}) Refusal
 
 abbrev pub checks : List CheckExample
 checks =
-    record { bytes = ascii "2020"; table = 0 ∷ 4 ∷ 10 ∷ 14 ∷ []; says = Clean }
+    record { bytes = ascii "2020"; table = 0 ∷ 4 ∷ 10 ∷ 14 ∷ []; says = (Ok tt) }
     -- the three kinds, and no fourth
-    ∷ record { bytes = ascii "abc"; table = 0 ∷ 1 ∷ 0 ∷ 1 ∷ 1 ∷ 1 ∷ 1 ∷ 2 ∷ 2 ∷ 1 ∷ 2 ∷ 3 ∷ []; says = Clean }
+    ∷ record { bytes = ascii "abc"; table = 0 ∷ 1 ∷ 0 ∷ 1 ∷ 1 ∷ 1 ∷ 1 ∷ 2 ∷ 2 ∷ 1 ∷ 2 ∷ 3 ∷ []; says = (Ok tt) }
     ∷ record { bytes = ascii "a"; table = 3 ∷ 1 ∷ 0 ∷ 1 ∷ []; says = fault BadChunks 0 0 }
     -- four numbers a chunk
     ∷ record { bytes = []; table = 0 ∷ 0 ∷ 5 ∷ []; says = fault BadChunks 0 0 }
@@ -58,19 +56,19 @@ checks =
     ∷ record { bytes = ascii "ab"; table = []; says = fault BadChunks 0 0 }
     ∷ record { bytes = ascii "a"; table = 0 ∷ 18446744073709551615 ∷ 0 ∷ 1 ∷ 0 ∷ 2 ∷ 0 ∷ 1 ∷ []; says = fault BadChunks 0 0 }
     -- 64 chunks, and one more
-    ∷ record { bytes = []; table = blanks 64; says = Clean }
+    ∷ record { bytes = []; table = blanks 64; says = (Ok tt) }
     ∷ record { bytes = []; table = blanks 65; says = fault TooLong 0 0 }
     -- an ill-formed sequence: its first byte and one more, whatever its length
     ∷ record { bytes = 0x61 ∷ 0xFF ∷ 0x61 ∷ []; table = 0 ∷ 3 ∷ 0 ∷ 3 ∷ []; says = fault BadUtf8 1 2 }
     ∷ record { bytes = 0xED ∷ 0xA0 ∷ 0x80 ∷ []; table = 0 ∷ 3 ∷ 0 ∷ 3 ∷ []; says = fault BadUtf8 0 1 }
     -- each chunk by itself: a character in two chunks is none
-    ∷ record { bytes = 0x61 ∷ 0xC3 ∷ 0xA9 ∷ []; table = 0 ∷ 3 ∷ 7 ∷ 10 ∷ []; says = Clean }
+    ∷ record { bytes = 0x61 ∷ 0xC3 ∷ 0xA9 ∷ []; table = 0 ∷ 3 ∷ 7 ∷ 10 ∷ []; says = (Ok tt) }
     ∷ record { bytes = 0x61 ∷ 0xC3 ∷ 0xA9 ∷ []; table = 0 ∷ 2 ∷ 7 ∷ 9 ∷ 0 ∷ 1 ∷ 9 ∷ 10 ∷ []; says = fault BadUtf8 1 2 }
     -- a character that is not read: its own bytes
-    ∷ record { bytes = 0xC3 ∷ 0xBF ∷ []; table = 0 ∷ 2 ∷ 0 ∷ 2 ∷ []; says = Clean }
+    ∷ record { bytes = 0xC3 ∷ 0xBF ∷ []; table = 0 ∷ 2 ∷ 0 ∷ 2 ∷ []; says = (Ok tt) }
     ∷ record { bytes = 0x61 ∷ 0xC4 ∷ 0x80 ∷ []; table = 1 ∷ 3 ∷ 0 ∷ 3 ∷ []; says = fault UnsupportedChar 1 3 }
     ∷ record { bytes = 0xE1 ∷ 0xBF ∷ 0xBF ∷ []; table = 2 ∷ 3 ∷ 0 ∷ 3 ∷ []; says = fault UnsupportedChar 0 3 }
-    ∷ record { bytes = 0xE2 ∷ 0x80 ∷ 0x80 ∷ 0xE2 ∷ 0x81 ∷ 0xAF ∷ []; table = 0 ∷ 6 ∷ 0 ∷ 6 ∷ []; says = Clean }
+    ∷ record { bytes = 0xE2 ∷ 0x80 ∷ 0x80 ∷ 0xE2 ∷ 0x81 ∷ 0xAF ∷ []; table = 0 ∷ 6 ∷ 0 ∷ 6 ∷ []; says = (Ok tt) }
     ∷ record { bytes = 0xE2 ∷ 0x81 ∷ 0xB0 ∷ []; table = 0 ∷ 3 ∷ 0 ∷ 3 ∷ []; says = fault UnsupportedChar 0 3 }
     ∷ record { bytes = 0xF0 ∷ 0x9F ∷ 0x98 ∷ 0x80 ∷ []; table = 0 ∷ 4 ∷ 0 ∷ 4 ∷ []; says = fault UnsupportedChar 0 4 }
     -- of two of them the first, in a chunk and in two
@@ -92,7 +90,7 @@ letters-ascii : all_ascii (replicate 4096 0x61) ≡ true
 unfolding all_ascii
 letters-ascii = refl
 
-pub bytes-admitted : checked (replicate 4096 0x61) (0 ∷ 4096 ∷ 0 ∷ 4096 ∷ []) ≡ Clean
+pub bytes-admitted : checked (replicate 4096 0x61) (0 ∷ 4096 ∷ 0 ∷ 4096 ∷ []) ≡ (Ok tt)
 bytes-admitted = (chunk-plain (replicate 4096 0x61) 0 4096 0 4096 refl refl (lit≤ tt) letters-ascii).0
 
 -- one more is not
@@ -148,19 +146,19 @@ pub record AnswerExample : Type 0 where
   pub bytes : List ℕ
   pub table : List ℕ
   pub buffer : List ℕ
-  pub says : Formatted
+  pub says : Result ℕ Refusal
   pub holds : List ℕ
 
 abbrev pub answers : List AnswerExample
 answers =
     -- the room is that of the bytes and two for each chunk, whatever the text needs; what stands behind the text stays
-    record { bytes = ascii "ab"; table = 0 ∷ 2 ∷ 0 ∷ 2 ∷ []; buffer = 1 ∷ 2 ∷ 3 ∷ 4 ∷ 5 ∷ []; says = Text 2; holds = 0x61 ∷ 0x62 ∷ 3 ∷ 4 ∷ 5 ∷ [] }
-    ∷ record { bytes = ascii "ab"; table = 0 ∷ 2 ∷ 0 ∷ 2 ∷ []; buffer = 1 ∷ 2 ∷ 3 ∷ 4 ∷ []; says = Text 2; holds = 0x61 ∷ 0x62 ∷ 3 ∷ 4 ∷ [] }
-    ∷ record { bytes = ascii "ab"; table = 0 ∷ 2 ∷ 0 ∷ 2 ∷ []; buffer = 1 ∷ 2 ∷ 3 ∷ []; says = Refused (record { kind = NoRoom; place = file_span 0 0 }); holds = 1 ∷ 2 ∷ 3 ∷ [] }
-    ∷ record { bytes = ascii "x"; table = 2 ∷ 1 ∷ 0 ∷ 1 ∷ []; buffer = 1 ∷ 2 ∷ 3 ∷ []; says = Text 3; holds = 0x24 ∷ 0x78 ∷ 0x24 ∷ [] }
+    record { bytes = ascii "ab"; table = 0 ∷ 2 ∷ 0 ∷ 2 ∷ []; buffer = 1 ∷ 2 ∷ 3 ∷ 4 ∷ 5 ∷ []; says = Ok 2; holds = 0x61 ∷ 0x62 ∷ 3 ∷ 4 ∷ 5 ∷ [] }
+    ∷ record { bytes = ascii "ab"; table = 0 ∷ 2 ∷ 0 ∷ 2 ∷ []; buffer = 1 ∷ 2 ∷ 3 ∷ 4 ∷ []; says = Ok 2; holds = 0x61 ∷ 0x62 ∷ 3 ∷ 4 ∷ [] }
+    ∷ record { bytes = ascii "ab"; table = 0 ∷ 2 ∷ 0 ∷ 2 ∷ []; buffer = 1 ∷ 2 ∷ 3 ∷ []; says = Err (record { kind = NoRoom; place = file_span 0 0 }); holds = 1 ∷ 2 ∷ 3 ∷ [] }
+    ∷ record { bytes = ascii "x"; table = 2 ∷ 1 ∷ 0 ∷ 1 ∷ []; buffer = 1 ∷ 2 ∷ 3 ∷ []; says = Ok 3; holds = 0x24 ∷ 0x78 ∷ 0x24 ∷ [] }
     -- a fault comes before NoRoom, and stores nothing
-    ∷ record { bytes = 0x61 ∷ 0xFF ∷ []; table = 0 ∷ 2 ∷ 0 ∷ 2 ∷ []; buffer = 1 ∷ []; says = Refused (record { kind = BadUtf8; place = file_span 1 2 }); holds = 1 ∷ [] }
-    ∷ record { bytes = 0x61 ∷ 0xFF ∷ []; table = 0 ∷ 2 ∷ 0 ∷ 2 ∷ []; buffer = 1 ∷ 2 ∷ 3 ∷ 4 ∷ []; says = Refused (record { kind = BadUtf8; place = file_span 1 2 }); holds = 1 ∷ 2 ∷ 3 ∷ 4 ∷ [] }
+    ∷ record { bytes = 0x61 ∷ 0xFF ∷ []; table = 0 ∷ 2 ∷ 0 ∷ 2 ∷ []; buffer = 1 ∷ []; says = Err (record { kind = BadUtf8; place = file_span 1 2 }); holds = 1 ∷ [] }
+    ∷ record { bytes = 0x61 ∷ 0xFF ∷ []; table = 0 ∷ 2 ∷ 0 ∷ 2 ∷ []; buffer = 1 ∷ 2 ∷ 3 ∷ 4 ∷ []; says = Err (record { kind = BadUtf8; place = file_span 1 2 }); holds = 1 ∷ 2 ∷ 3 ∷ 4 ∷ [] }
     ∷ []
 
 pub answer-examples : map (λ (e : AnswerExample). format_answer false e.bytes e.table e.buffer) answers ≡ map (λ (e : AnswerExample). e.says) answers

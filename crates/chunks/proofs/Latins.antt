@@ -17,7 +17,7 @@ use Rattle.chars.specs.declared.Decoded.TheVariants.{Char}
 use Rattle.chars.proofs.Cases.{of_test, and-true}
 use Rattle.chars.proofs.Classes.{ascii-admitted}
 use Rattle.chars.proofs.Laws.{cont, first-ascii, two_is}
-use Rattle.chunks.specs.declared.Checked.TheVariants.{Clean}
+use Rattle.std.specs.Prelude.{Ok}
 use Rattle.chunks.specs.Characters.{and_then, characters}
 use Rattle.chunks.specs.Check.{fault_in}
 use Rattle.chunks.specs.Latin.{is_lead, may_follow, all_latin}
@@ -80,7 +80,7 @@ unfolding all_latin
 open-some b h e = false≢true (rw h at e)
 
 -- no fault
-latin-faultless : (n q p : ℕ) (t : List ℕ) → length t ≤ n → is_lead p ≡ false → all_latin p t ≡ true → fault_in q (characters t) ≡ Clean
+latin-faultless : (n q p : ℕ) (t : List ℕ) → length t ≤ n → is_lead p ≡ false → all_latin p t ≡ true → fault_in q (characters t) ≡ (Ok tt)
 unfolding fault_in pick
 latin-faultless n q p [] l h e = rw no-characters
 latin-faultless zero q p (b ∷ t) l h e = absurd (omega arith)
@@ -97,7 +97,7 @@ latin-faultless (suc n) q p (b ∷ c ∷ t) l h e =
     let k = continues b c t more lead in
     rw (pair-characters b c lead k t, pair-admitted b c lead k) (latin-faultless n (q + 2) c t (omega arith) (pair-next b c lead k) (latin-rest b c t more)))
 
-pub latin-clean : (q : ℕ) (t : List ℕ) → all_latin 0 t ≡ true → fault_in q (characters t) ≡ Clean
+pub latin-clean : (q : ℕ) (t : List ℕ) → all_latin 0 t ≡ true → fault_in q (characters t) ≡ (Ok tt)
 latin-clean q t e = latin-faultless (length t) q 0 t (omega arith) (lead-not 0 (omega arith)) e
 
 -- byte by byte

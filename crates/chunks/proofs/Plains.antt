@@ -20,7 +20,7 @@ use Rattle.chars.specs.declared.Upper.TheVariants.{One}
 use Rattle.chars.proofs.Cases.{by-test, of_test, and-true}
 use Rattle.chars.proofs.Encode.{encode_one}
 use Rattle.chars.proofs.Laws.{first-ascii}
-use Rattle.chunks.specs.declared.Checked.TheVariants.{Clean}
+use Rattle.std.specs.Prelude.{Ok}
 use Rattle.chunks.specs.Characters.{and_then, up_to, characters, codes_of, codes}
 use Rattle.chunks.specs.Chunks.{chunks_of, kinds_known, lengths, fits, is_short}
 use Rattle.chunks.specs.Check.{fault_in, or_else, fault_of, checked}
@@ -55,7 +55,7 @@ ascii-codes [] e = rw no-characters
 ascii-codes (b ∷ t) e = rw (ascii-characters b t e) (ap (λ (l : List ℕ). b ∷ l) (ascii-codes t (rest-ascii b t e)))
 
 -- none of them is a fault
-pub ascii-clean : (p : ℕ) (t : List ℕ) → all_ascii t ≡ true → fault_in p (characters t) ≡ Clean
+pub ascii-clean : (p : ℕ) (t : List ℕ) → all_ascii t ≡ true → fault_in p (characters t) ≡ (Ok tt)
 unfolding fault_in pick
 ascii-clean p [] e = rw no-characters
 ascii-clean p (b ∷ t) e = rw (ascii-characters b t e, ascii-admitted b (front_low b t e)) (ascii-clean (p + 1) t (rest-ascii b t e))
@@ -195,7 +195,7 @@ of_plain b t e =
     }
 
 -- one Normal chunk with all of the bytes
-pub chunk-plain : (b : List ℕ) (k n s e : ℕ) → k ≡ 0 → n ≡ length b → length b ≤ 4096 → all_ascii b ≡ true → (checked b (k ∷ n ∷ s ∷ e ∷ []) ≡ Clean) × (formatted b (k ∷ n ∷ s ∷ e ∷ []) ≡ plain_text false false b)
+pub chunk-plain : (b : List ℕ) (k n s e : ℕ) → k ≡ 0 → n ≡ length b → length b ≤ 4096 → all_ascii b ≡ true → (checked b (k ∷ n ∷ s ∷ e ∷ []) ≡ (Ok tt)) × (formatted b (k ∷ n ∷ s ∷ e ∷ []) ≡ plain_text false false b)
 unfolding checked fits is_short chunks_of kinds_known lengths fault_of or_else formatted chunks_out chunk_out pick
 chunk-plain b k n s e z w h a =
     rw (z, w, add-zero (length b), eq-eqb (length b) (length b) refl, le-leb (length b) 4096 h, take_all (length b) b (omega arith), ascii-clean 0 b a, ascii-codes b a)
@@ -213,7 +213,7 @@ plain-text false b t f a = f
 
 -- a plain list has no fault, and its text is what the one pass gives
 pub record Plainly (b t : List ℕ) : Type 0 where
-  pub clean : checked b t ≡ Clean
+  pub clean : checked b t ≡ (Ok tt)
   pub text : (u : Bool) → text_of u b t ≡ plain_text u false b
   pub room : room_of b t ≡ length b + 2
 

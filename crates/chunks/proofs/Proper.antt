@@ -18,8 +18,7 @@ use Rattle.chars.proofs.Encode.{encode_one}
 use Rattle.chars.proofs.Laws.{Sound, first-sound, first-ascii, first-kept, first-end}
 use Rattle.chars.proofs.Laws.Sound.{char, bad, end}
 use Rattle.refusals.specs.declared.Refusal.{Refusal}
-use Rattle.chunks.specs.declared.Checked.{Checked}
-use Rattle.chunks.specs.declared.Checked.TheVariants.{Clean, Faulty}
+use Rattle.std.specs.Prelude.{Result, Ok, Err}
 use Rattle.chunks.specs.Characters.{and_then, characters, codes_of, codes}
 use Rattle.chunks.specs.Chunks.{Chunk, chunks_of}
 use Rattle.chunks.specs.Check.{fault_in, or_else, fault_of}
@@ -126,10 +125,10 @@ proper-normal w spells_none = proper-nil
 proper-normal w (spells_more {c} s r) = proper-append (proper-out w c s) (proper-normal (is_whitespace c) r)
 
 -- a text without a fault
-pub faulty-not : {e : Refusal} → Faulty e ≡ Clean → ⊥
+pub faulty-not : {e : Refusal} → ◌≡◌ {A = Result (Unit {0}) Refusal} (Err e) (Ok tt) → ⊥
 faulty-not h = let z : ◌≡◌ {A = ℕ} 0 1 = cc in omega arith
 
-admitted-on : (t : Bool) {next : Checked} {e : Checked} → (e ≡ Clean → ⊥) → pick t next e ≡ Clean → next ≡ Clean
+admitted-on : (t : Bool) {next : Result (Unit {0}) Refusal} {e : Result (Unit {0}) Refusal} → (e ≡ (Ok tt) → ⊥) → pick t next e ≡ (Ok tt) → next ≡ (Ok tt)
 unfolding pick
 admitted-on true n h = h
 admitted-on false n h = absurd (n h)
@@ -143,7 +142,7 @@ read-nil : Read []
 unfolding codes codes_of encode_all
 read-nil = record { is = ap (λ (l : List Decoded). encode_all (codes_of l)) no-characters; spells = subst (λ (l : List Decoded). Spells (codes_of l)) (sym no-characters) spells_none }
 
-read_step : (t : List ℕ) (p : ℕ) → ((k q : ℕ) → 0 < k → fault_in q (characters (drop k t)) ≡ Clean → Read (drop k t)) → {d : Decoded} → first t ≡ d → Sound t d → fault_in p (characters t) ≡ Clean → Read t
+read_step : (t : List ℕ) (p : ℕ) → ((k q : ℕ) → 0 < k → fault_in q (characters (drop k t)) ≡ (Ok tt) → Read (drop k t)) → {d : Decoded} → first t ≡ d → Sound t d → fault_in p (characters t) ≡ (Ok tt) → Read t
 unfolding fault_in codes codes_of encode_all and_then
 read_step t p again e (char {k} {code} a b m f) h =
     let here : characters t ≡ Char code k ∷ characters (drop k t) = characters-are t ∙ rw e in
@@ -158,14 +157,14 @@ read_step t p again e bad h =
     absurd (faulty-not (rw here at h))
 read_step t p again e end h = subst Read (sym (first-end t e)) read-nil
 
-clean-read : (n p : ℕ) (t : List ℕ) → length t ≤ n → fault_in p (characters t) ≡ Clean → Read t
+clean-read : (n p : ℕ) (t : List ℕ) → length t ≤ n → fault_in p (characters t) ≡ (Ok tt) → Read t
 clean-read zero p [] h e = read-nil
 clean-read zero p (a ∷ t) h e = absurd (omega arith)
 clean-read (suc n) p t h e =
     read_step t p (λ k q l f. clean-read n q (drop k t) (omega (arith, length-drop k t)) f) refl (first-sound t) e
 
 -- a text without a fault is the bytes of its own codes
-pub clean_is : (p : ℕ) (t : List ℕ) → fault_in p (characters t) ≡ Clean → encode_all (codes t) ≡ t
+pub clean_is : (p : ℕ) (t : List ℕ) → fault_in p (characters t) ≡ (Ok tt) → encode_all (codes t) ≡ t
 clean_is p t e = (clean-read (length t) p t (omega arith) e).is
 
 proper-read : (t : List ℕ) → Read t → Proper t
@@ -180,12 +179,12 @@ proper-chunk w kind t r =
     (λ _. proper-append (proper-ascii 0x24 (lit< tt)) (proper-append (proper-read t r) (proper-ascii 0x24 (lit< tt)))))
 
 -- no fault in either part
-pub else-clean : (f : Checked) {g : Checked} → or_else f g ≡ Clean → (f ≡ Clean) × (g ≡ Clean)
+pub else-clean : (f : Result (Unit {0}) Refusal) {g : Result (Unit {0}) Refusal} → or_else f g ≡ (Ok tt) → (f ≡ (Ok tt)) × (g ≡ (Ok tt))
 unfolding or_else
-else-clean Clean h = (refl, h)
-else-clean (Faulty e) h = absurd (faulty-not h)
+else-clean (Ok tt) h = (refl, h)
+else-clean (Err e) h = absurd (faulty-not h)
 
-proper-chunks : (w : Bool) (p : ℕ) (b : List ℕ) (cs : List Chunk) → fault_of p b cs ≡ Clean → Proper (chunks_out w b cs)
+proper-chunks : (w : Bool) (p : ℕ) (b : List ℕ) (cs : List Chunk) → fault_of p b cs ≡ (Ok tt) → Proper (chunks_out w b cs)
 unfolding chunks_out fault_of
 proper-chunks w p b [] h = proper-nil
 proper-chunks w p b (c ∷ cs) h =
@@ -195,6 +194,6 @@ proper-chunks w p b (c ∷ cs) h =
     (proper-chunks (chunk_flag w c.kind t) (p + c.len) (drop c.len b) cs both.1)
 
 -- the formatted text of a list without a fault
-pub proper-text : (b table : List ℕ) → fault_of 0 b (chunks_of table) ≡ Clean → Proper (formatted b table)
+pub proper-text : (b table : List ℕ) → fault_of 0 b (chunks_of table) ≡ (Ok tt) → Proper (formatted b table)
 unfolding formatted
 proper-text b table h = proper-chunks false 0 b (chunks_of table) h

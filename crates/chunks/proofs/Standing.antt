@@ -13,7 +13,7 @@ use lib.Seq.{drop-cons}
 use Rattle.chars.specs.Pick.{pick}
 use Rattle.chars.specs.Classes.{is_whitespace}
 use Rattle.chars.proofs.Cases.{of_test, and-true}
-use Rattle.chunks.specs.declared.Checked.TheVariants.{Clean}
+use Rattle.std.specs.Prelude.{Ok}
 use Rattle.chunks.specs.Chunks.{Chunk, chunks_of, no_math, lengths, fits, is_short}
 use Rattle.chunks.specs.Check.{checked}
 use Rattle.chunks.specs.Format.{chunk_out, chunk_flag, chunks_out, formatted}
@@ -134,7 +134,7 @@ module _ (u : Bool) (b table : List ℕ) (s : list_stands u b table ≡ true) wh
   k = of-stands u b table s
 
   -- it has no fault,
-  pub stands-clean : checked b table ≡ Clean
+  pub stands-clean : checked b table ≡ (Ok tt)
   stands-clean = ascii-checked b table k.whole k.short (standing-ascii u b k.bytes)
 
   -- it is put as it is,

@@ -69,3 +69,12 @@ module _ (s : List ℕ) (i : ℕ) where
   pub code-end : decode_at s i ≡ End → codes (drop i s) ≡ []
   unfolding codes codes_of
   code-end e = rw (at-end e)
+
+-- no character stands there: none is left that is read
+pub code-over : (s : List ℕ) (i : ℕ) → ((code n : ℕ) → decode_at s i ≡ Char code n → ⊥) → codes (drop i s) ≡ []
+code-over s i none =
+    elim (decode_at s i) as (λ d. decode_at s i ≡ d → codes (drop i s) ≡ []) [
+      | Char code n ↦ λ e. absurd (none code n e)
+      | Bad ↦ λ e. code-bad s i e
+      | End ↦ λ e. code-end s i e
+    ] refl

@@ -16,7 +16,7 @@ use Rattle.chars.specs.Utf8.{encode, encode_all}
 use Rattle.chars.specs.Classes.{is_whitespace}
 use Rattle.chars.proofs.Cases.{and-true}
 use Rattle.chars.proofs.Encode.{encode_one}
-use Rattle.chunks.specs.declared.Checked.TheVariants.{Clean}
+use Rattle.std.specs.Prelude.{Ok}
 use Rattle.chunks.specs.Chunks.{Chunk, chunks_of, fits, is_short}
 use Rattle.chunks.specs.Check.{or_else, fault_of, checked}
 use Rattle.chunks.specs.Format.{is_break, one_out, normal}
@@ -36,13 +36,13 @@ drop-ascii (suc n) [] e = e
 drop-ascii (suc n) (b ∷ t) e = drop-ascii n t (rest-ascii b t e)
 
 -- however it is cut in chunks, it has no fault
-pub ascii-faultless : (p : ℕ) (b : List ℕ) (cs : List Chunk) → all_ascii b ≡ true → fault_of p b cs ≡ Clean
+pub ascii-faultless : (p : ℕ) (b : List ℕ) (cs : List Chunk) → all_ascii b ≡ true → fault_of p b cs ≡ (Ok tt)
 unfolding fault_of or_else
 ascii-faultless p b [] e = refl
 ascii-faultless p b (c ∷ cs) e =
     rw (ascii-clean p (take c.len b) (take-ascii c.len b e)) (ascii-faultless (p + c.len) (drop c.len b) cs (drop-ascii c.len b e))
 
-pub ascii-checked : (b t : List ℕ) → fits b t ≡ true → is_short b t ≡ true → all_ascii b ≡ true → checked b t ≡ Clean
+pub ascii-checked : (b t : List ℕ) → fits b t ≡ true → is_short b t ≡ true → all_ascii b ≡ true → checked b t ≡ (Ok tt)
 unfolding checked pick
 ascii-checked b t f s e = rw (f, s) (ascii-faultless 0 b (chunks_of t) e)
 

@@ -1,7 +1,8 @@
 -- Chunk lists as a caller lends them: one, one that may be absent, and three as the fields year, month and day.
-use Rattle.std.specs.Prelude.{ℕ, Bool, false, List, []}
+use Rattle.std.specs.Prelude.{ℕ, Bool, false, true, List, [], Result, Option, None, Some}
 use Rattle.refusals.specs.declared.FileSpan.{FileSpan}
-use Rattle.chunks.specs.declared.Checked.{Checked}
+use Rattle.refusals.specs.declared.Refusal.{Refusal}
+use Rattle.chunks.specs.declared.ChunksRef.{ChunksRef}
 use Rattle.chunks.specs.Chunks.{chunks_of, span_of}
 use Rattle.chunks.specs.Check.{checked}
 use Rattle.chunks.specs.Format.{formatted}
@@ -41,12 +42,21 @@ optional has b t = record { present = has; list = lent b t }
 abbrev pub absent : Optional
 absent = optional false [] []
 
+-- the list that is lent
+abbrev pub lent_of : ChunksRef → Lent
+lent_of l = lent l.bytes.now l.table.now
+
+-- the same, if it is present
+abbrev pub optional_of : Option ChunksRef → Optional
+optional_of None = absent
+optional_of (Some l) = record { present = true; list = lent_of l }
+
 -- three fields of these lists
 abbrev pub three : Lent → Optional → Optional → Three
 three y m d = record { year = y; month = m; day = d }
 
 -- what the checks of a list say
-abbrev pub check_of : Lent → Checked
+abbrev pub check_of : Lent → Result (Unit {0}) Refusal
 check_of l = checked l.bytes l.table
 
 -- the formatted text of a list

@@ -2,12 +2,11 @@
 // A list is lent bytes and a lent table of four numbers a chunk: kind (0 Normal, 1 Verbatim, 2 Math), length, span start, span end.
 #![tactic(auto)]
 
-ghost use Rattle.std.specs.Prelude.{◌≡◌, true, false, ◌&&◌, ◌+◌, ◌%◌, ◌^◌, ◌<◌, ◌≤◌, eqb, length};
+ghost use Rattle.std.specs.Prelude.{◌≡◌, true, false, ◌&&◌, ◌+◌, ◌%◌, ◌^◌, ◌<◌, ◌≤◌, eqb, length, Ok, Err};
 ghost use Rattle.std.proofs.lemmas.List.Edits.{sets};
 ghost use Rattle.chars.specs.Utf8.{encode, encode_all};
 ghost use Rattle.chars.specs.Classes.{is_whitespace};
 ghost use Rattle.refusals.specs.Refusal.{bytes_at};
-ghost use Rattle.chunks.specs.declared.Checked.TheVariants.{Clean, Faulty};
 ghost use Rattle.chunks.specs.Characters.{codes};
 ghost use Rattle.chunks.specs.Chunks as chunks_specs;
 ghost use Rattle.chunks.specs.Check as check_specs;
@@ -29,20 +28,6 @@ const LINE_FEED: u32 = b'\n' as u32;
 
 const CARRIAGE_RETURN: u32 = b'\r' as u32;
 
-// Whether a list may be read, or what is wrong with it.
-#[derive(Clone, Copy)]
-pub enum Checked {
-    Clean,
-    Faulty(Refusal),
-}
-
-// A text in the lent buffer, with its length; or why there is none.
-#[derive(Clone, Copy)]
-pub enum Formatted {
-    Text(usize),
-    Refused(Refusal),
-}
-
 // How far a buffer is filled, and whether what was put last was white space.
 #[derive(Clone, Copy)]
 struct Put {
@@ -57,137 +42,26 @@ fn lengths_fit(table: &[u64], bytes: usize) -> bool
     ensures { result ≡ (chunks_specs.kinds_known (chunks_specs.chunks_of table.now) && eqb (chunks_specs.lengths (chunks_specs.chunks_of table.now)) bytes) }
 {
     let mut left = bytes as u64;
-    let mut k = 0;
-    while k < table.len() {
-        let kind = table[k];
+    for k in 0..table.len() / 4 {
+        let kind = table[4 * k];
         if 2 < kind {
             return false;
         }
-        let len = table[k + 1];
+        let len = table[4 * k + 1];
         if left < len {
             return false;
         }
         left = left - len;
-        k = k + 4;
     }
     left == 0
 }
 
-// Four numbers a chunk, known kinds, and lengths that make up the bytes: else BadChunks.
-fn fits(bytes: &[u8], table: &[u64]) -> bool
-    ensures { result ≡ chunks_specs.fits bytes.now table.now }
-{
-    if table.len() % 4 == 0 {
-        return lengths_fit(table, bytes.len());
-    }
-    false
-}
-
-// The first ill-formed or unsupported character: the chunks and their characters in turn, left at the first fault.
-fn check_characters(bytes: &[u8], table: &[u64]) -> Checked
-    requires { chunks_specs.fits bytes.now table.now ≡ true }
-    ensures { result ≡ check_specs.fault_of 0 bytes.now (chunks_specs.chunks_of table.now) }
-{
-    let mut at = 0;
-    let mut k = 0;
-    let mut found = Checked::Clean;
-    'chunks: while k < table.len() {
-        let len = table[k + 1] as usize;
-        let t = &bytes[at..at + len];
-        let mut i = 0;
-        'characters: loop {
-            match chars::decode_at(t, i) {
-                Decoded::Char { code, len: n } => {
-                    if chars::is_admitted(code) {
-                        i = i + n;
-                    } else {
-                        found = faulty(Kind::UnsupportedChar, at + i, n);
-                        break 'chunks;
-                    }
-                }
-                Decoded::Bad => {
-                    found = faulty(Kind::BadUtf8, at + i, 1);
-                    break 'chunks;
-                }
-                Decoded::End => {
-                    break 'characters;
-                }
-            }
-        }
-        at = at + len;
-        k = k + 4;
-    }
-    found
-}
-
 // A fault at a place of the lent bytes.
-fn faulty(kind: Kind, at: usize, len: usize) -> Checked
+fn faulty(kind: Kind, at: usize, len: usize) -> Result<(), Refusal>
     requires { at + len < 2 ^ 64 }
-    ensures { result ≡ Faulty (bytes_at kind at (at + len)) }
+    ensures { result ≡ Err (bytes_at kind at (at + len)) }
 {
-    Checked::Faulty(refusals::bytes_at(kind, at, at + len))
-}
-
-// Whether the list keeps within the limits: 64 chunks and 4,096 bytes.
-fn is_short(bytes: &[u8], table: &[u64]) -> bool
-    ensures { result ≡ chunks_specs.is_short bytes.now table.now }
-{
-    if table.len() / 4 <= 64 {
-        return bytes.len() <= 4096;
-    }
-    false
-}
-
-// Whether a long list has characters up to U+00FF alone: then none is a fault. A look at each byte before any is decoded pays on a long one.
-fn is_latin(bytes: &[u8], table: &[u64]) -> bool
-    requires { chunks_specs.fits bytes.now table.now ≡ true }
-    ensures { result ≡ true → check_specs.fault_of 0 bytes.now (chunks_specs.chunks_of table.now) ≡ Clean }
-{
-    if bytes.len() < 32 {
-        return false;
-    }
-    let mut at = 0;
-    let mut k = 0;
-    while k < table.len() {
-        let len = table[k + 1] as usize;
-        if all_latin(&bytes[at..at + len]) {
-            at = at + len;
-            k = k + 4;
-        } else {
-            return false;
-        }
-    }
-    true
-}
-
-// The checks of a list, in their order: the table, the limits, the characters.
-pub fn check(bytes: &[u8], table: &[u64]) -> Checked
-    ensures { result ≡ check_specs.checked bytes.now table.now }
-{
-    if fits(bytes, table) {
-        if is_short(bytes, table) {
-            if all_ascii(bytes) {
-                return Checked::Clean;
-            }
-            if is_latin(bytes, table) {
-                return Checked::Clean;
-            }
-            return check_characters(bytes, table);
-        }
-        return Checked::Faulty(nowhere(Kind::TooLong));
-    }
-    Checked::Faulty(nowhere(Kind::BadChunks))
-}
-
-// The span of a list: from its first chunk's start to its last one's end, and 0, 0 of no chunk.
-pub fn span(table: &[u64]) -> FileSpan
-    ensures { result ≡ chunks_specs.span_of (chunks_specs.chunks_of table.now) }
-{
-    let n = table.len() / 4 * 4;
-    if n == 0 {
-        return refusals::lent_span(0, 0);
-    }
-    refusals::lent_span(table[2], table[n - 1])
+    Err(refusals::bytes_at(kind, at, at + len))
 }
 
 // Puts the bytes of a character.
@@ -260,27 +134,15 @@ fn put_normal_each(buf: &mut [u8], n: usize, t: &[u8], white: bool) -> Put
     let mut m = n;
     let mut w = white;
     let mut i = 0;
-    loop {
-        match chars::decode_at(t, i) {
-            Decoded::Char { code, len } => {
-                let p = put_one(buf, m, w, code);
-                m = p.n;
-                w = p.prev_was_whitespace;
-                i = i + len;
-            }
-            Decoded::Bad => {
-                return Put {
-                    n: m,
-                    prev_was_whitespace: w,
-                };
-            }
-            Decoded::End => {
-                return Put {
-                    n: m,
-                    prev_was_whitespace: w,
-                };
-            }
-        }
+    while let Decoded::Char { code, len } = chars::decode_at(t, i) {
+        let p = put_one(buf, m, w, code);
+        m = p.n;
+        w = p.prev_was_whitespace;
+        i = i + len;
+    }
+    Put {
+        n: m,
+        prev_was_whitespace: w,
     }
 }
 
@@ -306,14 +168,9 @@ fn put_bytes(buf: &mut [u8], n: usize, t: &[u8]) -> usize
     requires { n + length t.now ≤ length buf.old }
     ensures { (result ≡ n + length t.now) × (buf.new ≡ sets buf.old n t.now) }
 {
-    let mut m = n;
-    let mut i = 0;
-    while i < t.len() {
-        buf[m] = t[i];
-        m = m + 1;
-        i = i + 1;
-    }
-    m
+    let next = n + t.len();
+    buf[n..next].copy_from_slice(t);
+    next
 }
 
 // Whether the last character is white space; of no characters what is given. `last_white` is the same and quicker.
@@ -322,20 +179,11 @@ fn last_white_each(t: &[u8], white: bool) -> bool
 {
     let mut w = white;
     let mut i = 0;
-    loop {
-        match chars::decode_at(t, i) {
-            Decoded::Char { code, len } => {
-                w = chars::is_whitespace(code);
-                i = i + len;
-            }
-            Decoded::Bad => {
-                return w;
-            }
-            Decoded::End => {
-                return w;
-            }
-        }
+    while let Decoded::Char { code, len } = chars::decode_at(t, i) {
+        w = chars::is_whitespace(code);
+        i = i + len;
     }
+    w
 }
 
 // The same of well-formed characters. The last bytes tell a character up to U+00FF.
@@ -386,29 +234,6 @@ fn put_chunk(buf: &mut [u8], n: usize, kind: u64, t: &[u8], white: bool) -> Put
     }
 }
 
-// Puts the chunks of a list, one behind the other.
-fn put_list(bytes: &[u8], table: &[u64], buf: &mut [u8]) -> usize
-    requires table_value { chunks_specs.fits bytes.now table.now ≡ true }
-    requires table_in_bounds { answer_specs.room_of bytes.now table.now ≤ length buf.old }
-    requires table_value_2 { check_specs.fault_of 0 bytes.now (chunks_specs.chunks_of table.now) ≡ Clean }
-    ensures { (result ≡ length (format_specs.formatted bytes.now table.now)) × (buf.new ≡ sets buf.old 0 (format_specs.formatted bytes.now table.now)) × (result ≤ length buf.old) }
-{
-    let mut at = 0;
-    let mut k = 0;
-    let mut n = 0;
-    let mut w = false;
-    while k < table.len() {
-        let kind = table[k];
-        let len = table[k + 1] as usize;
-        let p = put_chunk(buf, n, kind, &bytes[at..at + len], w);
-        n = p.n;
-        w = p.prev_was_whitespace;
-        at = at + len;
-        k = k + 4; // past the four numbers
-    }
-    n
-}
-
 // Puts a character's upper case.
 fn put_upper(buf: &mut [u8], n: usize, code: u32) -> usize
     requires { (code < 0x110000) × (n + length (upper_specs.upper_out code) ≤ length buf.old) }
@@ -428,18 +253,8 @@ fn upper_each(buf: &mut [u8])
     ensures { buf.new ≡ sets buf.old 0 (upper_specs.uppercase buf.old) }
 {
     let mut i = 0;
-    loop {
-        match chars::decode_at(buf, i) {
-            Decoded::Char { code, len: _ } => {
-                i = put_upper(buf, i, code);
-            }
-            Decoded::Bad => {
-                return;
-            }
-            Decoded::End => {
-                return;
-            }
-        }
+    while let Decoded::Char { code, len: _ } = chars::decode_at(buf, i) {
+        i = put_upper(buf, i, code);
     }
 }
 
@@ -448,11 +263,8 @@ fn upper_bytes(buf: &mut [u8])
     requires { plain_specs.all_ascii buf.old ≡ true }
     ensures { buf.new ≡ sets buf.old 0 (upper_specs.uppercase buf.old) }
 {
-    let mut i = 0;
-    while i < buf.len() {
-        let b = buf[i];
-        buf[i] = plain_byte(true, b);
-        i = i + 1;
+    for b in buf.iter_mut() {
+        *b = plain_byte(true, *b);
     }
 }
 
@@ -473,12 +285,10 @@ fn upper_latin(buf: &mut [u8])
     ensures { buf.new ≡ sets buf.old 0 (upper_specs.uppercase buf.old) }
 {
     let mut p = 0;
-    let mut i = 0;
-    while i < buf.len() {
-        let b = buf[i];
-        buf[i] = raise(p, b);
-        p = b;
-        i = i + 1;
+    for b in buf.iter_mut() {
+        let before = *b;
+        *b = raise(p, before);
+        p = before;
     }
 }
 
@@ -507,10 +317,8 @@ fn all_ascii(t: &[u8]) -> bool
     ensures { result ≡ plain_specs.all_ascii t.now }
 {
     let mut ok = true;
-    let mut i = 0;
-    while i < t.len() {
-        ok = ok & (t[i] < 0x80);
-        i = i + 1;
+    for b in t {
+        ok = ok & (*b < 0x80);
     }
     ok
 }
@@ -537,12 +345,9 @@ fn all_latin(t: &[u8]) -> bool
 {
     let mut ok = true;
     let mut p = 0;
-    let mut i = 0;
-    while i < t.len() {
-        let b = t[i];
+    for &b in t {
         ok = ok & may_follow(p, b);
         p = b;
-        i = i + 1;
     }
     let open = is_lead(p);
     ok & !open
@@ -561,13 +366,10 @@ fn none_odd(t: &[u8]) -> bool
 {
     let mut ok = true;
     let mut p = 0;
-    let mut i = 0;
-    while i < t.len() {
-        let b = t[i];
+    for &b in t {
         let odd = is_odd(p, b);
         ok = ok & !odd;
         p = b;
-        i = i + 1;
     }
     ok
 }
@@ -577,28 +379,10 @@ fn all_unbroken(t: &[u8]) -> bool
     ensures { result ≡ plain_specs.all_unbroken t.now }
 {
     let mut ok = true;
-    let mut i = 0;
-    while i < t.len() {
-        ok = ok & (b'\r' < t[i]);
-        i = i + 1;
+    for b in t {
+        ok = ok & (b'\r' < *b);
     }
     ok
-}
-
-// Whether a list is one Normal chunk of ASCII within the limits: the usual one, which is formatted in one pass.
-fn is_plain(bytes: &[u8], table: &[u64]) -> bool
-    ensures { result ≡ plain_specs.is_plain bytes.now table.now }
-{
-    if table.len() == 4 {
-        if table[0] == 0 {
-            if table[1] == bytes.len() as u64 {
-                if bytes.len() <= 4096 {
-                    return all_ascii(bytes);
-                }
-            }
-        }
-    }
-    false
 }
 
 // An ASCII byte in upper case, where that is asked.
@@ -657,12 +441,10 @@ fn put_plain_each(buf: &mut [u8], t: &[u8], upper: bool) -> usize
 {
     let mut m = 0;
     let mut w = false;
-    let mut i = 0;
-    while i < t.len() {
-        let p = put_plain_byte(buf, m, upper, w, t[i]);
+    for b in t {
+        let p = put_plain_byte(buf, m, upper, w, *b);
         m = p.n;
         w = p.prev_was_whitespace;
-        i = i + 1;
     }
     m
 }
@@ -693,66 +475,14 @@ fn put_plain(buf: &mut [u8], t: &[u8], upper: bool) -> usize
     put_plain_each(buf, t, upper)
 }
 
-// The text of any list.
-fn format_any(bytes: &[u8], table: &[u64], upper: bool, buf: &mut [u8]) -> Formatted
-    ensures value { result ≡ answer_specs.format_answer upper bytes.now table.now buf.old }
-    ensures buf_after { buf.new ≡ answer_specs.buffer_after result (answer_specs.text_of upper bytes.now table.now) buf.old }
-{
-    match check(bytes, table) {
-        Checked::Faulty(e) => Formatted::Refused(e),
-        Checked::Clean => {
-            if buf.len() < bytes.len() + table.len() / 4 * 2 {
-                return Formatted::Refused(nowhere(Kind::NoRoom));
-            }
-            let n = put_list(bytes, table, buf);
-            if upper {
-                upper_all(&mut buf[..n]);
-            }
-            Formatted::Text(n)
-        }
-    }
-}
-
-// The text of a list: the usual one in one pass, any other by the way for all.
-fn format(bytes: &[u8], table: &[u64], upper: bool, buf: &mut [u8]) -> Formatted
-    ensures value { result ≡ answer_specs.format_answer upper bytes.now table.now buf.old }
-    ensures buf_after { buf.new ≡ answer_specs.buffer_after result (answer_specs.text_of upper bytes.now table.now) buf.old }
-{
-    if is_plain(bytes, table) {
-        if buf.len() < bytes.len() + 2 {
-            return Formatted::Refused(nowhere(Kind::NoRoom));
-        }
-        return Formatted::Text(put_plain(buf, bytes, upper));
-    }
-    format_any(bytes, table, upper, buf)
-}
-
-// The formatted text of a list.
-pub fn format_verbatim(bytes: &[u8], table: &[u64], buf: &mut [u8]) -> Formatted
-    ensures value { result ≡ answer_specs.format_answer false bytes.now table.now buf.old }
-    ensures buf_after { buf.new ≡ answer_specs.buffer_after result (answer_specs.text_of false bytes.now table.now) buf.old }
-{
-    format(bytes, table, false, buf)
-}
-
-// The formatted text of a list, in upper case.
-pub fn format_uppercase(bytes: &[u8], table: &[u64], buf: &mut [u8]) -> Formatted
-    ensures value { result ≡ answer_specs.format_answer true bytes.now table.now buf.old }
-    ensures buf_after { buf.new ≡ answer_specs.buffer_after result (answer_specs.text_of true bytes.now table.now) buf.old }
-{
-    format(bytes, table, true, buf)
-}
-
 // Whether no chunk of a table is Math: the kinds alone are looked at, many at once as well.
 fn no_math(table: &[u64]) -> bool
     requires { length table.now % 4 ≡ 0 }
     ensures { result ≡ chunks_specs.no_math (chunks_specs.chunks_of table.now) }
 {
     let mut ok = true;
-    let mut k = 0;
-    while k < table.len() {
-        ok = ok & (table[k] <= 1);
-        k = k + 4;
+    for k in 0..table.len() / 4 {
+        ok = ok & (table[4 * k] <= 1);
     }
     ok
 }
@@ -770,25 +500,220 @@ fn all_standing(upper: bool, t: &[u8]) -> bool
     ensures { result ≡ standing_specs.all_standing upper t.now }
 {
     let mut ok = true;
-    let mut i = 0;
-    while i < t.len() {
-        ok = ok & is_standing(upper, t[i]);
-        i = i + 1;
+    for b in t {
+        ok = ok & is_standing(upper, *b);
     }
     ok
 }
 
-// Whether the text of a list is its bytes as they stand: it is clean and within the limits, has no Math, and each byte is ASCII, no line break, and in
-// upper case where that is asked.
-pub fn stands(bytes: &[u8], table: &[u64], upper: bool) -> bool
-    ensures { result ≡ standing_specs.list_stands upper bytes.now table.now }
-{
-    if fits(bytes, table) {
-        if is_short(bytes, table) {
-            if no_math(table) {
-                return all_standing(upper, bytes);
+// A chunk list: the bytes of its chunks, one behind the other, and its table, four numbers a chunk.
+#[derive(Clone, Copy)]
+pub struct ChunksRef<'a> {
+    pub bytes: &'a [u8],
+    pub table: &'a [u64],
+}
+
+impl<'a> ChunksRef<'a> {
+    // Four numbers a chunk, known kinds, and lengths that make up the bytes: else BadChunks.
+    fn fits(self) -> bool
+        ensures { result ≡ chunks_specs.fits self.entry.bytes.now self.entry.table.now }
+    {
+        if self.table.len() % 4 == 0 {
+            return lengths_fit(self.table, self.bytes.len());
+        }
+        false
+    }
+
+    // The first ill-formed or unsupported character: the chunks and their characters in turn, left at the first fault.
+    fn check_characters(self) -> Result<(), Refusal>
+        requires { chunks_specs.fits self.bytes.now self.table.now ≡ true }
+        ensures { result ≡ check_specs.fault_of 0 self.entry.bytes.now (chunks_specs.chunks_of self.entry.table.now) }
+    {
+        let mut at = 0;
+        let mut found = Ok(());
+        'chunks: for k in 0..self.table.len() / 4 {
+            let len = self.table[4 * k + 1] as usize;
+            let t = &self.bytes[at..at + len];
+            let mut i = 0;
+            // Kept as a loop: it moves by the length of the character that it decodes, which no range and no slice iterator steps by.
+            'characters: loop {
+                match chars::decode_at(t, i) {
+                    Decoded::Char { code, len: n } => {
+                        if chars::is_admitted(code) {
+                            i = i + n;
+                        } else {
+                            found = faulty(Kind::UnsupportedChar, at + i, n);
+                            break 'chunks;
+                        }
+                    }
+                    Decoded::Bad => {
+                        found = faulty(Kind::BadUtf8, at + i, 1);
+                        break 'chunks;
+                    }
+                    Decoded::End => {
+                        break 'characters;
+                    }
+                }
+            }
+            at = at + len;
+        }
+        found
+    }
+
+    // Whether the list keeps within the limits: 64 chunks and 4,096 bytes.
+    fn is_short(self) -> bool
+        ensures { result ≡ chunks_specs.is_short self.entry.bytes.now self.entry.table.now }
+    {
+        if self.table.len() / 4 <= 64 {
+            return self.bytes.len() <= 4096;
+        }
+        false
+    }
+
+    // Whether a long list has characters up to U+00FF alone: then none is a fault. A look at each byte before any is decoded pays on a long one.
+    fn is_latin(self) -> bool
+        requires { chunks_specs.fits self.bytes.now self.table.now ≡ true }
+        ensures { result ≡ true → check_specs.fault_of 0 self.entry.bytes.now (chunks_specs.chunks_of self.entry.table.now) ≡ (Ok tt) }
+    {
+        if self.bytes.len() < 32 {
+            return false;
+        }
+        let mut at = 0;
+        for k in 0..self.table.len() / 4 {
+            let len = self.table[4 * k + 1] as usize;
+            if !all_latin(&self.bytes[at..at + len]) {
+                return false;
+            }
+            at = at + len;
+        }
+        true
+    }
+
+    // The checks of a list, in their order: the table, the limits, the characters.
+    pub fn check(self) -> Result<(), Refusal>
+        ensures { result ≡ check_specs.checked self.entry.bytes.now self.entry.table.now }
+    {
+        if self.fits() {
+            if self.is_short() {
+                if all_ascii(self.bytes) {
+                    return Ok(());
+                }
+                if self.is_latin() {
+                    return Ok(());
+                }
+                return self.check_characters();
+            }
+            return Err(nowhere(Kind::TooLong));
+        }
+        Err(nowhere(Kind::BadChunks))
+    }
+
+    // The span of a list: from its first chunk's start to its last one's end, and 0, 0 of no chunk.
+    pub fn span(self) -> FileSpan
+        ensures { result ≡ chunks_specs.span_of (chunks_specs.chunks_of self.entry.table.now) }
+    {
+        let n = self.table.len() / 4 * 4;
+        if n == 0 {
+            return refusals::lent_span(0, 0);
+        }
+        refusals::lent_span(self.table[2], self.table[n - 1])
+    }
+
+    // Puts the chunks of a list, one behind the other.
+    fn put_list(self, buf: &mut [u8]) -> usize
+        requires table_value { chunks_specs.fits self.bytes.now self.table.now ≡ true }
+        requires table_in_bounds { answer_specs.room_of self.bytes.now self.table.now ≤ length buf.old }
+        requires table_value_2 { check_specs.fault_of 0 self.bytes.now (chunks_specs.chunks_of self.table.now) ≡ (Ok tt) }
+        ensures { (result ≡ length (format_specs.formatted self.entry.bytes.now self.entry.table.now)) × (buf.new ≡ sets buf.old 0 (format_specs.formatted self.entry.bytes.now self.entry.table.now)) × (result ≤ length buf.old) }
+    {
+        let mut at = 0;
+        let mut n = 0;
+        let mut w = false;
+        for k in 0..self.table.len() / 4 {
+            let kind = self.table[4 * k];
+            let len = self.table[4 * k + 1] as usize;
+            let p = put_chunk(buf, n, kind, &self.bytes[at..at + len], w);
+            n = p.n;
+            w = p.prev_was_whitespace;
+            at = at + len;
+        }
+        n
+    }
+
+    // Whether a list is one Normal chunk of ASCII within the limits: the usual one, which is formatted in one pass.
+    fn is_plain(self) -> bool
+        ensures { result ≡ plain_specs.is_plain self.entry.bytes.now self.entry.table.now }
+    {
+        if self.table.len() == 4 {
+            if self.table[0] == 0 {
+                if self.table[1] == self.bytes.len() as u64 {
+                    if self.bytes.len() <= 4096 {
+                        return all_ascii(self.bytes);
+                    }
+                }
             }
         }
+        false
     }
-    false
+
+    // The text of any list.
+    fn format_any(self, upper: bool, buf: &mut [u8]) -> Result<usize, Refusal>
+        ensures value { result ≡ answer_specs.format_answer upper self.entry.bytes.now self.entry.table.now buf.old }
+        ensures buf_after { buf.new ≡ answer_specs.buffer_after result (answer_specs.text_of upper self.entry.bytes.now self.entry.table.now) buf.old }
+    {
+        self.check()?;
+        if buf.len() < self.bytes.len() + self.table.len() / 4 * 2 {
+            return Err(nowhere(Kind::NoRoom));
+        }
+        let n = self.put_list(buf);
+        if upper {
+            upper_all(&mut buf[..n]);
+        }
+        Ok(n)
+    }
+
+    // The text of a list: the usual one in one pass, any other by the way for all.
+    fn format(self, upper: bool, buf: &mut [u8]) -> Result<usize, Refusal>
+        ensures value { result ≡ answer_specs.format_answer upper self.entry.bytes.now self.entry.table.now buf.old }
+        ensures buf_after { buf.new ≡ answer_specs.buffer_after result (answer_specs.text_of upper self.entry.bytes.now self.entry.table.now) buf.old }
+    {
+        if self.is_plain() {
+            if buf.len() < self.bytes.len() + 2 {
+                return Err(nowhere(Kind::NoRoom));
+            }
+            return Ok(put_plain(buf, self.bytes, upper));
+        }
+        self.format_any(upper, buf)
+    }
+
+    // The formatted text of a list.
+    pub fn format_verbatim(self, buf: &mut [u8]) -> Result<usize, Refusal>
+        ensures value { result ≡ answer_specs.format_answer false self.entry.bytes.now self.entry.table.now buf.old }
+        ensures buf_after { buf.new ≡ answer_specs.buffer_after result (answer_specs.text_of false self.entry.bytes.now self.entry.table.now) buf.old }
+    {
+        self.format(false, buf)
+    }
+
+    // The formatted text of a list, in upper case.
+    pub fn format_uppercase(self, buf: &mut [u8]) -> Result<usize, Refusal>
+        ensures value { result ≡ answer_specs.format_answer true self.entry.bytes.now self.entry.table.now buf.old }
+        ensures buf_after { buf.new ≡ answer_specs.buffer_after result (answer_specs.text_of true self.entry.bytes.now self.entry.table.now) buf.old }
+    {
+        self.format(true, buf)
+    }
+
+    // Whether the text of a list is its bytes as they stand: it is clean and within the limits, has no Math, and each byte is ASCII, no line break, and in
+    // upper case where that is asked.
+    pub fn stands(self, upper: bool) -> bool
+        ensures { result ≡ standing_specs.list_stands upper self.entry.bytes.now self.entry.table.now }
+    {
+        if self.fits() {
+            if self.is_short() {
+                if no_math(self.table) {
+                    return all_standing(upper, self.bytes);
+                }
+            }
+        }
+        false
+    }
 }

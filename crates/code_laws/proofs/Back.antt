@@ -11,18 +11,18 @@ use borrow.Author.Tests.{ne_eqb, ltb-true, ltb-false, eqb-false}
 use Rattle.chars.specs.Ascii.{ascii}
 use Rattle.chars.specs.Pick.{pick}
 use Rattle.chars.proofs.Cases.{of_test}
-use Rattle.dates.specs.declared.OptionMonth.{OptionMonth}
-use Rattle.dates.specs.declared.OptionDay.{OptionDay}
-use Rattle.dates.specs.declared.OptionTime.{OptionTime}
-use Rattle.dates.specs.declared.OptionSeason.{OptionSeason}
-use Rattle.dates.specs.declared.OptionSeason.TheVariants.{NoSeason, Spring, Summer, Autumn, Winter}
+use Rattle.dates.specs.declared.Day.{Day}
+use Rattle.dates.specs.declared.Month.{Month}
+use Rattle.dates.specs.declared.Season.{Season}
+use Rattle.dates.specs.declared.Season.TheVariants.{Autumn, Spring, Summer, Winter}
+use Rattle.dates.specs.declared.Time.{Time}
+use Rattle.std.specs.Prelude.{Option, Some, None, Ok}
 use Rattle.dates.specs.declared.Datetime.{Datetime}
 use Rattle.dates.specs.declared.DateValue.{DateValue}
 use Rattle.dates.specs.declared.DateValue.TheVariants.{At, After, Before, Between}
 use Rattle.dates.specs.declared.Date.{Date}
 use Rattle.dates.specs.Ends.{any_end, EachEnd}
 use Rattle.dates.specs.Value.{month, day, date, is_season, has_season, season_number}
-use Rattle.refusals.specs.declared.ReadDate.TheVariants.{Accepted}
 use Rattle.puts.specs.Marks.{mark_text}
 use Rattle.puts.specs.Numbers.{digits, digit_count, width, decimal}
 use Rattle.puts.proofs.Counts.{few, padded, unpadded}
@@ -91,7 +91,7 @@ behind hm m hd d hm99 hd99 =
 
 -- the word of a year, and of a month and a day that may be absent
 module _ (y : ℤ) (hm m hd d : ℕ) (fy : mag y < 2147483648) (fhm : hm < 256) (fm : m < 256) (fhd : hd < 256) (fd : d < 256) where
-  pub point-said : is_plain_word (day_word_of y hm m hd d) ≡ true → (t : OptionTime) (s : OptionSeason)
+  pub point-said : is_plain_word (day_word_of y hm m hd d) ≡ true → (t : Option Time) (s : Option Season)
       → Said (day_word_of y hm m hd d) (record { year = y; month = month_of hm m; day = day_of hd d; time = t; season = s })
   unfolding point_text month_digits day_digits datetime_text parts_of end_panics
   point-said e t s =
@@ -172,19 +172,19 @@ module _ (d : Datetime) (h : DatetimeTyped d) where
       let q = day-flag d.day in
       let s =
       point-said d.year (has_month d.month) (month_number d.month) (has_day d.day) (day_number d.day) h.year_typed (omega arith) b.0 (omega arith) b.1.0 e d.time d.season in
-      subst (λ (m : OptionMonth). Said (day_word d) (record { year = d.year; month = m; day = d.day; time = d.time; season = d.season })) (month-back d.month)
-      (subst (λ (n : OptionDay). Said (day_word d) (record { year = d.year; month = month_of (has_month d.month) (month_number d.month); day = n; time = d.time; season = d.season })) (day-back d.day) s)
+      subst (λ (m : Option Month). Said (day_word d) (record { year = d.year; month = m; day = d.day; time = d.time; season = d.season })) (month-back d.month)
+      (subst (λ (n : Option Day). Said (day_word d) (record { year = d.year; month = month_of (has_month d.month) (month_number d.month); day = n; time = d.time; season = d.season })) (day-back d.day) s)
 
   -- a season is the highest byte of its second word
   pub no-season : time_word d < 72057594037927936 → has_season d ≡ false
   no-season k = go d.season refl
     where
-      go : (s : OptionSeason) → d.season ≡ s → is_season d.season ≡ false
-      go NoSeason e = rw e
-      go Spring e = absurd (let z : season_number d.season ≡ 21 = ap season_number e in omega arith)
-      go Summer e = absurd (let z : season_number d.season ≡ 22 = ap season_number e in omega arith)
-      go Autumn e = absurd (let z : season_number d.season ≡ 23 = ap season_number e in omega arith)
-      go Winter e = absurd (let z : season_number d.season ≡ 24 = ap season_number e in omega arith)
+      go : (s : Option Season) → d.season ≡ s → is_season d.season ≡ false
+      go None e = rw e
+      go (Some Spring) e = absurd (let z : season_number d.season ≡ 21 = ap season_number e in omega arith)
+      go (Some Summer) e = absurd (let z : season_number d.season ≡ 22 = ap season_number e in omega arith)
+      go (Some Autumn) e = absurd (let z : season_number d.season ≡ 23 = ap season_number e in omega arith)
+      go (Some Winter) e = absurd (let z : season_number d.season ≡ 24 = ap season_number e in omega arith)
 
 module _ (u p : Bool) where
   marks-in : (flag u < 256) × (flag p < 256)
@@ -209,11 +209,11 @@ module _ (u p : Bool) where
       λ g. datetime-said d h.1
 
 -- the words of a Date
-pub date-said : (d : Date) → Typed (Accepted d)
-    → is_plain (words_of (Accepted d)).first (words_of (Accepted d)).second (words_of (Accepted d)).last ≡ true
-    → TextOf (words_of (Accepted d)).first (words_of (Accepted d)).second (words_of (Accepted d)).last d
+pub date-said : (d : Date) → Typed (Ok d)
+    → is_plain (words_of (Ok d)).first (words_of (Ok d)).second (words_of (Ok d)).last ≡ true
+    → TextOf (words_of (Ok d)).first (words_of (Ok d)).second (words_of (Ok d)).last d
 date-said d h e =
-    let w = words_of (Accepted d) in
+    let w = words_of (Ok d) in
     let t = value-said d.uncertain d.approximate d.value h e in
     subst (λ (u : Bool). TextOf w.first w.second w.last (date d.value u d.approximate)) (flag-back d.uncertain)
     (subst (λ (p : Bool). TextOf w.first w.second w.last (date d.value (is_set (flag d.uncertain)) p)) (flag-back d.approximate) t)

@@ -4,7 +4,6 @@ use mathlib.Core.Path.{◌≡◌, refl, sym, ap, ◌∙◌, subst}
 use mathlib.Core.Bool.{true, false, false≢true, ◌&&◌, ◌||◌}
 use mathlib.Core.List.{List, [], ◌∷◌, ◌++◌, append-nil}
 use mathlib.Core.Logic.{◌⊎◌, ⊎_elim, inl, inr}
-use mathlib.Core.Option.{Option, none, some}
 use Prim.Native.Nat.{ℕ, ◌+◌, ◌-◌, ◌/◌, ◌%◌, ◌≤◌, ◌<◌}
 use native.Mathlib.Nat.{add-zero}
 use native.Mathlib.Omega.{arith}
@@ -18,25 +17,21 @@ use Rattle.scanner.proofs.Front.{From, from_start, from-behind, front_rest}
 use Rattle.refusals.specs.declared.Kind.{Kind}
 use Rattle.refusals.specs.declared.Kind.TheVariants.{MonthOutOfRange, DayOutOfRange}
 use Rattle.refusals.specs.declared.TextRefusal.{TextRefusal}
-use Rattle.refusals.specs.declared.ReadDate.{ReadDate}
-use Rattle.refusals.specs.declared.ReadDate.TheVariants.{Refused}
+use Rattle.dates.specs.declared.Date.{Date}
+use Rattle.refusals.specs.declared.Refusal.{Refusal}
+use Rattle.scanner.specs.declared.Cursor.{Cursor}
+use Rattle.std.specs.Prelude.{Some, None, Result, Ok, Err, Option}
 use Rattle.refusals.specs.Refusal.{has_place}
 use Rattle.refusals.specs.Offset.{text_refusal, offset}
 use Rattle.refusals.proofs.Sums.{second_fits}
 use Rattle.numbers.specs.Number.{admits}
 use Rattle.numbers.specs.declared.Digits.TheVariants.{OneOrTwo}
 use Rattle.numbers.proofs.Reading.{bytes, Behind, end, hyphen, number_read}
-use Rattle.dates.specs.declared.OptionMonth.TheVariants.{NoMonth, SomeMonth}
-use Rattle.dates.specs.declared.OptionDay.TheVariants.{NoDay}
-use Rattle.dates.specs.declared.OptionTime.TheVariants.{NoTime}
 use Rattle.dates.specs.declared.Month.{Month}
 use Rattle.dates.specs.declared.Datetime.{Datetime}
 use Rattle.dates.specs.Calendar.{month_length}
 use Rattle.dates.specs.Value.{datetime}
-use Rattle.points.specs.declared.ReadPart.{ReadPart}
-use Rattle.points.specs.declared.ReadPart.TheVariants.{NoPart}
-use Rattle.points.specs.declared.ReadPoint.TheVariants.{Point, Refused as NoPoint}
-use Rattle.points.specs.Step.{stored_part, part_at, month_at, day_at, on_part, on_separator}
+use Rattle.points.specs.Step.{refuse_number, stored_part, part_at, month_at, day_at, on_part, on_separator}
 use Rattle.points.specs.Point.{behind_month, behind_year, point}
 use Rattle.points.proofs.Back.{two, four, two_digits, four_digits, two-value, part_bytes, plain-year, on-year, hyphen-read, or-more, month_read, two-behind, point-past}
 use Rattle.strict.specs.Digits.{digits}
@@ -69,29 +64,29 @@ two-admitted : admits OneOrTwo 2 ≡ true
 unfolding admits
 two-admitted = refl
 
-part-bad : (n high : ℕ) (k : Kind) {s t : List ℕ} {i : ℕ} → n < 100 → (n < 1) ⊎ (high < n) → Behind t → From s i (bytes (two n) ++ t) → part_at s i 1 high k ≡ NoPart (text_refusal k i (i + 2))
-unfolding part_at stored_part
+part-bad : (n high : ℕ) (k : Kind) {s t : List ℕ} {i : ℕ} → n < 100 → (n < 1) ⊎ (high < n) → Behind t → From s i (bytes (two n) ++ t) → part_at s i 1 high k ≡ Err (text_refusal k i (i + 2))
+unfolding part_at stored_part refuse_number
 part-bad n high k {s} {t} {i} h o b f =
     rw (number_read (n / 10 % 10) ((n % 10) ∷ []) (two_digits n) b f OneOrTwo two-admitted, two-value n h)
     (by-test P (ltb n 1) (λ _. refl) (λ x. by-test P (ltb high n) (λ _. refl) (λ y. let l = ltb-false n 1 x in let m = ltb-false high n y in absurd (⊎_elim (λ z. omega arith) (λ z. omega arith) o))))
   where
-    P : ReadPart → Type 0
-    P r = r ≡ NoPart (text_refusal k i (i + 2))
+    P : Result (ℕ × Cursor) TextRefusal → Type 0
+    P r = r ≡ Err (text_refusal k i (i + 2))
 
-month-bad : (y : ℤ) (n : ℕ) {s t : List ℕ} {i : ℕ} → n < 100 → (n < 1) ⊎ (12 < n) → Behind t → From s i (0x2D ∷ bytes (two n) ++ t) → behind_year s i y ≡ NoPoint (text_refusal MonthOutOfRange (i + 1) (i + 1 + 2))
+month-bad : (y : ℤ) (n : ℕ) {s t : List ℕ} {i : ℕ} → n < 100 → (n < 1) ⊎ (12 < n) → Behind t → From s i (0x2D ∷ bytes (two n) ++ t) → behind_year s i y ≡ Err (text_refusal MonthOutOfRange (i + 1) (i + 1 + 2))
 unfolding behind_year month_at on_separator on_part
 month-bad y n h o b f =
     rw (
-      or-more (Point (datetime y NoMonth NoDay NoTime)) _ hyphen f,
+      or-more {A = Result Datetime TextRefusal} (Ok (datetime y None None None)) _ hyphen f,
       hyphen-read (n / 10 % 10) (omega arith) f,
       part-bad n 12 MonthOutOfRange h o b (front_rest f),
     )
 
-day-bad : (y : ℤ) (m : Month) (n : ℕ) {s t : List ℕ} {i : ℕ} → n < 100 → (n < 1) ⊎ (31 < n) → Behind t → From s i (0x2D ∷ bytes (two n) ++ t) → behind_month s i y m ≡ NoPoint (text_refusal DayOutOfRange (i + 1) (i + 1 + 2))
+day-bad : (y : ℤ) (m : Month) (n : ℕ) {s t : List ℕ} {i : ℕ} → n < 100 → (n < 1) ⊎ (31 < n) → Behind t → From s i (0x2D ∷ bytes (two n) ++ t) → behind_month s i y m ≡ Err (text_refusal DayOutOfRange (i + 1) (i + 1 + 2))
 unfolding behind_month day_at on_separator on_part
 day-bad y m n h o b f =
     rw (
-      or-more (Point (datetime y (SomeMonth m) NoDay NoTime)) _ hyphen f,
+      or-more {A = Result Datetime TextRefusal} (Ok (datetime y (Some m) None None)) _ hyphen f,
       hyphen-read (n / 10 % 10) (omega arith) f,
       part-bad n 31 DayOutOfRange h o b (front_rest f),
     )
@@ -122,16 +117,16 @@ module _ (y m d : ℕ) (h : y < 10000) where
   at-day : From (day_form y m d) 7 (0x2D ∷ bytes (two d))
   at-day = two-behind at-month
 
-  bad-month : m < 100 → (m < 1) ⊎ (12 < m) → point (day_form y m d) ≡ NoPoint (text_refusal MonthOutOfRange 5 7)
+  bad-month : m < 100 → (m < 1) ⊎ (12 < m) → point (day_form y m d) ≡ Err (text_refusal MonthOutOfRange 5 7)
   bad-month l o = behind-year ∙ month-bad (pos y) m l o hyphen at-month
 
-  bad-number : (1 ≤ m) × (m ≤ 12) → d < 100 → (d < 1) ⊎ (31 < d) → point (day_form y m d) ≡ NoPoint (text_refusal DayOutOfRange 8 10)
+  bad-number : (1 ≤ m) × (m ≤ 12) → d < 100 → (d < 1) ⊎ (31 < d) → point (day_form y m d) ≡ Err (text_refusal DayOutOfRange 8 10)
   bad-number w l o =
       behind-year
       ∙ month_read (pos y) (m - 1) (omega (arith, w.0, w.1)) hyphen (subst (λ (n : ℕ). From (day_form y m d) 4 ((0x2D ∷ bytes (two n)) ++ (0x2D ∷ bytes (two d)))) (sym (stored_one m w.0)) at-month)
       ∙ day-bad (pos y) (record { 0 = m - 1 }) d l o end at-day
 
-  bad-past : (1 ≤ m) × (m ≤ 12) → (1 ≤ d) × (d ≤ 31) → month_length (m - 1) (pos y) ≤ d - 1 → point (day_form y m d) ≡ NoPoint (text_refusal DayOutOfRange 0 10)
+  bad-past : (1 ≤ m) × (m ≤ 12) → (1 ≤ d) × (d ≤ 31) → month_length (m - 1) (pos y) ≤ d - 1 → point (day_form y m d) ≡ Err (text_refusal DayOutOfRange 0 10)
   bad-past w v l =
       ap point
       (ap (λ (n : ℕ). bytes (four y) ++ ((0x2D ∷ bytes (two n)) ++ (0x2D ∷ bytes (two d)))) (sym (stored_one m w.0))
@@ -139,19 +134,19 @@ module _ (y m d : ℕ) (h : y < 10000) where
       ∙ point-past (pos y) (m - 1) (d - 1) h (omega (arith, w.0, w.1)) (omega (arith, v.0, v.1)) l
 
 -- a point's text that is refused, and what is said of it where it begins at a place
-pub record Refuses (s : List ℕ) (at : ℕ) (r : ReadDate) : Type 0 where
+pub record Refuses (s : List ℕ) (at : ℕ) (r : Result Date Refusal) : Type 0 where
   pub of_point : PointText s
   pub refused : TextRefusal
-  pub point_is : point s ≡ NoPoint refused
-  pub moves : (start amount : ℕ) → amount ≡ start + at → Early start → Refused (offset refused amount) ≡ moved_by start r
+  pub point_is : point s ≡ Err refused
+  pub moves : (start amount : ℕ) → amount ≡ start + at → Early start → Err (offset refused amount) ≡ moved_by start r
   pub near : Near r
 
-abbrev pub Refusing : List ℕ → ℕ → Option ReadDate → Type 0
-Refusing s at none = Unit {0}
-Refusing s at (some r) = Refuses s at r
+abbrev pub Refusing : List ℕ → ℕ → Option (Result Date Refusal) → Type 0
+Refusing s at None = Unit {0}
+Refusing s at (Some r) = Refuses s at r
 
 module _ {s : List ℕ} (t : PointText s) (k : Kind) (p : has_place k ≡ true) (at a b c d : ℕ) (e : a + at ≡ c) (f : b + at ≡ d) (h : c ≤ 100) (l : d ≤ 100) where
-  refuses : point s ≡ NoPoint (text_refusal k a b) → Refuses s at (refused_at k c d)
+  refuses : point s ≡ Err (text_refusal k a b) → Refuses s at (refused_at k c d)
   refuses g =
       record {
         of_point = t;
@@ -202,7 +197,7 @@ bad-day s at q n =
     subst (λ (u : List ℕ). Refusing u at (bad_parts at (year_of s) (two_at s 5) (two_at s 8))) (sym e) (bad-parts at (year_of s) (two_at s 5) (two_at s 8) q h l k))
     (λ _. tt)
 
-refused_says : {s : List ℕ} {r : ReadDate} → Refuses s 0 r → Says s r
+refused_says : {s : List ℕ} {r : Result Date Refusal} → Refuses s 0 r → Says s r
 unfolding marked moved on_half
 refused_says {s} {r} f =
     of-text (alone-text f.of_point) (λ span h. rw (alone-value span f.of_point, f.point_is) (f.moves span.0 span.0 (sym (add-zero span.0)) h)) f.near
@@ -211,12 +206,12 @@ refused_says {s} {r} f =
 pub bad-says : (s : List ℕ) → length s ≡ 10 → Saying s (bad_day 0 s)
 bad-says s n = alone (bad_day 0 s) (bad-day s 0 (lit≤ tt) n)
   where
-    alone : (x : Option ReadDate) → Refusing s 0 x → Saying s x
-    alone none f = tt
-    alone (some r) f = refused_says f
+    alone : (x : Option (Result Date Refusal)) → Refusing s 0 x → Saying s x
+    alone None f = tt
+    alone (Some r) f = refused_says f
 
 -- behind a point and a slash: the place moves by both
-second-says : {u v : List ℕ} {d : Datetime} {r : ReadDate} → Said u d → Refuses v (length u + 1) r → Says (u ++ 0x2F ∷ v) r
+second-says : {u v : List ℕ} {d : Datetime} {r : Result Date Refusal} → Said u d → Refuses v (length u + 1) r → Says (u ++ 0x2F ∷ v) r
 unfolding marked moved on_half
 second-says {u} {v} {d} {r} a f =
     let x : Derived u d = subst (λ (l : List ℕ). Derived l d) (sym a.text_is) (derived d a.end_in) in
@@ -235,15 +230,15 @@ module _ (s : List ℕ) (k : ℕ) (h : k ≤ 80) (t : is_slash s k ≡ true) (n 
   behind : length (drop (k + 1) s) ≡ 10
   behind = let l = length-drop (k + 1) s in omega arith
 
-  range-says : {d : Datetime} → Said (take k s) d → (x : Option ReadDate) → Refusing (drop (k + 1) s) (k + 1) x → Saying s x
-  range-says a none f = tt
-  range-says a (some r) f =
+  range-says : {d : Datetime} → Said (take k s) d → (x : Option (Result Date Refusal)) → Refusing (drop (k + 1) s) (k + 1) x → Saying s x
+  range-says a None f = tt
+  range-says a (Some r) f =
       subst (λ (u : List ℕ). Says u r) (slash-text s k t) (second-says a (subst (λ (i : ℕ). Refuses (drop (k + 1) s) (i + 1) r) (sym before) f))
 
   half-says : (x : Option Datetime) → Finding (take k s) x → Saying s (on_some x λ d. bad_day (k + 1) (drop (k + 1) s))
   unfolding on_some
-  half-says none f = tt
-  half-says (some d) f = range-says f (bad_day (k + 1) (drop (k + 1) s)) (bad-day (drop (k + 1) s) (k + 1) (omega arith) behind)
+  half-says None f = tt
+  half-says (Some d) f = range-says f (bad_day (k + 1) (drop (k + 1) s)) (bad-day (drop (k + 1) s) (k + 1) (omega arith) behind)
 
 pub bad-range-says : (s : List ℕ) (k : ℕ) → k ≤ 80 → Saying s (bad_range s k)
 unfolding bad_range

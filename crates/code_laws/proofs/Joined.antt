@@ -12,7 +12,7 @@ use Rattle.chars.specs.Pick.{pick}
 use Rattle.chars.specs.Classes.{is_whitespace}
 use Rattle.chars.proofs.Cases.{and-true}
 use Rattle.chars.proofs.Encode.{encode_one}
-use Rattle.chunks.specs.declared.Checked.TheVariants.{Clean}
+use Rattle.std.specs.Prelude.{Ok}
 use Rattle.chunks.specs.Chunks.{Chunk, chunks_of, no_math, lengths, fits, is_short}
 use Rattle.chunks.specs.Check.{checked}
 use Rattle.chunks.specs.Format.{is_break, one_out, normal, chunk_out, chunk_flag, chunks_out, formatted}
@@ -90,7 +90,7 @@ module _ (b table : List ℕ) (j : is_joined b table ≡ true) (c : Clear b) whe
   joined-short = rw (le-leb (length (chunks_of table)) 64 k.few, le-leb (length b) 4096 (omega (arith, k.short)))
 
   -- it has no fault,
-  pub joined-clean : checked b table ≡ Clean
+  pub joined-clean : checked b table ≡ (Ok tt)
   joined-clean = ascii-checked b table k.whole joined-short (clear-ascii c)
 
   joined-formatted : formatted b table ≡ b

@@ -21,17 +21,16 @@ use Rattle.scanner.proofs.Digits.{above-digits, no-numeric, is-other}
 use Rattle.scanner.proofs.Front.{from_start, front-match}
 use Rattle.refusals.specs.declared.Kind.TheVariants.{InvalidFormat}
 use Rattle.refusals.specs.declared.FileSpan.{FileSpan}
-use Rattle.refusals.specs.declared.ReadDate.TheVariants.{Refused}
+use Rattle.numbers.specs.declared.NoNumber.TheVariants.{Wrong}
+use Rattle.std.specs.Prelude.{Err}
 use Rattle.refusals.specs.Offset.{text_refusal, offset}
 use Rattle.numbers.specs.Trim.{trim_end}
 use Rattle.numbers.specs.declared.Digits.{Digits}
 use Rattle.numbers.specs.declared.Digits.TheVariants.{Two, Four}
-use Rattle.numbers.specs.declared.ReadInt.TheVariants.{NoInt}
 use Rattle.numbers.proofs.Laws.{int-behind}
 use Rattle.numbers.specs.Number.{admits, cursor, run_of, run_at, parse_unsigned_int, or_kept, behind_sign, with_sign, parse_int}
-use Rattle.points.specs.declared.ReadPoint.TheVariants.{Refused as NoPoint}
+use Rattle.points.specs.Step.{refuse_number}
 use Rattle.points.specs.Point.{windowed_int, short_year, long_of, long_year, short_or, year_at, on_year, point}
-use Rattle.datefield.specs.declared.ReadValue.TheVariants.{NoValue}
 use Rattle.datefield.specs.Text.{trimmed, last_byte, is_uncertain, is_approximate, unmarked, first_of}
 use Rattle.datefield.specs.Value.{moved, on_half, value, marked, trimmed_date, parse_text}
 use Rattle.chunks.specs.Format.{is_break}
@@ -101,7 +100,7 @@ module _ (s : List ℕ) (w : Wordy s) (h : Starts s) where
   numeric-none : eat_while Numeric s 0 ≡ 0
   numeric-none = stop Numeric s 0 (nothing-at Numeric s w h high-numeric)
 
-  no-int : (g : Digits) → admits g 0 ≡ false → parse_int s 0 g ≡ NoInt (cursor 0)
+  no-int : (g : Digits) → admits g 0 ≡ false → parse_int s 0 g ≡ Err (Wrong (cursor 0))
   unfolding with_sign behind_sign or_kept eat_if stands_at parse_unsigned_int run_at run_of part pick
   no-int g a =
       rw (
@@ -114,20 +113,20 @@ module _ (s : List ℕ) (w : Wordy s) (h : Starts s) where
         a,
       )
 
-  no_year_lem : point s ≡ NoPoint (text_refusal InvalidFormat 0 0)
-  unfolding point on_year year_at short_or short_year windowed_int long_year long_of admits
+  no_year_lem : point s ≡ Err (text_refusal InvalidFormat 0 0)
+  unfolding point on_year year_at short_or short_year windowed_int long_year long_of admits refuse_number
   no_year_lem = rw (no-int Two refl, no-int Four refl)
 
-  no_value : (span : FileSpan) → value span s ≡ NoValue (offset (text_refusal InvalidFormat 0 0) span.0)
+  no_value : (span : FileSpan) → value span s ≡ Err (offset (text_refusal InvalidFormat 0 0) span.0)
   unfolding value moved on_half pick
   no_value span = rw (no_x s w, no_slash s w, le-ltb (length s) (length s) (omega arith), no_year_lem)
 
 -- such a text is refused, whatever is trimmed of it, and with a mark behind it or not
-no_text : (span : FileSpan) (s : List ℕ) → Wordy s → Starts s → parse_text span s ≡ Refused (offset (text_refusal InvalidFormat 0 0) span.0)
+no_text : (span : FileSpan) (s : List ℕ) → Wordy s → Starts s → parse_text span s ≡ Err (offset (text_refusal InvalidFormat 0 0) span.0)
 unfolding parse_text trimmed_date trimmed unmarked marked
 no_text span s w h =
     let t = take (trim_end s) s in
-    rw (by-test (λ (l : List ℕ). value span l ≡ NoValue (offset (text_refusal InvalidFormat 0 0) span.0)) (is_uncertain (last_byte t) || is_approximate (last_byte t))
+    rw (by-test (λ (l : List ℕ). value span l ≡ Err (offset (text_refusal InvalidFormat 0 0) span.0)) (is_uncertain (last_byte t) || is_approximate (last_byte t))
     (λ _. no_value (take (length t - 1) t) (take-wordy (length t - 1) t (take-wordy (trim_end s) s w)) (take-starts (length t - 1) t (take-starts (trim_end s) s h)) span)
     (λ _. no_value t (take-wordy (trim_end s) s w) (take-starts (trim_end s) s h) span))
 

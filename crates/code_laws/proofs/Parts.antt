@@ -3,7 +3,6 @@
 use mathlib.Core.Path.{◌≡◌, refl, sym, ap, subst, ◌∙◌}
 use mathlib.Core.Bool.{true, false, ◌&&◌}
 use mathlib.Core.List.{List, [], ◌∷◌, ◌++◌}
-use mathlib.Core.Option.{Option, none, some}
 use Prim.Native.Nat.{ℕ, suc, ◌+◌, ◌*◌, ◌-◌, ◌≤◌, ◌<◌}
 use native.Mathlib.Omega.{arith}
 use native.Mathlib.Nat.{zero-add, add-zero, sub-zero}
@@ -18,25 +17,19 @@ use Rattle.chars.proofs.Cases.{by-test, of_test, and-true}
 use Rattle.chars.proofs.Spelled.{spelled, entries}
 use Rattle.scanner.specs.declared.Class.{Class}
 use Rattle.scanner.specs.declared.Class.TheVariants.{Whitespace, Numeric, AsciiAlphabetic, Alphanumeric}
-use Rattle.scanner.specs.declared.EatIf.TheVariants.{Past, Kept}
+use Rattle.dates.specs.declared.Month.{Month}
+use Rattle.std.specs.Prelude.{Some, None, Ok, Option}
 use Rattle.scanner.specs.Class.{in_class}
 use Rattle.scanner.specs.Scan.{eat_while, eat_text, begins, stands_at, part}
 use Rattle.scanner.proofs.Laws.{not_white, match-end}
 use Rattle.scanner.proofs.Digits.{below-digits, above-digits, no-numeric}
 use Rattle.scanner.proofs.Front.{From, from_start, front-inside, front_rest, from-behind, front-go, front-stop, front-end, front-past}
 use Rattle.refusals.specs.declared.FileSpan.{FileSpan}
-use Rattle.dates.specs.declared.OptionMonth.{OptionMonth}
-use Rattle.dates.specs.declared.OptionMonth.TheVariants.{NoMonth, SomeMonth}
-use Rattle.dates.specs.declared.OptionDay.{OptionDay}
-use Rattle.dates.specs.declared.OptionDay.TheVariants.{NoDay, SomeDay}
 use Rattle.dates.specs.declared.Day.{Day}
 use Rattle.dates.specs.Value.{month, day}
 use Rattle.numbers.specs.declared.Digits.TheVariants.{OneOrTwo}
 use Rattle.numbers.specs.Number.{admits, cursor, run_of, run_at, parse_unsigned_int}
 use Rattle.numbers.proofs.Reading.{bytes, value, AreDigits, length-bytes}
-use Rattle.fields.specs.declared.ReadYear.TheVariants.{Year}
-use Rattle.fields.specs.declared.ReadMonth.TheVariants.{MonthRead}
-use Rattle.fields.specs.declared.ReadDayField.TheVariants.{Given}
 use Rattle.fields.specs.Year.{has_sign, before_christ, on_past, era_end, negative_era, era_at, parse_era_marker, with_era, behind_digits, get_year}
 use Rattle.fields.specs.Names.{month_for}
 use Rattle.fields.specs.Month.{named, month_of, month_field}
@@ -46,7 +39,6 @@ use Rattle.roundtrip_laws.proofs.Bytes.{Each, each_append, each-bytes, each_of}
 use Rattle.roundtrip_laws.proofs.Bytes.Each.{none as nothing, more}
 use Rattle.roundtrip_laws.proofs.Runs.{Stops, none as stops, other, run_none}
 use Rattle.roundtrip_laws.proofs.Fields.{no_text, digits-read, behind-digits, no_sign, digits-field, month-digits, no_day, day-digits}
-use Rattle.reading_laws.specs.declared.Parts.TheVariants.{PartsAre}
 use Rattle.reading_laws.specs.Fields.{on_month, inside_day, month_text}
 use Rattle.codes.specs.Points.{two_of, two_at}
 use Rattle.codes.specs.Parts.{number_from, number_of, ends_with_era, era_year, year_part, small_of, is_letter, are_letters, some_month, named_month, month_part, day_part}
@@ -137,12 +129,12 @@ unfolding in_class is_whitespace within
 space-white = refl
 
 -- BC and nothing behind it
-era-text : (x y : ℕ) {s : List ℕ} {i : ℕ} → From s i (66 ∷ 67 ∷ []) → eat_text (x ∷ y ∷ []) s i ≡ pick (begins (x ∷ y ∷ []) (66 ∷ 67 ∷ [])) (Past (cursor (i + 2))) Kept
+era-text : (x y : ℕ) {s : List ℕ} {i : ℕ} → From s i (66 ∷ 67 ∷ []) → eat_text (x ∷ y ∷ []) s i ≡ pick (begins (x ∷ y ∷ []) (66 ∷ 67 ∷ [])) (Some (cursor (i + 2))) None
 unfolding eat_text pick
 era-text x y {s} {i} f = rw (le-leb i (length s) (omega (arith, front-inside f)), f.is)
 
 -- a space before it: the year before Christ
-era-read : (idx n : ℕ) (sign : _) {s : List ℕ} {i : ℕ} → has_sign sign ≡ false → 0 < n → From s i (32 ∷ 66 ∷ 67 ∷ []) → behind_digits s idx i sign n ≡ Year (before_christ n)
+era-read : (idx n : ℕ) (sign : _) {s : List ℕ} {i : ℕ} → has_sign sign ≡ false → 0 < n → From s i (32 ∷ 66 ∷ 67 ∷ []) → behind_digits s idx i sign n ≡ Ok (before_christ n)
 unfolding behind_digits with_era parse_era_marker era_at negative_era era_end on_past stands_at begins pick
 era-read idx n sign {s} {i} e h f =
     let g = front_rest f in
@@ -162,12 +154,12 @@ era-read idx n sign {s} {i} e h f =
 -- a year that is said is the one that is read
 pub record YearSaid (s : List ℕ) (y : ℤ) : Type 0 where
   pub usual : Usual s
-  pub reads : get_year s ≡ Year y
+  pub reads : get_year s ≡ Ok y
 
 -- if any is said
 abbrev YearSays : List ℕ → Option ℤ → Type 0
-YearSays s none = Unit {0}
-YearSays s (some y) = YearSaid s y
+YearSays s None = Unit {0}
+YearSays s (Some y) = YearSaid s y
 
 alone-said : {s : List ℕ} {n : ℕ} → n < 10000 → Number 4 s n → YearSaid s (pos n)
 alone-said h (number d ds a l) = record { usual = number-usual (lit≤ tt) (number d ds a l); reads = digits-field d ds a l h }
@@ -219,19 +211,19 @@ year-says s =
     (λ t. era-says s (ltb-false (length s) 5 f) (and-true (ltb (length s) 8) _ t).1)
     (λ _. tt))
 
-pub year-said : (s : List ℕ) {y : ℤ} → year_part s ≡ some y → YearSaid s y
+pub year-said : (s : List ℕ) {y : ℤ} → year_part s ≡ Some y → YearSaid s y
 year-said s e = subst (YearSays s) e (year-says s)
 
 -- ---- the month
 
 -- a month that is said is the one that is read, up to the text's end
-pub record MonthSaid (s : List ℕ) (m : OptionMonth) : Type 0 where
+pub record MonthSaid (s : List ℕ) (m : Option Month) : Type 0 where
   pub usual : Usual s
-  pub reads : month_field s ≡ MonthRead m (cursor (length s))
+  pub reads : month_field s ≡ Ok (m, cursor (length s))
 
-abbrev MonthSays : List ℕ → Option OptionMonth → Type 0
-MonthSays s none = Unit {0}
-MonthSays s (some m) = MonthSaid s m
+abbrev MonthSays : List ℕ → Option (Option Month) → Type 0
+MonthSays s None = Unit {0}
+MonthSays s (Some m) = MonthSaid s m
 
 few : (ds : List ℕ) → length ds < 2 → admits OneOrTwo (suc (length ds)) ≡ true
 unfolding admits
@@ -243,7 +235,7 @@ number-said : {s : List ℕ} {n : ℕ} → 0 < n → Number 2 s n → MonthSaid 
 number-said h (number d ds a l) =
     record {
       usual = number-usual (lit≤ tt) (number d ds a l);
-      reads = month-digits d ds a (few ds l) h ∙ ap (λ (k : ℕ). MonthRead (month (value 0 (d ∷ ds) - 1)) (cursor k)) (omega (arith, length-bytes ds));
+      reads = month-digits d ds a (few ds l) h ∙ ap (λ (k : ℕ). Ok (month (value 0 (d ∷ ds) - 1), cursor k)) (omega (arith, length-bytes ds));
     }
 
 -- a letter
@@ -284,7 +276,7 @@ name-white x h = not_white x (omega (arith, h.low)) (omega (arith, h.high))
 name-numeric : (x : ℕ) → IsName x → in_class Numeric x ≡ false
 name-numeric x h = no-numeric x (omega (arith, h.high)) (above-digits x (omega (arith, h.low)))
 
-name-read : (s : List ℕ) → Each IsName s → month_field s ≡ MonthRead (month_for s) (cursor (length s))
+name-read : (s : List ℕ) → Each IsName s → month_field s ≡ Ok (month_for s, cursor (length s))
 unfolding month_field month_of named parse_unsigned_int run_at run_of admits part pick
 name-read s e =
     let f = from_start s in
@@ -297,17 +289,17 @@ name-read s e =
       take-length s,
     )
 
-named-said : (s : List ℕ) {m : OptionMonth} → length s < 10 → Each IsName s → month_for s ≡ m → MonthSaid s m
+named-said : (s : List ℕ) {m : Option Month} → length s < 10 → Each IsName s → month_for s ≡ m → MonthSaid s m
 named-said s l e f =
     record {
       usual = record { printed = each_of (λ x (h : IsName x). record { low = omega (arith, h.low); high = omega (arith, h.high) }) e; short = l };
-      reads = name-read s e ∙ ap (λ (k : OptionMonth). MonthRead k (cursor (length s))) f;
+      reads = name-read s e ∙ ap (λ (k : Option Month). Ok (k, cursor (length s))) f;
     }
 
-found-says : (s : List ℕ) (m : OptionMonth) → (month_for s ≡ m → MonthSaid s m) → month_for s ≡ m → MonthSays s (some_month m)
+found-says : (s : List ℕ) (m : Option Month) → (month_for s ≡ m → MonthSaid s m) → month_for s ≡ m → MonthSays s (some_month m)
 unfolding some_month
-found-says s NoMonth f e = tt
-found-says s (SomeMonth m) f e = f e
+found-says s None f e = tt
+found-says s (Some m) f e = f e
 
 named-says : (s : List ℕ) → MonthSays s (named_month s)
 unfolding named_month
@@ -329,23 +321,23 @@ month-says s =
     some-month : {n : ℕ} → (n ≡ 0 → ⊥) → 0 < n
     some-month {n} h = let z = h in omega arith
 
-pub month-said : (s : List ℕ) {m : OptionMonth} → month_part s ≡ some m → MonthSaid s m
+pub month-said : (s : List ℕ) {m : Option Month} → month_part s ≡ Some m → MonthSaid s m
 month-said s e = subst (MonthSays s) e (month-says s)
 
 -- no day stands behind it
-pub month-alone : {s : List ℕ} {m : OptionMonth} → MonthSaid s m → month_text s ≡ PartsAre m NoDay
+pub month-alone : {s : List ℕ} {m : Option Month} → MonthSaid s m → month_text s ≡ Ok (m, None)
 unfolding month_text on_month inside_day
 month-alone {s} h = rw (h.reads, no_day s)
 
 -- ---- the day
 
 -- a day that is said is the one that is read, wherever its list stands
-pub data DaySaid (s : List ℕ) : OptionDay → Type 0 where
-  given : {d : Day} → Usual s → ((span : FileSpan) → day_field s span ≡ Given d) → DaySaid s (SomeDay d)
+pub data DaySaid (s : List ℕ) : Option Day → Type 0 where
+  given : {d : Day} → Usual s → ((span : FileSpan) → day_field s span ≡ Ok d) → DaySaid s (Some d)
 
-abbrev DaySays : List ℕ → Option OptionDay → Type 0
-DaySays s none = Unit {0}
-DaySays s (some d) = DaySaid s d
+abbrev DaySays : List ℕ → Option (Option Day) → Type 0
+DaySays s None = Unit {0}
+DaySays s (Some d) = DaySaid s d
 
 number-given : {s : List ℕ} {n : ℕ} → 0 < n → n < 32 → Number 2 s n → DaySaid s (day (n - 1))
 number-given p h (number d ds a l) = given (number-usual (lit≤ tt) (number d ds a l)) (λ span. day-digits d ds span a p h)
@@ -360,5 +352,5 @@ day-says s =
     number-given (ltb-true 0 _ p.0) h (small_of_lem s (omega arith)))
     (λ _. tt)
 
-pub day-said : (s : List ℕ) {d : OptionDay} → day_part s ≡ some d → DaySaid s d
+pub day-said : (s : List ℕ) {d : Option Day} → day_part s ≡ Some d → DaySaid s d
 day-said s e = subst (DaySays s) e (day-says s)

@@ -4,7 +4,6 @@
 use mathlib.Core.Path.{◌≡◌, refl, sym, ap, ◌∙◌, subst}
 use mathlib.Core.Bool.{Bool, true, false, ◌&&◌}
 use mathlib.Core.List.{List, [], ◌∷◌, ◌++◌, append-nil}
-use mathlib.Core.Option.{Option, none, some}
 use Prim.Native.Nat.{ℕ, suc, ◌+◌, ◌*◌, ◌-◌, ◌/◌, ◌%◌, ◌≤◌, ◌<◌}
 use native.Mathlib.Nat.{zero-add}
 use native.Mathlib.Omega.{arith}
@@ -15,14 +14,10 @@ use borrow.Author.Tests.{eqb-true, eqb-false, ltb-true}
 use Rattle.chars.specs.Classes.{is_ascii_digit}
 use Rattle.chars.proofs.Cases.{by-test, and-true}
 use Rattle.chars.proofs.Spelled.{bytes_at, spelled}
-use Rattle.dates.specs.declared.OptionMonth.TheVariants.{NoMonth}
-use Rattle.dates.specs.declared.OptionDay.TheVariants.{NoDay}
+use Rattle.dates.specs.declared.TimeOffset.{TimeOffset}
+use Rattle.std.specs.Prelude.{Some, None, Option}
 use Rattle.dates.specs.declared.TimeOffset.TheVariants.{Utc, Offset}
-use Rattle.dates.specs.declared.OptionOffset.{OptionOffset}
-use Rattle.dates.specs.declared.OptionOffset.TheVariants.{NoOffset, SomeOffset}
 use Rattle.dates.specs.declared.Time.{Time}
-use Rattle.dates.specs.declared.OptionTime.{OptionTime}
-use Rattle.dates.specs.declared.OptionTime.TheVariants.{NoTime, SomeTime}
 use Rattle.dates.specs.declared.Datetime.{Datetime}
 use Rattle.dates.specs.Calendar.{month_length}
 use Rattle.dates.specs.Domain.{EndIn}
@@ -36,10 +31,10 @@ use Rattle.strict.proofs.Digits.{digit}
 use Rattle.codes.specs.Points.{two_of, four_of, two_at, year_of, counted_from, part_at, year_point, month_point, day_point, is_clock, is_shift, shift_by, zone_of, on_some, time_of, point_of}
 
 -- what goes on from a value that may be none
-pub by-some : {A B : Type 0} (P : Option B → Type 0) (x : Option A) {go : A → Option B} → P none → ((a : A) → x ≡ some a → P (go a)) → P (on_some x go)
+pub by-some : {A B : Type 0} (P : Option B → Type 0) (x : Option A) {go : A → Option B} → P None → ((a : A) → x ≡ Some a → P (go a)) → P (on_some x go)
 unfolding on_some
-by-some P none n f = n
-by-some P (some a) n f = f a refl
+by-some P None n f = n
+by-some P (Some a) n f = f a refl
 
 -- two digits, and four
 two_digits : (a b : ℕ) → is_ascii_digit a ≡ true → is_ascii_digit b ≡ true → a ∷ b ∷ [] ≡ digits 2 ((a - 48) * 10 + (b - 48))
@@ -108,16 +103,16 @@ pub record Said (s : List ℕ) (d : Datetime) : Type 0 where
 
 -- what is found of a text is said by it
 abbrev pub Finding : List ℕ → Option Datetime → Type 0
-Finding s (some d) = Said s d
-Finding s none = Unit {0}
+Finding s (Some d) = Said s d
+Finding s None = Unit {0}
 
 -- what is found with a time behind the day is derived
 pub data Timed (s : List ℕ) : Datetime → Type 0 where
-  timed : {d : Datetime} {t : Time} → d.time ≡ SomeTime t → Point s d → Timed s d
+  timed : {d : Datetime} {t : Time} → d.time ≡ Some t → Point s d → Timed s d
 
 abbrev pub FindingTimed : List ℕ → Option Datetime → Type 0
-FindingTimed s (some d) = Timed s d
-FindingTimed s none = Unit {0}
+FindingTimed s (Some d) = Timed s d
+FindingTimed s None = Unit {0}
 
 -- a field that is counted from zero
 from_zero : {c last n : ℕ} → n ≤ last → Field c 0 last (c ∷ digits 2 n) n
@@ -157,7 +152,7 @@ module _ (s : List ℕ) where
       ∙ ap (λ (t : List ℕ). digits 4 (year_of s) ++ t)
       (part-text 4 (omega arith) (omega arith) ∙ ap (λ (t : List ℕ). part_text (part_at s 4) ++ t) (part-text 7 (omega arith) (omega (arith, l, d))))
 
-  year-said : length s ≡ 4 → year_of s < 10000 → Said s (datetime (pos (year_of s)) NoMonth NoDay NoTime)
+  year-said : length s ≡ 4 → year_of s < 10000 → Said s (datetime (pos (year_of s)) None None None)
   unfolding canonical year_text month_text
   year-said n h =
       record {
@@ -165,7 +160,7 @@ module _ (s : List ℕ) where
         end_in = record { year_in = h; parts_in = tt; untimed = refl; unseasoned = refl };
       }
 
-  month-said : length s ≡ 7 → year_of s < 10000 → part_at s 4 < 12 → Said s (datetime (pos (year_of s)) (month (part_at s 4)) NoDay NoTime)
+  month-said : length s ≡ 7 → year_of s < 10000 → part_at s 4 < 12 → Said s (datetime (pos (year_of s)) (month (part_at s 4)) None None)
   unfolding canonical year_text month_text day_text
   month-said n h m =
       record {
@@ -176,7 +171,7 @@ module _ (s : List ℕ) where
       }
 
   day-said : length s ≡ 10 → year_of s < 10000 → part_at s 4 < 12 → part_at s 7 < month_length (part_at s 4) (pos (year_of s))
-      → Said s (datetime (pos (year_of s)) (month (part_at s 4)) (day (part_at s 7)) NoTime)
+      → Said s (datetime (pos (year_of s)) (month (part_at s 4)) (day (part_at s 7)) None)
   unfolding canonical year_text month_text day_text
   day-said n h m d =
       record {
@@ -188,8 +183,8 @@ module _ (s : List ℕ) where
       }
 
   -- dddd-mm-dd at the front, by what its tests say
-  day-found : (P : Option Datetime → Type 0) (t : OptionTime) → P none
-      → (year_of s < 10000 → part_at s 4 < 12 → part_at s 7 < month_length (part_at s 4) (pos (year_of s)) → P (some (datetime (pos (year_of s)) (month (part_at s 4)) (day (part_at s 7)) t)))
+  day-found : (P : Option Datetime → Type 0) (t : Option Time) → P None
+      → (year_of s < 10000 → part_at s 4 < 12 → part_at s 7 < month_length (part_at s 4) (pos (year_of s)) → P (Some (datetime (pos (year_of s)) (month (part_at s 4)) (day (part_at s 7)) t)))
       → P (day_point s t)
   unfolding day_point
   day-found P t n f =
@@ -214,23 +209,23 @@ module _ (s : List ℕ) where
       (λ h. tt))
       (λ _.
       by-test (Finding s) (eqb (length s) 10)
-      (λ n. day-found (Finding s) NoTime tt (day-said (eqb-true _ 10 n)))
+      (λ n. day-found (Finding s) None tt (day-said (eqb-true _ 10 n)))
       (λ _. tt)))
 
 -- ---- the time behind a day
 
 -- what stands behind the seconds is derived, and the text is long enough for them
-abbrev Zoned : List ℕ → Option OptionOffset → Type 0
-Zoned s (some o) = Zone (drop 19 s) o × (19 ≤ length s)
-Zoned s none = Unit {0}
+abbrev Zoned : List ℕ → Option (Option TimeOffset) → Type 0
+Zoned s (Some o) = Zone (drop 19 s) o × (19 ≤ length s)
+Zoned s None = Unit {0}
 
 -- a time likewise, which there is
-data Clocked (s : List ℕ) : OptionTime → Type 0 where
-  clocked : {t : Time} → Clock (drop 10 s) (SomeTime t) → 10 ≤ length s → Clocked s (SomeTime t)
+data Clocked (s : List ℕ) : Option Time → Type 0 where
+  clocked : {t : Time} → Clock (drop 10 s) (Some t) → 10 ≤ length s → Clocked s (Some t)
 
-abbrev Timing : List ℕ → Option OptionTime → Type 0
-Timing s (some t) = Clocked s t
-Timing s none = Unit {0}
+abbrev Timing : List ℕ → Option (Option Time) → Type 0
+Timing s (Some t) = Clocked s t
+Timing s None = Unit {0}
 
 module _ (s : List ℕ) where
   -- a byte and two digits behind it, of a number below a bound
@@ -251,7 +246,7 @@ module _ (s : List ℕ) where
       ∙ ap (λ (t : List ℕ). (58 ∷ digits 2 (two_at s 23)) ++ t) (ended s 25 l) ∙ append-nil (58 ∷ digits 2 (two_at s 23)))
 
   shift-zone : (positive : Bool) (c : ℕ)
-      → ((u v : List ℕ) (h m : ℕ) → Field c 0 23 u h → Field 58 0 59 v m → Zone (u ++ v) (SomeOffset (Offset positive h m)))
+      → ((u v : List ℕ) (h m : ℕ) → Field c 0 23 u h → Field 58 0 59 v m → Zone (u ++ v) (Some (Offset positive h m)))
       → get_or s 19 0 ≡ c → length s ≡ 25 → Zoned s (shift_by positive s)
   unfolding shift_by is_shift
   shift-zone positive c make e l =
@@ -261,20 +256,20 @@ module _ (s : List ℕ) where
       let q = and-true (eqb (get_or s 22 0) 58) _ p.1 in
       let h = ltb-true (two_at s 20) 24 p.0 in
       let m = ltb-true (two_at s 23) 60 q.1 in
-      (subst (λ (u : List ℕ). Zone u (SomeOffset (Offset positive (two_at s 20) (two_at s 23)))) (sym (shift-text c e l h (eqb-true _ 58 q.0) m)) (make _ _ (two_at s 20) (two_at s 23) (from_zero (omega arith)) (from_zero (omega arith))), omega arith))
+      (subst (λ (u : List ℕ). Zone u (Some (Offset positive (two_at s 20) (two_at s 23)))) (sym (shift-text c e l h (eqb-true _ 58 q.0) m)) (make _ _ (two_at s 20) (two_at s 23) (from_zero (omega arith)) (from_zero (omega arith))), omega arith))
       (λ _. tt)
 
   zoned : Zoned s (zone_of s)
   unfolding zone_of
   zoned =
       by-test (Zoned s) (eqb (length s) 19)
-      (λ n. let l = eqb-true (length s) 19 n in (subst (λ (u : List ℕ). Zone u NoOffset) (sym (ended s 19 l)) no_zone, omega arith))
+      (λ n. let l = eqb-true (length s) 19 n in (subst (λ (u : List ℕ). Zone u None) (sym (ended s 19 l)) no_zone, omega arith))
       (λ _.
       by-test (Zoned s) (eqb (length s) 20)
       (λ n.
       let l = eqb-true (length s) 20 n in
       by-test (Zoned s) (eqb (get_or s 19 0) 90)
-      (λ e. (subst (λ (u : List ℕ). Zone u (SomeOffset Utc)) (sym (spelled 1 19 s (omega arith) ∙ cons_same (eqb-true _ 90 e) (ended s 20 l))) z, omega arith))
+      (λ e. (subst (λ (u : List ℕ). Zone u (Some Utc)) (sym (spelled 1 19 s (omega arith) ∙ cons_same (eqb-true _ 90 e) (ended s 20 l))) z, omega arith))
       (λ _. tt))
       (λ _.
       by-test (Zoned s) (eqb (length s) 25)
@@ -285,8 +280,8 @@ module _ (s : List ℕ) where
       (λ _. by-test (Zoned s) (eqb (get_or s 19 0) 45) (λ e. shift-zone false 45 (λ u v h m f g. behind f g) (eqb-true _ 45 e) l) (λ _. tt)))
       (λ _. tt)))
 
-  clock-text : is_clock s ≡ true → 19 ≤ length s → {o : OptionOffset} → Zone (drop 19 s) o
-      → Clock (drop 10 s) (SomeTime (time (two_at s 11) (two_at s 14) (two_at s 17) o))
+  clock-text : is_clock s ≡ true → 19 ≤ length s → {o : Option TimeOffset} → Zone (drop 19 s) o
+      → Clock (drop 10 s) (Some (time (two_at s 11) (two_at s 14) (two_at s 17) o))
   unfolding is_clock
   clock-text t l {o} zone =
       let a = and-true (eqb (get_or s 10 0) 84) _ t in
@@ -297,7 +292,7 @@ module _ (s : List ℕ) where
       let h = ltb-true (two_at s 11) 24 b.0 in
       let m = ltb-true (two_at s 14) 60 d.0 in
       let n = ltb-true (two_at s 17) 60 e.1 in
-      subst (λ (u : List ℕ). Clock u (SomeTime (time (two_at s 11) (two_at s 14) (two_at s 17) o)))
+      subst (λ (u : List ℕ). Clock u (Some (time (two_at s 11) (two_at s 14) (two_at s 17) o)))
       (sym
       (field-text s 10 (omega arith) (below 10 84 24 (eqb-true _ 84 a.0) h (omega arith))
       ∙ ap (λ (u : List ℕ). (84 ∷ digits 2 (two_at s 11)) ++ u)
@@ -313,16 +308,16 @@ module _ (s : List ℕ) where
       (λ _. tt)
 
   -- a day with a time is derived
-  day-derived : {t : Time} → Clock (drop 10 s) (SomeTime t) → 10 ≤ length s → FindingTimed s (day_point s (SomeTime t))
+  day-derived : {t : Time} → Clock (drop 10 s) (Some t) → 10 ≤ length s → FindingTimed s (day_point s (Some t))
   unfolding part_text
   day-derived {t} c l =
-      day-found s (FindingTimed s) (SomeTime t) tt λ h m d.
+      day-found s (FindingTimed s) (Some t) tt λ h m d.
       timed {t = t} refl
-      (subst (λ (u : List ℕ). Point u (datetime (pos (year_of s)) (month (part_at s 4)) (day (part_at s 7)) (SomeTime t))) (sym (day-text s l h m d))
+      (subst (λ (u : List ℕ). Point u (datetime (pos (year_of s)) (month (part_at s 4)) (day (part_at s 7)) (Some t))) (sym (day-text s l h m d))
       (point (dddd (year_of s) h) (-mm (field (part_at s 4) (omega arith)) (-dd (field (part_at s 7) (omega (arith, d))) c))))
 
-  pub finding-timed : (t : OptionTime) → time_of s ≡ some t → FindingTimed s (day_point s t)
+  pub finding-timed : (t : Option Time) → time_of s ≡ Some t → FindingTimed s (day_point s t)
   finding-timed t e = go (subst (Timing s) e timing)
     where
-      go : {t : OptionTime} → Clocked s t → FindingTimed s (day_point s t)
+      go : {t : Option Time} → Clocked s t → FindingTimed s (day_point s t)
       go (clocked c l) = day-derived c l

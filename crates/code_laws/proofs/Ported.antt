@@ -3,13 +3,14 @@
 use mathlib.Core.Path.{◌≡◌, subst}
 use mathlib.Core.Bool.{true, ◌&&◌}
 use mathlib.Core.List.{List}
-use mathlib.Core.Option.{Option, none, some}
 use Prim.Native.Nat.{ℕ, ◌≤◌}
 use borrow.Author.Tests.{eqb-true, leb-true, ltb-true}
 use lib.Dec.{eqb, ltb, leb, lit≤}
 use lib.ListN.{length, get_or}
 use Rattle.chars.proofs.Cases.{by-test, and-true}
-use Rattle.refusals.specs.declared.ReadDate.{ReadDate}
+use Rattle.dates.specs.declared.Date.{Date}
+use Rattle.refusals.specs.declared.Refusal.{Refusal}
+use Rattle.std.specs.Prelude.{Result, Option, None, Some}
 use Rattle.reading_laws.specs.Field.{parsed}
 use Rattle.codes.specs.Points.{on_some}
 use Rattle.codes.specs.Texts.{is_slash, slash_of}
@@ -46,14 +47,14 @@ ported-says s =
 
 -- of a list: the ported reader says it, and its numbers are of their types
 module _ (b table : List ℕ) where
-  abbrev Told : Option ReadDate → Type 0
-  Told none = Unit {0}
-  Told (some r) = (parsed b table ≡ r) × Typed r
+  abbrev Told : Option (Result Date Refusal) → Type 0
+  Told None = Unit {0}
+  Told (Some r) = (parsed b table ≡ r) × Typed r
 
-  moved_told : one_normal b table ≡ true → Early (get_or table 2 0) → (x : Option ReadDate) → Saying b x → Told (on_some x λ r. some (moved_by (get_or table 2 0) r))
+  moved_told : one_normal b table ≡ true → Early (get_or table 2 0) → (x : Option (Result Date Refusal)) → Saying b x → Told (on_some x λ r. Some (moved_by (get_or table 2 0) r))
   unfolding on_some
-  moved_told o h none k = tt
-  moved_told o h (some r) k = (parsed-says b table o h k, near-typed r (get_or table 2 0) k.near h)
+  moved_told o h None k = tt
+  moved_told o h (Some r) k = (parsed-says b table o h k, near-typed r (get_or table 2 0) k.near h)
 
   told : Told (list_ported b table)
   unfolding list_ported
@@ -65,8 +66,8 @@ module _ (b table : List ℕ) where
       moved_told p.0 h (ported b) (ported-says b))
       (λ _. tt)
 
-  pub ported-parsed : {r : ReadDate} → list_ported b table ≡ some r → parsed b table ≡ r
+  pub ported-parsed : {r : Result Date Refusal} → list_ported b table ≡ Some r → parsed b table ≡ r
   ported-parsed e = (subst Told e told).0
 
-  pub ported-typed : {r : ReadDate} → list_ported b table ≡ some r → Typed r
+  pub ported-typed : {r : Result Date Refusal} → list_ported b table ≡ Some r → Typed r
   ported-typed e = (subst Told e told).1

@@ -17,18 +17,12 @@ use Rattle.scanner.proofs.Front.{from_start, from-behind}
 use Rattle.numbers.specs.declared.Digits.TheVariants.{Two}
 use Rattle.numbers.specs.Number.{admits, cursor}
 use Rattle.numbers.proofs.Reading.{bytes, end, int-read}
-use Rattle.points.specs.declared.ReadPoint.TheVariants.{Point}
-use Rattle.points.specs.declared.ReadYear.TheVariants.{Year}
+use Rattle.std.specs.Prelude.{None, Ok}
 use Rattle.points.specs.Point.{windowed, windowed_int, short_year as short_int, short_or, year_at, point}
 use Rattle.points.proofs.Back.{two, two_digits, two-value, on-year, year-end}
-use Rattle.dates.specs.declared.OptionMonth.TheVariants.{NoMonth}
-use Rattle.dates.specs.declared.OptionDay.TheVariants.{NoDay}
-use Rattle.dates.specs.declared.OptionTime.TheVariants.{NoTime}
 use Rattle.dates.specs.declared.DateValue.TheVariants.{At}
 use Rattle.dates.specs.Value.{datetime, date}
 use Rattle.refusals.specs.declared.FileSpan.{FileSpan}
-use Rattle.refusals.specs.declared.ReadDate.TheVariants.{Accepted}
-use Rattle.datefield.specs.declared.ReadValue.TheVariants.{Read}
 use Rattle.datefield.specs.Value.{moved, on_half, value}
 use Rattle.roundtrip_laws.proofs.Bytes.{Each, each-bytes, each_of, InPoint, ValueText, point-digit, without-x, without-slash, first-none}
 use Rattle.codes.specs.Points.{two_at}
@@ -53,21 +47,21 @@ module _ (n : ℕ) (h : n < 100) where
   unfolding admits
   two-long = refl
 
-  year_is : year_at text 0 ≡ Year (windowed (pos n)) (cursor 2)
+  year_is : year_at text 0 ≡ Ok (windowed (pos n), cursor 2)
   unfolding year_at short_int windowed_int short_or
   year_is = rw (int-read (n / 10 % 10) ((n % 10) ∷ []) (two_digits n) end (from_start text) Two two-long, two-value n h)
 
-  point_is : point text ≡ Point (datetime (windowed (pos n)) NoMonth NoDay NoTime)
+  point_is : point text ≡ Ok (datetime (windowed (pos n)) None None None)
   point_is = on-year text year_is ∙ year-end (windowed (pos n)) (from-behind text (from_start text))
 
-  value-is : (span : FileSpan) → value span text ≡ Read (At (datetime (windowed (pos n)) NoMonth NoDay NoTime))
+  value-is : (span : FileSpan) → value span text ≡ Ok (At (datetime (windowed (pos n)) None None None))
   unfolding value moved on_half pick
   value-is span = rw (first-none 0x58 (without-x in_point), first-none 0x2F (without-slash in_point), point_is)
 
-  pub short_text : Says text (Accepted (date (At (datetime (windowed (pos n)) NoMonth NoDay NoTime)) false false))
+  pub short_text : Says text (Ok (date (At (datetime (windowed (pos n)) None None None)) false false))
   short_text =
       let k : ValueText text = record { in_value = each_of (λ x (p : InPoint x). p.in_value) in_point; some = omega arith; short = omega arith } in
-      value-says k value-is (untimed-typed (windowed (pos n)) NoMonth NoDay (near n h) (lit< tt) (lit< tt))
+      value-says k value-is (untimed-typed (windowed (pos n)) None None (near n h) (lit< tt) (lit< tt))
 
 pub short-says : (s : List ℕ) → length s ≡ 2 → Saying s (short_year s)
 unfolding short_year
@@ -76,5 +70,5 @@ short-says s n =
     (λ t.
     let h = ltb-true (two_at s 0) 100 t in
     let e : bytes (two (two_at s 0)) ≡ s = sym (two-are (get_or s 0 0) (get_or s 1 0) h) ∙ entries 2 s n in
-    subst (λ (l : List ℕ). Says l (Accepted (date (At (datetime (windowed (pos (two_at s 0))) NoMonth NoDay NoTime)) false false))) e (short_text (two_at s 0) h))
+    subst (λ (l : List ℕ). Says l (Ok (date (At (datetime (windowed (pos (two_at s 0))) None None None)) false false))) e (short_text (two_at s 0) h))
     (λ t. tt)

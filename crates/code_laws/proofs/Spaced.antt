@@ -3,7 +3,6 @@
 use mathlib.Core.Path.{◌≡◌, refl, sym, ap, subst, ◌∙◌}
 use mathlib.Core.Bool.{Bool, true, false, ◌&&◌}
 use mathlib.Core.List.{List, [], ◌∷◌}
-use mathlib.Core.Option.{Option, some}
 use Prim.Native.Nat.{ℕ, ◌+◌, ◌≤◌, ◌<◌}
 use native.Mathlib.Nat.{add-zero}
 use native.Mathlib.Omega.{arith}
@@ -20,7 +19,9 @@ use Rattle.scanner.proofs.Laws.{not_white}
 use Rattle.scanner.proofs.Blanks.{space-white}
 use Rattle.scanner.proofs.Front.{From, from_start, front_rest, front-go, front-stop, front-char, front-end, front-past}
 use Rattle.refusals.specs.declared.FileSpan.{FileSpan}
-use Rattle.refusals.specs.declared.ReadDate.{ReadDate}
+use Rattle.dates.specs.declared.Date.{Date}
+use Rattle.refusals.specs.declared.Refusal.{Refusal}
+use Rattle.std.specs.Prelude.{Result, Option, Some}
 use Rattle.chunks.specs.Chunks.{chunks_of, span_of}
 use Rattle.chunks.specs.Format.{is_break}
 use Rattle.chunks.specs.Plain.{all_ascii, plain_byte, plain_text}
@@ -138,17 +139,17 @@ cut-parsed span k c = ap (trimmed_date span) (cut-trimmed k c ∙ sym (clear-tri
 
 -- ---- the list
 
-module _ (b table : List ℕ) {r : ReadDate} where
+module _ (b table : List ℕ) {r : Result Date Refusal} where
   -- what is said of a list is said of its bytes without the spaces
-  of-spaced : {A : Type 0} → (one_normal b table ≡ true → length b ≤ 4096 → written (unspaced b) ≡ some r → A) → list_spaced b table ≡ some r → A
+  of-spaced : {A : Type 0} → (one_normal b table ≡ true → length b ≤ 4096 → written (unspaced b) ≡ Some r → A) → list_spaced b table ≡ Some r → A
   unfolding list_spaced
   of-spaced {A} f =
-      by-test (λ (a : Option ReadDate). a ≡ some r → A) (one_normal b table && leb (length b) 4096)
+      by-test (λ (a : Option (Result Date Refusal)). a ≡ Some r → A) (one_normal b table && leb (length b) 4096)
       (λ t. let p = and-true (one_normal b table) _ t in f p.0 (leb-true (length b) 4096 p.1))
       (λ _ e. let z : ◌≡◌ {A = ℕ} 0 1 = cc in absurd (omega arith))
 
   -- what is said at once of a list with spaces at its end is what the ported reader says,
-  pub spaced-parsed : list_spaced b table ≡ some r → parsed b table ≡ r
+  pub spaced-parsed : list_spaced b table ≡ Some r → parsed b table ≡ r
   spaced-parsed =
       of-spaced λ o h e.
       let c = written-clear (unspaced b) e in
@@ -160,15 +161,15 @@ module _ (b table : List ℕ) {r : ReadDate} where
       ∙ text-parsed (unspaced b) e span
 
   -- and its numbers are of their types
-  pub spaced-typed : list_spaced b table ≡ some r → Typed r
+  pub spaced-typed : list_spaced b table ≡ Some r → Typed r
   spaced-typed = of-spaced λ o h e. written-typed (unspaced b) e
 
   -- the same of either list
-  pub usual-parsed : list_usual b table ≡ some r → parsed b table ≡ r
+  pub usual-parsed : list_usual b table ≡ Some r → parsed b table ≡ r
   unfolding list_usual
   usual-parsed =
-      by-test (λ (a : Option ReadDate). a ≡ some r → parsed b table ≡ r) (one_normal b table) (λ _. spaced-parsed) (λ _ e. written-parsed b table e)
+      by-test (λ (a : Option (Result Date Refusal)). a ≡ Some r → parsed b table ≡ r) (one_normal b table) (λ _. spaced-parsed) (λ _ e. written-parsed b table e)
 
-  pub usual-typed : list_usual b table ≡ some r → Typed r
+  pub usual-typed : list_usual b table ≡ Some r → Typed r
   unfolding list_usual
-  usual-typed = by-test (λ (a : Option ReadDate). a ≡ some r → Typed r) (one_normal b table) (λ _. spaced-typed) (λ _ e. list-typed b table e)
+  usual-typed = by-test (λ (a : Option (Result Date Refusal)). a ≡ Some r → Typed r) (one_normal b table) (λ _. spaced-typed) (λ _ e. list-typed b table e)

@@ -4,7 +4,6 @@
 use mathlib.Core.Path.{◌≡◌, refl, sym, ap, ◌∙◌, subst}
 use mathlib.Core.Bool.{Bool, true, false, ◌||◌}
 use mathlib.Core.List.{List, [], ◌∷◌, ◌++◌, append-nil, append_assoc}
-use mathlib.Core.Option.{Option, none, some}
 use Prim.Native.Nat.{ℕ, suc, ◌+◌, ◌-◌, ◌<◌}
 use native.Mathlib.Omega.{arith}
 use lib.Dec.{eqb, ltb}
@@ -15,9 +14,8 @@ use Rattle.chars.specs.Pick.{pick}
 use Rattle.chars.proofs.Cases.{by-test, of_test, and-true}
 use Rattle.chars.proofs.Spelled.{drop-same, entries}
 use Rattle.refusals.specs.declared.FileSpan.{FileSpan}
-use Rattle.refusals.specs.declared.ReadDate.{ReadDate}
-use Rattle.refusals.specs.declared.ReadDate.TheVariants.{Accepted}
-use Rattle.dates.specs.declared.OptionTime.TheVariants.{NoTime}
+use Rattle.refusals.specs.declared.Refusal.{Refusal}
+use Rattle.std.specs.Prelude.{None, Result, Ok, Option, Some}
 use Rattle.dates.specs.declared.Datetime.{Datetime}
 use Rattle.dates.specs.declared.DateValue.{DateValue}
 use Rattle.dates.specs.declared.DateValue.TheVariants.{At, After, Before, Between}
@@ -27,7 +25,6 @@ use Rattle.dates.specs.Ends.{EachEnd}
 use Rattle.dates.specs.Value.{date}
 use Rattle.puts.specs.Marks.{mark_text}
 use Rattle.writer.specs.Texts.{parts_of, end_panics, value_panics, panics, datetime_text, value_text, date_text}
-use Rattle.datefield.specs.declared.ReadValue.TheVariants.{Read}
 use Rattle.datefield.specs.Text.{last_byte, is_uncertain, is_approximate, unmarked, is_dots}
 use Rattle.datefield.specs.Value.{moved, on_half, value, marked, parse_text}
 use Rattle.strict.specs.Grammar.{Point, Value, alone, between, after, before, Text, text}
@@ -51,12 +48,12 @@ use Rattle.code_laws.proofs.Typed.{point-typed}
 -- what a text of one end says: it is derived, and without a time it is the written text
 record EndSaid (s : List ℕ) (d : Datetime) : Type 0 where
   by_grammar : Point s d
-  back : d.time ≡ NoTime → EndIn d × (datetime_text d ≡ s)
+  back : d.time ≡ None → EndIn d × (datetime_text d ≡ s)
 
-plain-untimed : (s : List ℕ) {d : Datetime} → point_of s ≡ some d → d.time ≡ NoTime
+plain-untimed : (s : List ℕ) {d : Datetime} → point_of s ≡ Some d → d.time ≡ None
 plain-untimed s {d} e = let p : Said s d = subst (Finding s) e (finding s) in p.end_in.untimed
 
-plain_end : (s : List ℕ) {d : Datetime} → point_of s ≡ some d → EndSaid s d
+plain_end : (s : List ℕ) {d : Datetime} → point_of s ≡ Some d → EndSaid s d
 plain_end s {d} e =
     let p : Said s d = subst (Finding s) e (finding s) in
     record {
@@ -77,14 +74,14 @@ end-calm {d = d} e = calendar-written d.year d.month d.day (point-dated e.by_gra
 -- a range has no time
 abbrev pub Ranged : DateValue → Type 0
 Ranged (At a) = Unit {0}
-Ranged (After a) = a.time ≡ NoTime
-Ranged (Before a) = a.time ≡ NoTime
-Ranged (Between a b) = (a.time ≡ NoTime) × (b.time ≡ NoTime)
+Ranged (After a) = a.time ≡ None
+Ranged (Before a) = a.time ≡ None
+Ranged (Between a b) = (a.time ≡ None) × (b.time ≡ None)
 
 -- what a text without its mark says
 record ValueSaid (s : List ℕ) (v : DateValue) : Type 0 where
   by_grammar : Value Point s v
-  ported : (span : FileSpan) → value span s ≡ Read v
+  ported : (span : FileSpan) → value span s ≡ Ok v
   back : Untimed v → InDomain v × (value_text v ≡ s)
   calm : value_panics v ≡ false
   ranged : Ranged v
@@ -104,7 +101,7 @@ module _ {s : List ℕ} {a : Datetime} (e : EndSaid s a) where
         typed = point-typed p;
       }
 
-  after-said : a.time ≡ NoTime → ValueSaid (s ++ 47 ∷ 46 ∷ 46 ∷ []) (After a)
+  after-said : a.time ≡ None → ValueSaid (s ++ 47 ∷ 46 ∷ 46 ∷ []) (After a)
   unfolding moved on_half value_text value_panics
   after-said n =
       let p = e.by_grammar in
@@ -117,7 +114,7 @@ module _ {s : List ℕ} {a : Datetime} (e : EndSaid s a) where
         typed = point-typed p;
       }
 
-  before-said : a.time ≡ NoTime → ValueSaid (46 ∷ 46 ∷ 47 ∷ s) (Before a)
+  before-said : a.time ≡ None → ValueSaid (46 ∷ 46 ∷ 47 ∷ s) (Before a)
   unfolding moved on_half value_text value_panics
   before-said n =
       let p = e.by_grammar in
@@ -130,7 +127,7 @@ module _ {s : List ℕ} {a : Datetime} (e : EndSaid s a) where
         typed = point-typed p;
       }
 
-  between-said : {t : List ℕ} {b : Datetime} → a.time ≡ NoTime → EndSaid t b → b.time ≡ NoTime → ValueSaid (s ++ 47 ∷ t) (Between a b)
+  between-said : {t : List ℕ} {b : Datetime} → a.time ≡ None → EndSaid t b → b.time ≡ None → ValueSaid (s ++ 47 ∷ t) (Between a b)
   unfolding moved on_half value_text value_panics
   between-said {t} {b} n f k =
       let p = e.by_grammar in
@@ -146,8 +143,8 @@ module _ {s : List ℕ} {a : Datetime} (e : EndSaid s a) where
       }
 
 abbrev Saying : List ℕ → Option DateValue → Type 0
-Saying s (some v) = ValueSaid s v
-Saying s none = Unit {0}
+Saying s (Some v) = ValueSaid s v
+Saying s None = Unit {0}
 
 -- two dots
 dots-are : (s : List ℕ) → is_dots s ≡ true → s ≡ 46 ∷ 46 ∷ []
@@ -228,7 +225,7 @@ module _ (s : List ℕ) where
 -- what a whole text says
 pub record TextSaid (s : List ℕ) (d : Date) : Type 0 where
   pub by_grammar : Text s d
-  pub ported : (span : FileSpan) → parse_text span s ≡ Accepted d
+  pub ported : (span : FileSpan) → parse_text span s ≡ Ok d
   pub back : Untimed d.value → InDomain d.value × (date_text d ≡ s)
   pub calm : panics d ≡ false
   pub ranged : Ranged d.value
@@ -248,12 +245,12 @@ with-mark u a e =
     }
 
 -- an answer at once is a Date
-pub data Answer (s : List ℕ) : ReadDate → Type 0 where
-  answer : {d : Date} → TextSaid s d → Answer s (Accepted d)
+pub data Answer (s : List ℕ) : Result Date Refusal → Type 0 where
+  answer : {d : Date} → TextSaid s d → Answer s (Ok d)
 
-abbrev Answers : List ℕ → Option ReadDate → Type 0
-Answers s (some r) = Answer s r
-Answers s none = Unit {0}
+abbrev Answers : List ℕ → Option (Result Date Refusal) → Type 0
+Answers s (Some r) = Answer s r
+Answers s None = Unit {0}
 
 answers : (s : List ℕ) → Answers s (written s)
 unfolding written
@@ -263,5 +260,5 @@ answers s =
     let a = is_approximate (last_byte s) in
     answer (subst (λ (t : List ℕ). TextSaid t (date v u a)) (mark-text s) (with-mark u a (subst (Saying (unmarked s)) e (value-said (unmarked s)))))
 
-pub said : {s : List ℕ} {r : ReadDate} → written s ≡ some r → Answer s r
+pub said : {s : List ℕ} {r : Result Date Refusal} → written s ≡ Some r → Answer s r
 said {s} e = subst (Answers s) e (answers s)

@@ -12,17 +12,13 @@ use lib.IntN.{pos}
 use lib.ListN.{length, get_or, drop}
 use Rattle.chars.proofs.Cases.{by-test, and-true}
 use Rattle.chars.proofs.Spelled.{bytes_at, spelled, entries}
-use Rattle.dates.specs.declared.OptionMonth.{OptionMonth}
-use Rattle.dates.specs.declared.OptionMonth.TheVariants.{NoMonth}
-use Rattle.dates.specs.declared.OptionDay.{OptionDay}
-use Rattle.dates.specs.declared.OptionDay.TheVariants.{NoDay}
-use Rattle.dates.specs.declared.OptionTime.TheVariants.{NoTime}
+use Rattle.dates.specs.declared.Day.{Day}
+use Rattle.dates.specs.declared.Month.{Month}
+use Rattle.std.specs.Prelude.{Option, None, Ok}
 use Rattle.dates.specs.declared.DateValue.{DateValue}
 use Rattle.dates.specs.declared.DateValue.TheVariants.{At, After, Before, Between}
 use Rattle.dates.specs.Value.{datetime, date, month, day}
 use Rattle.refusals.specs.declared.FileSpan.{FileSpan}
-use Rattle.refusals.specs.declared.ReadDate.TheVariants.{Accepted}
-use Rattle.datefield.specs.declared.ReadValue.TheVariants.{Read}
 use Rattle.datefield.specs.Value.{value}
 use Rattle.strict.specs.Canonical.{part_text}
 use Rattle.strict.specs.Digits.{digits}
@@ -42,7 +38,7 @@ use Rattle.code_laws.proofs.Typed.{untimed-typed}
 use Rattle.code_laws.proofs.Says.{Says, Saying, value-says}
 
 -- a year of four digits, and a month and a day that are bytes, are of their types
-four-typed : (y : ℕ) (m : OptionMonth) (d : OptionDay) → y < 10000 → month_number m < 256 → day_number d < 256 → DatetimeTyped (datetime (pos y) m d NoTime)
+four-typed : (y : ℕ) (m : Option Month) (d : Option Day) → y < 10000 → month_number m < 256 → day_number d < 256 → DatetimeTyped (datetime (pos y) m d None)
 four-typed y m d h l k = untimed-typed (pos y) m d (omega arith) l k
 
 -- where two X stand
@@ -60,13 +56,13 @@ day_of (Between a b) = has_day a.day
 short-dayed : {s : List ℕ} {v w : DateValue} → ShortDays s v w → day_of v ≡ 1
 short-dayed (dddd_mm_XX n h f k) = refl
 
-undayed : (span : FileSpan) {s : List ℕ} {v : DateValue} → day_of v ≡ 0 → PortedReads span s v → value span s ≡ Read v
+undayed : (span : FileSpan) {s : List ℕ} {v : DateValue} → day_of v ≡ 0 → PortedReads span s v → value span s ≡ Ok v
 undayed span z (inl e) = e
 undayed span z (inr (w, x, e)) = let o = short-dayed x in absurd (omega arith)
 
 -- as the strict grammar derives them: the years of a century, the months of a year
 module _ {s : List ℕ} {v : DateValue} (x : Unknown s v) where
-  derived-says : day_of v ≡ 0 → EachEnd DatetimeTyped v → Says s (Accepted (date v false false))
+  derived-says : day_of v ≡ 0 → EachEnd DatetimeTyped v → Says s (Ok (date v false false))
   derived-says z t = value-says (unknown-text x) (λ span. undayed span z (unknown-value span x)) t
 
 pub years-say : (s : List ℕ) → length s ≡ 4 → Saying s (years_of s)
@@ -83,8 +79,8 @@ years-say s n =
     ∙ cons_same refl (cons_same refl (cons_same (sym x.0) (cons_same (sym x.1) refl)))
     ∙ entries 4 s n
     in
-    subst (λ (l : List ℕ). Says l (range (datetime (pos (y * 100)) NoMonth NoDay NoTime) (datetime (pos (y * 100 + 99)) NoMonth NoDay NoTime))) e
-    (derived-says (dd_xx y h) refl (four-typed (y * 100) NoMonth NoDay (omega arith) (lit< tt) (lit< tt), four-typed (y * 100 + 99) NoMonth NoDay (omega arith) (lit< tt) (lit< tt))))
+    subst (λ (l : List ℕ). Says l (range (datetime (pos (y * 100)) None None None) (datetime (pos (y * 100 + 99)) None None None))) e
+    (derived-says (dd_xx y h) refl (four-typed (y * 100) None None (omega arith) (lit< tt) (lit< tt), four-typed (y * 100 + 99) None None (omega arith) (lit< tt) (lit< tt))))
     (λ _. tt)
 
 -- a hyphen and two X at the end of a text
@@ -106,8 +102,8 @@ months-say s n =
     let e : s ≡ digits 4 y ++ 0x2D ∷ 0x58 ∷ 0x58 ∷ [] =
     year-text s (omega arith) h ∙ ap (λ (l : List ℕ). digits 4 y ++ l) (end_is s 4 n (three-are (eqb-true _ 0x2D q.1) (unknown-there s 5 p.0)))
     in
-    subst (λ (l : List ℕ). Says l (range (datetime (pos y) (month 0) NoDay NoTime) (datetime (pos y) (month 11) NoDay NoTime))) (sym e)
-    (derived-says (dddd_XX y h) refl (four-typed y (month 0) NoDay h (lit< tt) (lit< tt), four-typed y (month 11) NoDay h (lit< tt) (lit< tt))))
+    subst (λ (l : List ℕ). Says l (range (datetime (pos y) (month 0) None None) (datetime (pos y) (month 11) None None))) (sym e)
+    (derived-says (dddd_XX y h) refl (four-typed y (month 0) None h (lit< tt) (lit< tt), four-typed y (month 11) None h (lit< tt) (lit< tt))))
     (λ _. tt)
 
 -- the days of a month: 31 of them, whatever its length
@@ -129,6 +125,6 @@ days-say s n u =
     (part-text s 4 (omega arith) (omega arith)
     ∙ ap (λ (l : List ℕ). (0x2D ∷ digits 2 (1 + m)) ++ l) (end_is s 7 n (three-are (eqb-true _ 0x2D q.1) (unknown-there s 8 u))))
     in
-    subst (λ (l : List ℕ). Says l (range (datetime (pos y) (month m) (day 0) NoTime) (datetime (pos y) (month m) (day 30) NoTime))) (sym e)
+    subst (λ (l : List ℕ). Says l (range (datetime (pos y) (month m) (day 0) None) (datetime (pos y) (month m) (day 30) None))) (sym e)
     (value-says (unknown-text (Grammar.dddd_mm_XX y h (field m k))) (λ span. days-said span y m h k) (four-typed y (month m) (day 0) h (omega arith) (lit< tt), four-typed y (month m) (day 30) h (omega arith) (lit< tt))))
     (λ _. tt)

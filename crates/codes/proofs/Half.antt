@@ -2,31 +2,32 @@
 -- Assumes nothing.
 use mathlib.Core.Path.{◌≡◌, refl, sym, ◌∙◌}
 use mathlib.Core.List.{List}
-use mathlib.Core.Option.{Option, none, some}
 use Prim.Native.Nat.{ℕ, ◌<◌}
 use native.Mathlib.Omega.{arith}
 use Rattle.chars.proofs.Cases.{by-test}
 use Rattle.dates.specs.declared.Datetime.{Datetime}
-use Rattle.refusals.specs.declared.ReadDate.{ReadDate}
+use Rattle.dates.specs.declared.Date.{Date}
+use Rattle.refusals.specs.declared.Refusal.{Refusal}
+use Rattle.std.specs.Prelude.{Result, Option, None, Some}
 use Rattle.codes.specs.Words.{nothing, point_word}
 use Rattle.codes.specs.Points.{on_some, point_of}
 use Rattle.codes.specs.Texts.{is_slash, slash_of}
 use Rattle.codes.proofs.Laws.{Plain, plain-point}
 
-module _ (go : Datetime → Option ReadDate) where
-  stops : (x : Option Datetime) → Plain x → point_word x ≡ nothing → on_some x go ≡ none
+module _ (go : Datetime → Option (Result Date Refusal)) where
+  stops : (x : Option Datetime) → Plain x → point_word x ≡ nothing → on_some x go ≡ None
   unfolding on_some
-  stops none p e = refl
-  stops (some d) p e = absurd (omega (arith, p.1, e))
+  stops None p e = refl
+  stops (Some d) p e = absurd (omega (arith, p.1, e))
 
-  pub half-stops : (s : List ℕ) {w : ℕ} → w ≡ point_word (point_of s) → w ≡ nothing → on_some (point_of s) go ≡ none
+  pub half-stops : (s : List ℕ) {w : ℕ} → w ≡ point_word (point_of s) → w ≡ nothing → on_some (point_of s) go ≡ None
   half-stops s e n = stops (point_of s) (plain-point s) (sym e ∙ n)
 
-module _ (y : Option ReadDate) where
+module _ (y : Option (Result Date Refusal)) where
   goes : (x : Option Datetime) → (point_word x ≡ nothing → ⊥) → on_some x (λ d. y) ≡ y
   unfolding on_some
-  goes none h = absurd (h refl)
-  goes (some d) h = refl
+  goes None h = absurd (h refl)
+  goes (Some d) h = refl
 
   pub half-goes : (s : List ℕ) {w : ℕ} → w ≡ point_word (point_of s) → (w ≡ nothing → ⊥) → on_some (point_of s) (λ d. y) ≡ y
   half-goes s e h = goes (point_of s) (λ n. h (e ∙ n))

@@ -3,7 +3,6 @@
 use mathlib.Core.Path.{◌≡◌, refl, sym, ap, ◌∙◌}
 use mathlib.Core.Bool.{Bool, true, false, ◌&&◌, ◌||◌}
 use mathlib.Core.List.{List, [], ◌∷◌}
-use mathlib.Core.Option.{Option, none, some}
 use Prim.Native.Nat.{ℕ, ◌+◌, ◌-◌, ◌*◌, ◌≤◌, ◌<◌}
 use native.Mathlib.Omega.{arith}
 use lib.Dec.{eqb, ltb}
@@ -15,9 +14,8 @@ use Rattle.chars.specs.Classes.{is_ascii_digit}
 use Rattle.chars.proofs.Cases.{by-test, and-true}
 use Rattle.strict.proofs.Digits.{digit}
 use Rattle.dates.specs.declared.TimeOffset.TheVariants.{Offset}
-use Rattle.dates.specs.declared.OptionOffset.{OptionOffset}
-use Rattle.dates.specs.declared.OptionOffset.TheVariants.{SomeOffset}
-use Rattle.dates.specs.declared.OptionTime.TheVariants.{NoTime, SomeTime}
+use Rattle.dates.specs.declared.TimeOffset.{TimeOffset}
+use Rattle.std.specs.Prelude.{Some, None, Result, Ok, Err, Option}
 use Rattle.dates.specs.declared.Datetime.{Datetime}
 use Rattle.dates.specs.declared.DateValue.{DateValue}
 use Rattle.dates.specs.declared.DateValue.TheVariants.{At, After, Before, Between}
@@ -27,8 +25,6 @@ use Rattle.dates.specs.Time.{time}
 use Rattle.dates.specs.Value.{datetime, month, day, date}
 use Rattle.dates.specs.declared.Date.{Date}
 use Rattle.refusals.specs.declared.Refusal.{Refusal}
-use Rattle.refusals.specs.declared.ReadDate.{ReadDate}
-use Rattle.refusals.specs.declared.ReadDate.TheVariants.{Accepted, Refused}
 use Rattle.refusals.specs.Refusal.{number}
 use Rattle.refusals.proofs.Told.{number_in}
 use Rattle.datefield.specs.Text.{last_byte, is_uncertain, is_approximate, unmarked}
@@ -76,11 +72,11 @@ part-most s at =
 
 -- a point without a time: its second word is 0, and its first is not the one that says nothing
 abbrev pub Plain : Option Datetime → Type 0
-Plain none = Unit {0}
-Plain (some d) = (time_word d ≡ 0) × (day_word d < nothing)
+Plain None = Unit {0}
+Plain (Some d) = (time_word d ≡ 0) × (day_word d < nothing)
 
 module _ (s : List ℕ) where
-  day-below : day_word (datetime (pos (year_of s)) (month (part_at s 4)) (day (part_at s 7)) NoTime) < nothing
+  day-below : day_word (datetime (pos (year_of s)) (month (part_at s 4)) (day (part_at s 7)) None) < nothing
   unfolding twos
   day-below = omega (arith, year-most s, part-most s 4, part-most s 7)
 
@@ -105,15 +101,15 @@ pub shifted : (positive : Bool) (s : List ℕ) → shift_word (is_shift s) (sort
 unfolding shift_by pick
 shifted positive s = go (is_shift s) positive (two_at s 20) (two_at s 23)
   where
-    go : (t positive : Bool) (h m : ℕ) → shift_word t (sort_of (Offset positive 0 0)) h m ≡ zone_word (pick t (some (SomeOffset (Offset positive h m))) none)
+    go : (t positive : Bool) (h m : ℕ) → shift_word t (sort_of (Offset positive 0 0)) h m ≡ zone_word (pick t (Some (Some (Offset positive h m))) None)
     go true true h m = refl
     go true false h m = refl
     go false positive h m = refl
 
 -- what stands behind the seconds is below the word that says nothing, and there is room for a clock
-abbrev Short : Option OptionOffset → Type 0
-Short none = Unit {0}
-Short (some o) = zone_word (some o) < 72057594037927936
+abbrev Short : Option (Option TimeOffset) → Type 0
+Short None = Unit {0}
+Short (Some o) = zone_word (Some o) < 72057594037927936
 
 short-shift : (positive : Bool) (s : List ℕ) → Short (shift_by positive s)
 unfolding shift_by
@@ -122,7 +118,7 @@ short-shift positive s =
     (λ _. go positive (two_at s 20) (two_at s 23) (two-most (get_or s 20 0) (get_or s 21 0)) (two-most (get_or s 23 0) (get_or s 24 0)))
     (λ _. tt)
   where
-    go : (positive : Bool) (h m : ℕ) → h ≤ 100 → m ≤ 100 → Short (some (SomeOffset (Offset positive h m)))
+    go : (positive : Bool) (h m : ℕ) → h ≤ 100 → m ≤ 100 → Short (Some (Some (Offset positive h m)))
     go true h m p q = omega arith
     go false h m p q = omega arith
 
@@ -141,41 +137,41 @@ short-zone s =
 
 -- the words of a shape with one point
 pub one_side : (x : Option Datetime) → Plain x → (make : Datetime → DateValue) (shape marks : ℕ) {r : Words} {w : ℕ}
-    → ((d : Datetime) → value_or (some (make d)) marks ≡ words 0 0 (day_word d) (time_word d) 0 0 (shape + marks))
-    → w ≡ point_word x → (w ≡ nothing → r ≡ words_or none) → ((w ≡ nothing → ⊥) → r ≡ words 0 0 w 0 0 0 (shape + marks))
-    → r ≡ value_or (on_some x λ d. some (make d)) marks
+    → ((d : Datetime) → value_or (Some (make d)) marks ≡ words 0 0 (day_word d) (time_word d) 0 0 (shape + marks))
+    → w ≡ point_word x → (w ≡ nothing → r ≡ words_or None) → ((w ≡ nothing → ⊥) → r ≡ words 0 0 w 0 0 0 (shape + marks))
+    → r ≡ value_or (on_some x λ d. Some (make d)) marks
 unfolding on_some
-one_side none p make shape marks h e f g = f e
-one_side (some d) p make shape marks h e f g = g (λ n. absurd (omega (arith, e, n, p.1))) ∙ rw (e, h d, p.0)
+one_side None p make shape marks h e f g = f e
+one_side (Some d) p make shape marks h e f g = g (λ n. absurd (omega (arith, e, n, p.1))) ∙ rw (e, h d, p.0)
 
 -- those of a range with two
 pub two-sides : (x y : Option Datetime) → Plain x → Plain y → (marks : ℕ) {r : Words} {a b : ℕ} → a ≡ point_word x → b ≡ point_word y
-    → (a ≡ nothing → r ≡ words_or none) → (b ≡ nothing → r ≡ words_or none)
+    → (a ≡ nothing → r ≡ words_or None) → (b ≡ nothing → r ≡ words_or None)
     → ((a ≡ nothing → ⊥) → (b ≡ nothing → ⊥) → r ≡ words 0 0 a 0 b 0 (3 + marks))
-    → r ≡ value_or (on_some x λ p. on_some y λ q. some (Between p q)) marks
+    → r ≡ value_or (on_some x λ p. on_some y λ q. Some (Between p q)) marks
 unfolding on_some
-two-sides none y p q marks e f g h k = g e
-two-sides (some c) none p q marks e f g h k = h f
-two-sides (some c) (some d) p q marks e f g h k =
+two-sides None y p q marks e f g h k = g e
+two-sides (Some c) None p q marks e f g h k = h f
+two-sides (Some c) (Some d) p q marks e f g h k =
     k (λ n. absurd (omega (arith, e, n, p.1))) (λ n. absurd (omega (arith, f, n, q.1))) ∙ rw (e, f, p.0, q.0)
 
 -- those of a point with a time, by the words of its day, its clock and what stands behind it
 pub record Timed (d c z marks : ℕ) (v : Words) : Type 0 where
-  pub no_day : d ≡ nothing → words_or none ≡ v
-  pub no_clock : c ≡ nothing → words_or none ≡ v
-  pub no_zone : z ≡ nothing → words_or none ≡ v
+  pub no_day : d ≡ nothing → words_or None ≡ v
+  pub no_clock : c ≡ nothing → words_or None ≡ v
+  pub no_zone : z ≡ nothing → words_or None ≡ v
   pub said : (d ≡ nothing → ⊥) → (c ≡ nothing → ⊥) → (z ≡ nothing → ⊥) → words 0 0 d (c + z) 0 0 marks ≡ v
   pub room : (c ≡ nothing → ⊥) → (z ≡ nothing → ⊥) → c + z < 18446744073709551616
 
-module _ (y m n h i j marks : ℕ) (below : day_word (datetime (pos y) (month m) (day n) NoTime) < nothing) (clock-below : clock_word true h i j < 4294967296) where
-  timed-by : (k : Bool) (z : Option OptionOffset) (t : Bool) → Short z
-      → Timed (point_word (pick t (some (datetime (pos y) (month m) (day n) NoTime)) none)) (clock_word k h i j) (zone_word z) marks
+module _ (y m n h i j marks : ℕ) (below : day_word (datetime (pos y) (month m) (day n) None) < nothing) (clock-below : clock_word true h i j < 4294967296) where
+  timed-by : (k : Bool) (z : Option (Option TimeOffset)) (t : Bool) → Short z
+      → Timed (point_word (pick t (Some (datetime (pos y) (month m) (day n) None)) None)) (clock_word k h i j) (zone_word z) marks
       (value_or
-      (on_some (pick k (on_some z λ o. some (SomeTime (time h i j o))) none) λ u.
-      on_some (pick t (some (datetime (pos y) (month m) (day n) u)) none) λ d. some (At d))
+      (on_some (pick k (on_some z λ o. Some (Some (time h i j o))) None) λ u.
+      on_some (pick t (Some (datetime (pos y) (month m) (day n) u)) None) λ d. Some (At d))
       marks)
   unfolding on_some pick
-  timed-by true (some o) true l =
+  timed-by true (Some o) true l =
       record {
         no_day = λ e. absurd (omega (arith, e, below));
         no_clock = λ e. absurd (omega (arith, e, clock-below));
@@ -183,14 +179,14 @@ module _ (y m n h i j marks : ℕ) (below : day_word (datetime (pos y) (month m)
         said = λ a b c. refl;
         room = λ a b. omega (arith, clock-below, l);
       }
-  timed-by true (some o) false l =
+  timed-by true (Some o) false l =
       record { no_day = λ e. refl; no_clock = λ e. refl; no_zone = λ e. refl; said = λ a b c. absurd (a refl); room = λ a b. omega (arith, clock-below, l) }
-  timed-by true none t l =
+  timed-by true None t l =
       record { no_day = λ e. refl; no_clock = λ e. refl; no_zone = λ e. refl; said = λ a b c. absurd (c refl); room = λ a b. absurd (b refl) }
   timed-by false z t l =
       record { no_day = λ e. refl; no_clock = λ e. refl; no_zone = λ e. refl; said = λ a b c. absurd (b refl); room = λ a b. absurd (a refl) }
 
-pub timed-is : (s : List ℕ) (marks : ℕ) {d c z : ℕ} → d ≡ point_word (day_point s NoTime)
+pub timed-is : (s : List ℕ) (marks : ℕ) {d c z : ℕ} → d ≡ point_word (day_point s None)
     → c ≡ clock_word (is_clock s) (two_at s 11) (two_at s 14) (two_at s 17) → z ≡ zone_word (zone_of s) → Timed d c z marks (value_or (timed s) marks)
 unfolding timed time_of day_point
 timed-is s marks e f g =
@@ -244,13 +240,13 @@ without-last s e z = go (is_uncertain (last_byte s)) (is_approximate (last_byte 
     go false false h = absurd (h refl)
 
 -- a point or range with its marks is a Date
-marked-words : (x : Option DateValue) (u a : Bool) → value_or x (marks_of u a) ≡ words_or (on_some x λ v. some (Accepted (date v u a)))
+marked-words : (x : Option DateValue) (u a : Bool) → value_or x (marks_of u a) ≡ words_or (on_some x λ v. Some (Ok (date v u a)))
 unfolding on_some
-marked-words none u a = refl
-marked-words (some (At d)) u a = ap (words 0 0 (day_word d) (time_word d) 0 0) (omega arith)
-marked-words (some (After d)) u a = ap (words 0 0 (day_word d) (time_word d) 0 0) (omega arith)
-marked-words (some (Before d)) u a = ap (words 0 0 (day_word d) (time_word d) 0 0) (omega arith)
-marked-words (some (Between c d)) u a = ap (words 0 0 (day_word c) (time_word c) (day_word d) (time_word d)) (omega arith)
+marked-words None u a = refl
+marked-words (Some (At d)) u a = ap (words 0 0 (day_word d) (time_word d) 0 0) (omega arith)
+marked-words (Some (After d)) u a = ap (words 0 0 (day_word d) (time_word d) 0 0) (omega arith)
+marked-words (Some (Before d)) u a = ap (words 0 0 (day_word d) (time_word d) 0 0) (omega arith)
+marked-words (Some (Between c d)) u a = ap (words 0 0 (day_word c) (time_word c) (day_word d) (time_word d)) (omega arith)
 
 pub text_is : (s : List ℕ) {m : ℕ} {t : List ℕ} {r : Words} → m ≡ marks_of (is_uncertain (last_byte s)) (is_approximate (last_byte s)) → unmarked s ≡ t
     → r ≡ value_or (value_of t) m → r ≡ words_or (written s)
@@ -258,20 +254,20 @@ unfolding written
 text_is s e f g = g ∙ rw (← f, e, marked-words (value_of (unmarked s)) (is_uncertain (last_byte s)) (is_approximate (last_byte s)))
 
 -- what a reader answers, by its parts
-pub accepted-words : {r : ReadDate} (d : Date) {v : DateValue} {m : ℕ} {w : Words} → r ≡ Accepted d → d.value ≡ v
-    → m ≡ marks_of d.uncertain d.approximate → w ≡ value_or (some v) m → EachEnd DatetimeTyped v → (w ≡ words_of r) × Typed r
+pub accepted-words : {r : Result Date Refusal} (d : Date) {v : DateValue} {m : ℕ} {w : Words} → r ≡ Ok d → d.value ≡ v
+    → m ≡ marks_of d.uncertain d.approximate → w ≡ value_or (Some v) m → EachEnd DatetimeTyped v → (w ≡ words_of r) × Typed r
 unfolding on_some
 accepted-words d e f g h t =
-    rw e (h ∙ rw (g, ← f) (marked-words (some d.value) d.uncertain d.approximate), rw f t)
+    rw e (h ∙ rw (g, ← f) (marked-words (Some d.value) d.uncertain d.approximate), rw f t)
 
-pub refused-words : {r : ReadDate} (e : Refusal) {n : ℕ} → r ≡ Refused e → n ≡ four_bytes (number e.kind) 0 0 0 → e.place.0 < 18446744073709551616
+pub refused-words : {r : Result Date Refusal} (e : Refusal) {n : ℕ} → r ≡ Err e → n ≡ four_bytes (number e.kind) 0 0 0 → e.place.0 < 18446744073709551616
     → e.place.1 < 18446744073709551616 → (words e.place.0 e.place.1 0 0 0 0 (4294967296 * n) ≡ words_of r) × Typed r
 refused-words e f g h k = rw (f, g) (ap (words e.place.0 e.place.1 0 0 0 0) (omega arith), (h, k))
 
 -- what is said at once is told by the last word: whether there is anything, and whether it is a Date
-pub told : (x : Option ReadDate) → ((words_or x).last ≡ nothing → ⊥) → (r : ReadDate) × (x ≡ some r)
-told none h = absurd (h refl)
-told (some r) h = (r, refl)
+pub told : (x : Option (Result Date Refusal)) → ((words_or x).last ≡ nothing → ⊥) → (r : Result Date Refusal) × (x ≡ Some r)
+told None h = absurd (h refl)
+told (Some r) h = (r, refl)
 
 value-last : (v : DateValue) (u a : Bool) → (value_words v (flag u) (flag a)).last < 4294967296
 value-last v u a = go v (flag u) (flag a) (flag-most u) (flag-most a)
@@ -286,22 +282,22 @@ value-last v u a = go v (flag u) (flag a) (flag-most u) (flag-most a)
     go (Before d) u a p q = omega arith
     go (Between c d) u a p q = omega arith
 
-pub accepted-last : (d : Date) → (words_of (Accepted d)).last < 4294967296
+pub accepted-last : (d : Date) → (words_of (Ok d)).last < 4294967296
 accepted-last d = value-last d.value d.uncertain d.approximate
 
-pub refused-last : (e : Refusal) → 4294967296 ≤ (words_of (Refused e)).last
+pub refused-last : (e : Refusal) → 4294967296 ≤ (words_of (Err e)).last
 refused-last e = let n = (number_in e.kind).0 in omega arith
 
-pub last-accepted : (r : ReadDate) → (words_or (some r)).last < 4294967296 → (d : Date) × (r ≡ Accepted d)
-last-accepted (Accepted d) h = (d, refl)
-last-accepted (Refused e) h = absurd (omega (arith, h, refused-last e))
+pub last-accepted : (r : Result Date Refusal) → (words_or (Some r)).last < 4294967296 → (d : Date) × (r ≡ Ok d)
+last-accepted (Ok d) h = (d, refl)
+last-accepted (Err e) h = absurd (omega (arith, h, refused-last e))
 
-pub last-refused : (r : ReadDate) → 4294967296 ≤ (words_or (some r)).last → (e : Refusal) × (r ≡ Refused e)
-last-refused (Accepted d) h = absurd (omega (arith, h, accepted-last d))
-last-refused (Refused e) h = (e, refl)
+pub last-refused : (r : Result Date Refusal) → 4294967296 ≤ (words_or (Some r)).last → (e : Refusal) × (r ≡ Err e)
+last-refused (Ok d) h = absurd (omega (arith, h, accepted-last d))
+last-refused (Err e) h = (e, refl)
 
 -- the last word of what is said is never the one that says nothing
-pub untold : (x : Option ReadDate) → (words_or x).last ≡ nothing → x ≡ none
-untold none e = refl
-untold (some (Accepted d)) e = absurd (omega (arith, e, accepted-last d))
-untold (some (Refused q)) e = let n = (number_in q.kind).1 in absurd (omega (arith, e))
+pub untold : (x : Option (Result Date Refusal)) → (words_or x).last ≡ nothing → x ≡ None
+untold None e = refl
+untold (Some (Ok d)) e = absurd (omega (arith, e, accepted-last d))
+untold (Some (Err q)) e = let n = (number_in q.kind).1 in absurd (omega (arith, e))

@@ -3,7 +3,6 @@
 use mathlib.Core.Path.{◌≡◌, refl, subst}
 use mathlib.Core.Bool.{true, ◌&&◌, ◌||◌}
 use mathlib.Core.List.{List}
-use mathlib.Core.Option.{Option, none, some}
 use Prim.Native.Nat.{ℕ, ◌+◌, ◌-◌, ◌≤◌, ◌<◌}
 use native.Mathlib.Omega.{arith}
 use lib.Dec.{eqb, ltb, leb}
@@ -16,8 +15,9 @@ use Rattle.dates.specs.declared.Datetime.{Datetime}
 use Rattle.dates.specs.Calendar.{month_length}
 use Rattle.refusals.specs.declared.Kind.{Kind}
 use Rattle.refusals.specs.declared.Kind.TheVariants.{InvalidFormat, MonthOutOfRange, DayOutOfRange}
-use Rattle.refusals.specs.declared.ReadDate.{ReadDate}
-use Rattle.refusals.specs.declared.ReadDate.TheVariants.{Accepted, Refused}
+use Rattle.dates.specs.declared.Date.{Date}
+use Rattle.refusals.specs.declared.Refusal.{Refusal}
+use Rattle.std.specs.Prelude.{Result, Ok, Err, Option, None, Some}
 use Rattle.refusals.specs.Refusal.{has_place, refusal}
 use Rattle.refusals.proofs.Sums.{sum_fits}
 use Rattle.codes.specs.Words.{words_of}
@@ -27,26 +27,26 @@ use Rattle.codes.specs.Ported.{refused_at, are_word_bytes, no_year, short_year, 
 use Rattle.codes.proofs.Laws.{accepted-last, refused-last}
 
 -- what can be moved: a Date, or a refusal that names a place which becomes not too large
-abbrev pub Movable : ReadDate → Type 0
-Movable (Accepted d) = Unit {0}
-Movable (Refused e) = (has_place e.kind ≡ true) × ((e.place.0 < 0x8000000000000000) × (e.place.1 < 0x8000000000000000))
+abbrev pub Movable : Result Date Refusal → Type 0
+Movable (Ok d) = Unit {0}
+Movable (Err e) = (has_place e.kind ≡ true) × ((e.place.0 < 0x8000000000000000) × (e.place.1 < 0x8000000000000000))
 
 -- a Date stays, and the place of a refusal moves
-pub moved-is : (start : ℕ) → start < 0x8000000000000000 → (x : ReadDate) → Movable x → moved_words start (words_of x) ≡ words_of (moved_by start x)
+pub moved-is : (start : ℕ) → start < 0x8000000000000000 → (x : Result Date Refusal) → Movable x → moved_words start (words_of x) ≡ words_of (moved_by start x)
 unfolding moved_words moved_by refusal pick
-moved-is start l (Accepted d) m = rw (lt-ltb (words_of (Accepted d)).last 4294967296 (accepted-last d))
-moved-is start l (Refused r) (m, (p, q)) =
+moved-is start l (Ok d) m = rw (lt-ltb (words_of (Ok d)).last 4294967296 (accepted-last d))
+moved-is start l (Err r) (m, (p, q)) =
     rw (
-      le-ltb (words_of (Refused r)).last 4294967296 (refused-last r),
+      le-ltb (words_of (Err r)).last 4294967296 (refused-last r),
       sum_fits r.place.0 start (omega arith),
       sum_fits r.place.1 start (omega arith),
       m,
     )
 
 -- what is said at once can be moved
-abbrev Can : Option ReadDate → Type 0
-Can none = Unit {0}
-Can (some r) = Movable r
+abbrev Can : Option (Result Date Refusal) → Type 0
+Can None = Unit {0}
+Can (Some r) = Movable r
 
 near : (k : Kind) (a b : ℕ) → has_place k ≡ true → a < 0x8000000000000000 → b < 0x8000000000000000 → Movable (refused_at k a b)
 unfolding refusal pick
@@ -76,8 +76,8 @@ unfolding bad_range on_some
 can-range s k h = by-test Can (is_slash s k && eqb (length s) (k + 11)) (λ _. go (point_of (take k s))) (λ _. tt)
   where
     go : (x : Option Datetime) → Can (on_some x λ d. bad_day (k + 1) (drop (k + 1) s))
-    go none = tt
-    go (some d) = can-day (k + 1) (omega arith) (drop (k + 1) s)
+    go None = tt
+    go (Some d) = can-day (k + 1) (omega arith) (drop (k + 1) s)
 
 can : (s : List ℕ) → Can (ported s)
 unfolding ported no_year short_year years_of months_of day_or_days days_of
@@ -101,5 +101,5 @@ can s =
     (λ _. can-day 0 (omega arith) s))
     (λ _. can-range s (slash_of s) (slash-most s)))))))
 
-pub ported-movable : (s : List ℕ) {r : ReadDate} → ported s ≡ some r → Movable r
+pub ported-movable : (s : List ℕ) {r : Result Date Refusal} → ported s ≡ Some r → Movable r
 ported-movable s e = subst Can e (can s)

@@ -3,20 +3,17 @@
 use mathlib.Core.Path.{◌≡◌, refl}
 use mathlib.Core.Bool.{true, false}
 use mathlib.Core.List.{List, [], ◌∷◌, map}
-use mathlib.Core.Option.{Option, none, some}
 use Prim.Native.Nat.{ℕ}
 use Prim.Native.String.{String}
 use lib.IntN.{pos}
 use Rattle.chars.specs.Pick.{pick}
 use Rattle.chars.specs.Ascii.{ascii}
 use Rattle.chars.specs.Classes.{within, is_ascii_digit}
-use Rattle.dates.specs.declared.OptionMonth.TheVariants.{NoMonth}
-use Rattle.dates.specs.declared.OptionDay.TheVariants.{NoDay}
-use Rattle.dates.specs.declared.OptionTime.TheVariants.{NoTime}
+use Rattle.dates.specs.declared.Date.{Date}
+use Rattle.refusals.specs.declared.Refusal.{Refusal}
+use Rattle.std.specs.Prelude.{None, Result, Ok, Option, Some}
 use Rattle.dates.specs.declared.DateValue.TheVariants.{At}
 use Rattle.dates.specs.Value.{datetime, month, date}
-use Rattle.refusals.specs.declared.ReadDate.{ReadDate}
-use Rattle.refusals.specs.declared.ReadDate.TheVariants.{Accepted}
 use Rattle.datefield.specs.Text.{last_byte, is_uncertain, is_approximate, unmarked}
 use Rattle.codes.specs.Points.{two_of, four_of, year_of, counted_from, part_at, year_point, month_point, on_some, point_of}
 use Rattle.codes.specs.Texts.{is_slash, slash_of, value_of, written, are_spaces, unspaced}
@@ -47,15 +44,15 @@ text-examples = refl
 pub record ListExample : Type 0 where
   pub bytes : String
   pub table : List ℕ
-  pub says : Option ReadDate
+  pub says : Option (Result Date Refusal)
 
 abbrev pub lists : List ListExample
 lists =
-    record { bytes = "2000  "; table = 0 ∷ 6 ∷ 7 ∷ 13 ∷ []; says = some (Accepted (date (At (datetime (pos 2000) NoMonth NoDay NoTime)) false false)) }
-    ∷ record { bytes = "2000-07? "; table = 0 ∷ 9 ∷ 0 ∷ 9 ∷ []; says = some (Accepted (date (At (datetime (pos 2000) (month 6) NoDay NoTime)) true false)) }
-    ∷ record { bytes = "2000 ?"; table = 0 ∷ 6 ∷ 0 ∷ 6 ∷ []; says = none }
-    ∷ record { bytes = "2000 "; table = 1 ∷ 5 ∷ 0 ∷ 5 ∷ []; says = none }
-    ∷ record { bytes = " "; table = 0 ∷ 1 ∷ 0 ∷ 1 ∷ []; says = none }
+    record { bytes = "2000  "; table = 0 ∷ 6 ∷ 7 ∷ 13 ∷ []; says = Some (Ok (date (At (datetime (pos 2000) None None None)) false false)) }
+    ∷ record { bytes = "2000-07? "; table = 0 ∷ 9 ∷ 0 ∷ 9 ∷ []; says = Some (Ok (date (At (datetime (pos 2000) (month 6) None None)) true false)) }
+    ∷ record { bytes = "2000 ?"; table = 0 ∷ 6 ∷ 0 ∷ 6 ∷ []; says = None }
+    ∷ record { bytes = "2000 "; table = 1 ∷ 5 ∷ 0 ∷ 5 ∷ []; says = None }
+    ∷ record { bytes = " "; table = 0 ∷ 1 ∷ 0 ∷ 1 ∷ []; says = None }
     ∷ []
 
 pub list-examples : map (λ (e : ListExample). list_spaced (ascii e.bytes) e.table) lists ≡ map (λ (e : ListExample). e.says) lists

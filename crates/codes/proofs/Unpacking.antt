@@ -11,17 +11,14 @@ use mir.Val.{SFits, to_z, of_z}
 use mir.ValLaws.{to_z_pos, to_z-of_z}
 use borrow.Author.Tests.{lt-ltb, le-ltb, ne_eqb}
 use Rattle.chars.specs.Pick.{pick}
-use Rattle.dates.specs.declared.OptionMonth.{OptionMonth}
-use Rattle.dates.specs.declared.OptionMonth.TheVariants.{NoMonth, SomeMonth}
-use Rattle.dates.specs.declared.OptionDay.{OptionDay}
-use Rattle.dates.specs.declared.OptionDay.TheVariants.{NoDay, SomeDay}
+use Rattle.dates.specs.declared.Day.{Day}
+use Rattle.dates.specs.declared.Month.{Month}
+use Rattle.dates.specs.declared.Season.{Season}
+use Rattle.dates.specs.declared.Season.TheVariants.{Autumn, Spring, Summer, Winter}
+use Rattle.dates.specs.declared.Time.{Time}
+use Rattle.dates.specs.declared.TimeOffset.{TimeOffset}
+use Rattle.std.specs.Prelude.{Option, Some, None, Result, Ok, Err}
 use Rattle.dates.specs.declared.TimeOffset.TheVariants.{Utc, Offset}
-use Rattle.dates.specs.declared.OptionOffset.{OptionOffset}
-use Rattle.dates.specs.declared.OptionOffset.TheVariants.{NoOffset, SomeOffset}
-use Rattle.dates.specs.declared.OptionTime.{OptionTime}
-use Rattle.dates.specs.declared.OptionTime.TheVariants.{NoTime, SomeTime}
-use Rattle.dates.specs.declared.OptionSeason.{OptionSeason}
-use Rattle.dates.specs.declared.OptionSeason.TheVariants.{NoSeason, Spring, Summer, Autumn, Winter}
 use Rattle.dates.specs.declared.Datetime.{Datetime}
 use Rattle.dates.specs.declared.DateValue.{DateValue}
 use Rattle.dates.specs.declared.DateValue.TheVariants.{At, After, Before, Between}
@@ -30,8 +27,6 @@ use Rattle.dates.specs.Ends.{EachEnd}
 use Rattle.dates.specs.Time.{time}
 use Rattle.dates.specs.Value.{season_number}
 use Rattle.refusals.specs.declared.Refusal.{Refusal}
-use Rattle.refusals.specs.declared.ReadDate.{ReadDate}
-use Rattle.refusals.specs.declared.ReadDate.TheVariants.{Accepted, Refused}
 use Rattle.refusals.specs.Refusal.{number}
 use Rattle.refusals.proofs.Told.{named, number_in}
 use Rattle.codes.specs.Words.{twos, flag, has_month, month_number, has_day, day_number, has_time, clock_of, offset_sort, shift_of, hours_of, minutes_of, day_word_of, time_word_of, last_word, day_word, time_word, value_words, words_of}
@@ -86,60 +81,60 @@ module _ (n : ℕ) (low : 2147483648 ≤ n) (high : n < 4294967296) where
   from-high = (made ∙ sym high_is, subst (λ (z : ℤ). mag z < 2147483648) (sym made) (omega arith))
 
 -- the numbers that are none of a type are small
-pub month-flag : (m : OptionMonth) → has_month m < 2
-month-flag NoMonth = omega arith
-month-flag (SomeMonth m) = omega arith
+pub month-flag : (m : Option Month) → has_month m < 2
+month-flag None = omega arith
+month-flag (Some m) = omega arith
 
-pub day-flag : (d : OptionDay) → has_day d < 2
-day-flag NoDay = omega arith
-day-flag (SomeDay d) = omega arith
+pub day-flag : (d : Option Day) → has_day d < 2
+day-flag None = omega arith
+day-flag (Some d) = omega arith
 
-pub time-flag : (t : OptionTime) → has_time t < 2
-time-flag NoTime = omega arith
-time-flag (SomeTime t) = omega arith
+pub time-flag : (t : Option Time) → has_time t < 2
+time-flag None = omega arith
+time-flag (Some t) = omega arith
 
-pub sort-in : (o : OptionOffset) → offset_sort o < 4
-sort-in NoOffset = omega arith
-sort-in (SomeOffset Utc) = omega arith
-sort-in (SomeOffset (Offset true h m)) = omega arith
-sort-in (SomeOffset (Offset false h m)) = omega arith
+pub sort-in : (o : Option TimeOffset) → offset_sort o < 4
+sort-in None = omega arith
+sort-in (Some Utc) = omega arith
+sort-in (Some (Offset true h m)) = omega arith
+sort-in (Some (Offset false h m)) = omega arith
 
-pub season-in : (s : OptionSeason) → season_number s < 25
-season-in NoSeason = omega arith
-season-in Spring = omega arith
-season-in Summer = omega arith
-season-in Autumn = omega arith
-season-in Winter = omega arith
+pub season-in : (s : Option Season) → season_number s < 25
+season-in None = omega arith
+season-in (Some Spring) = omega arith
+season-in (Some Summer) = omega arith
+season-in (Some Autumn) = omega arith
+season-in (Some Winter) = omega arith
 
 pub flag-in : (b : Bool) → flag b < 2
 flag-in true = omega arith
 flag-in false = omega arith
 
 -- each part by its numbers
-pub month-back : (m : OptionMonth) → month_of (has_month m) (month_number m) ≡ m
+pub month-back : (m : Option Month) → month_of (has_month m) (month_number m) ≡ m
 unfolding month_of pick
-month-back NoMonth = refl
-month-back (SomeMonth m) = refl
+month-back None = refl
+month-back (Some m) = refl
 
-pub day-back : (d : OptionDay) → day_of (has_day d) (day_number d) ≡ d
+pub day-back : (d : Option Day) → day_of (has_day d) (day_number d) ≡ d
 unfolding day_of pick
-day-back NoDay = refl
-day-back (SomeDay d) = refl
+day-back None = refl
+day-back (Some d) = refl
 
-pub offset-back : (o : OptionOffset) → offset_of (offset_sort o) (hours_of (shift_of o)) (minutes_of (shift_of o)) ≡ o
+pub offset-back : (o : Option TimeOffset) → offset_of (offset_sort o) (hours_of (shift_of o)) (minutes_of (shift_of o)) ≡ o
 unfolding offset_of pick
-offset-back NoOffset = refl
-offset-back (SomeOffset Utc) = refl
-offset-back (SomeOffset (Offset true h m)) = refl
-offset-back (SomeOffset (Offset false h m)) = refl
+offset-back None = refl
+offset-back (Some Utc) = refl
+offset-back (Some (Offset true h m)) = refl
+offset-back (Some (Offset false h m)) = refl
 
-pub season-back : (s : OptionSeason) → season_of (season_number s) ≡ s
+pub season-back : (s : Option Season) → season_of (season_number s) ≡ s
 unfolding season_of pick
-season-back NoSeason = refl
-season-back Spring = refl
-season-back Summer = refl
-season-back Autumn = refl
-season-back Winter = refl
+season-back None = refl
+season-back (Some Spring) = refl
+season-back (Some Summer) = refl
+season-back (Some Autumn) = refl
+season-back (Some Winter) = refl
 
 pub flag-back : (b : Bool) → is_set (flag b) ≡ b
 flag-back true = refl
@@ -189,19 +184,19 @@ module _ (a b c d e f g h : ℕ) (ha : a < 256) (hb : b < 256) (hc : c < 256) (h
   eighth-byte = omega arith
 
   -- the time that they say
-  time_in_lem : time_in (time_word_of a b c d e f g h) ≡ pick (eqb a 0) NoTime (SomeTime (time b c d (offset_of e f g)))
+  time_in_lem : time_in (time_word_of a b c d e f g h) ≡ pick (eqb a 0) None (Some (time b c d (offset_of e f g)))
   unfolding time_in
   time_in_lem = rw (first_byte, second-byte, third-byte, fourth-byte, fifth-byte, sixth-byte, seventh-byte)
 
-picked-time : (t : OptionTime)
-    → pick (eqb (has_time t) 0) NoTime
-    (SomeTime
+picked-time : (t : Option Time)
+    → pick (eqb (has_time t) 0) None
+    (Some
     (time (clock_of t).hour (clock_of t).minute (clock_of t).second
     (offset_of (offset_sort (clock_of t).offset) (hours_of (shift_of (clock_of t).offset)) (minutes_of (shift_of (clock_of t).offset)))))
     ≡ t
 unfolding pick
-picked-time NoTime = refl
-picked-time (SomeTime t) = ap (λ (o : OptionOffset). SomeTime (time t.hour t.minute t.second o)) (offset-back t.offset)
+picked-time None = refl
+picked-time (Some t) = ap (λ (o : Option TimeOffset). Some (time t.hour t.minute t.second o)) (offset-back t.offset)
 
 module _ (d : Datetime) (h : DatetimeTyped d) where
   month-said : month_of (has_month_in (day_word d)) (month_in (day_word d)) ≡ d.month
@@ -295,7 +290,7 @@ module _ (u p : ℕ) (hu : u < 256) (hp : p < 256) where
   last_of (Before d) = (2, (omega arith, refl))
   last_of (Between a b) = (3, (omega arith, refl))
 
-date-said : (d : Date) → EachEnd DatetimeTyped d.value → date_in (words_of (Accepted d)) ≡ d
+date-said : (d : Date) → EachEnd DatetimeTyped d.value → date_in (words_of (Ok d)) ≡ d
 unfolding date_in
 date-said d h =
     let u = flag d.uncertain in
@@ -308,7 +303,7 @@ date-said d h =
     λ i. record { value = value-said u p hu hp d.value h i; uncertain = e i; approximate = f i }
 
 -- the number of a refusal in the last word; 0 is none
-accepted-last : (d : Date) → (words_of (Accepted d)).last / 4294967296 % 256 ≡ 0
+accepted-last : (d : Date) → (words_of (Ok d)).last / 4294967296 % 256 ≡ 0
 accepted-last d =
     let u = flag d.uncertain in
     let p = flag d.approximate in
@@ -317,12 +312,12 @@ accepted-last d =
     let l = last_of u p hu hp d.value in
     ap (λ (n : ℕ). n / 4294967296 % 256) l.1.1 ∙ refusal-part l.0 u p 0 l.1.0 hu hp (omega arith)
 
-refused-last : (e : Refusal) → (words_of (Refused e)).last / 4294967296 % 256 ≡ number e.kind
+refused-last : (e : Refusal) → (words_of (Err e)).last / 4294967296 % 256 ≡ number e.kind
 refused-last e = refusal-part 0 0 0 (number e.kind) (omega arith) (omega arith) (omega arith) (number_in e.kind).1
 
 -- what a reader answers is read back from its words
-pub read_back : (x : ReadDate) → Typed x → read_in (words_of x) ≡ x
+pub read_back : (x : Result Date Refusal) → Typed x → read_in (words_of x) ≡ x
 unfolding read_in pick
-read_back (Accepted d) t = rw (accepted-last d) (ap Accepted (date-said d t))
-read_back (Refused e) t =
+read_back (Ok d) t = rw (accepted-last d) (ap Ok (date-said d t))
+read_back (Err e) t =
     rw (refused-last e, ne_eqb (number e.kind) 0 (λ z. let p = (number_in e.kind).0 in omega arith), named e.kind)

@@ -1,12 +1,10 @@
 -- Usual fields: a year of one to four digits, or of two to four with BC behind it; a month of one or two digits, or its name; a day of one or two digits.
 use Prim.Native.Char.{code}
-use Rattle.std.specs.Prelude.{ℕ, ◌+◌, ◌-◌, ◌*◌, Bool, true, ◌&&◌, ◌||◌, List, [], ◌∷◌, eqb, ltb, leb, ℤ, pos, length, get_or, take}
-use Rattle.std.proofs.Math.Option.{Option, none, some}
+use Rattle.std.specs.Prelude.{ℕ, ◌+◌, ◌-◌, ◌*◌, Bool, true, ◌&&◌, ◌||◌, List, [], ◌∷◌, eqb, ltb, leb, ℤ, pos, length, get_or, take, Some, None, Option}
 use Rattle.chars.specs.Pick.{pick}
 use Rattle.chars.specs.Classes.{is_ascii_digit}
-use Rattle.dates.specs.declared.OptionMonth.{OptionMonth}
-use Rattle.dates.specs.declared.OptionMonth.TheVariants.{NoMonth, SomeMonth}
-use Rattle.dates.specs.declared.OptionDay.{OptionDay}
+use Rattle.dates.specs.declared.Day.{Day}
+use Rattle.dates.specs.declared.Month.{Month}
 use Rattle.dates.specs.Value.{month, day}
 use Rattle.fields.specs.Names.{month_for}
 use Rattle.fields.specs.Year.{before_christ}
@@ -28,13 +26,13 @@ ends_with_era s =
 
 -- a year before Christ; there is no year 0
 unfoldable pub era_year : ℕ → Option ℤ
-era_year n = pick (ltb 0 n && ltb n 10000) (some (before_christ n)) none
+era_year n = pick (ltb 0 n && ltb n 10000) (Some (before_christ n)) None
 
 -- the year of a year field
 unfoldable pub year_part : List ℕ → Option ℤ
 year_part s =
-    pick (ltb (length s) 5) (pick (ltb (number_of s) 10000) (some (pos (number_of s))) none)
-    (pick (ltb (length s) 8 && ends_with_era s) (era_year (number_of (take (length s - 3) s))) none)
+    pick (ltb (length s) 5) (pick (ltb (number_of s) 10000) (Some (pos (number_of s))) None)
+    (pick (ltb (length s) 8 && ends_with_era s) (era_year (number_of (take (length s - 3) s))) None)
 
 -- one or two digits as a number; 100 for other texts
 unfoldable pub small_of : List ℕ → ℕ
@@ -50,18 +48,18 @@ are_letters [] = true
 are_letters (b ∷ t) = is_letter b && are_letters t
 
 -- a month that was found
-unfoldable pub some_month : OptionMonth → Option OptionMonth
-some_month NoMonth = none
-some_month (SomeMonth m) = some (SomeMonth m)
+unfoldable pub some_month : Option Month → Option (Option Month)
+some_month None = None
+some_month (Some m) = Some (Some m)
 
 -- the month of a name
-unfoldable pub named_month : List ℕ → Option OptionMonth
-named_month s = pick (ltb (length s) 10 && are_letters s) (some_month (month_for s)) none
+unfoldable pub named_month : List ℕ → Option (Option Month)
+named_month s = pick (ltb (length s) 10 && are_letters s) (some_month (month_for s)) None
 
 -- the month of a month field: a number of up to two digits, which no upper bound is put on, or a name
-unfoldable pub month_part : List ℕ → Option OptionMonth
-month_part s = pick (ltb (small_of s) 100) (pick (eqb (small_of s) 0) none (some (month (small_of s - 1)))) (named_month s)
+unfoldable pub month_part : List ℕ → Option (Option Month)
+month_part s = pick (ltb (small_of s) 100) (pick (eqb (small_of s) 0) None (Some (month (small_of s - 1)))) (named_month s)
 
 -- the day of a day field
-unfoldable pub day_part : List ℕ → Option OptionDay
-day_part s = pick (ltb 0 (small_of s) && ltb (small_of s) 32) (some (day (small_of s - 1))) none
+unfoldable pub day_part : List ℕ → Option (Option Day)
+day_part s = pick (ltb 0 (small_of s) && ltb (small_of s) 32) (Some (day (small_of s - 1))) None

@@ -1,16 +1,11 @@
 -- Usual points: dddd, dddd-mm and dddd-mm-dd without a sign, the last with a time or without, in the form that Dates are written in.
 use Prim.Native.Char.{code}
-use Rattle.std.specs.Prelude.{ℕ, ◌+◌, ◌-◌, ◌*◌, Bool, true, false, ◌&&◌, List, eqb, ltb, pos, length, get_or}
-use Rattle.std.proofs.Math.Option.{Option, none, some}
+use Rattle.std.specs.Prelude.{ℕ, ◌+◌, ◌-◌, ◌*◌, Bool, true, false, ◌&&◌, List, eqb, ltb, pos, length, get_or, Some, None, Option}
 use Rattle.chars.specs.Pick.{pick}
 use Rattle.chars.specs.Classes.{is_ascii_digit}
-use Rattle.dates.specs.declared.OptionMonth.TheVariants.{NoMonth}
-use Rattle.dates.specs.declared.OptionDay.TheVariants.{NoDay}
-use Rattle.dates.specs.declared.OptionTime.{OptionTime}
-use Rattle.dates.specs.declared.OptionTime.TheVariants.{NoTime, SomeTime}
+use Rattle.dates.specs.declared.Time.{Time}
+use Rattle.dates.specs.declared.TimeOffset.{TimeOffset}
 use Rattle.dates.specs.declared.TimeOffset.TheVariants.{Utc, Offset}
-use Rattle.dates.specs.declared.OptionOffset.{OptionOffset}
-use Rattle.dates.specs.declared.OptionOffset.TheVariants.{NoOffset, SomeOffset}
 use Rattle.dates.specs.declared.Datetime.{Datetime}
 use Rattle.dates.specs.Calendar.{month_length}
 use Rattle.dates.specs.Time.{time}
@@ -42,19 +37,19 @@ part_at s at = pick (eqb (get_or s at 0) (code "-")) (counted_from (two_of (get_
 
 -- dddd
 unfoldable pub year_point : List ℕ → Option Datetime
-year_point s = pick (ltb (year_of s) 10000) (some (datetime (pos (year_of s)) NoMonth NoDay NoTime)) none
+year_point s = pick (ltb (year_of s) 10000) (Some (datetime (pos (year_of s)) None None None)) None
 
 -- dddd-mm
 unfoldable pub month_point : List ℕ → Option Datetime
 month_point s =
-    pick (ltb (year_of s) 10000 && ltb (part_at s 4) 12) (some (datetime (pos (year_of s)) (month (part_at s 4)) NoDay NoTime)) none
+    pick (ltb (year_of s) 10000 && ltb (part_at s 4) 12) (Some (datetime (pos (year_of s)) (month (part_at s 4)) None None)) None
 
 -- dddd-mm-dd at the front, with a time that stands behind it or with none
-unfoldable pub day_point : List ℕ → OptionTime → Option Datetime
+unfoldable pub day_point : List ℕ → Option Time → Option Datetime
 day_point s t =
     pick (ltb (year_of s) 10000 && (ltb (part_at s 4) 12 && ltb (part_at s 7) (month_length (part_at s 4) (pos (year_of s)))))
-    (some (datetime (pos (year_of s)) (month (part_at s 4)) (day (part_at s 7)) t))
-    none
+    (Some (datetime (pos (year_of s)) (month (part_at s 4)) (day (part_at s 7)) t))
+    None
 
 -- whether Thh:mm:ss stands behind the day
 unfoldable pub is_clock : List ℕ → Bool
@@ -68,30 +63,30 @@ unfoldable pub is_shift : List ℕ → Bool
 is_shift s = ltb (two_at s 20) 24 && (eqb (get_or s 22 0) (code ":") && ltb (two_at s 23) 60)
 
 -- an offset of a sign
-unfoldable pub shift_by : Bool → List ℕ → Option OptionOffset
-shift_by positive s = pick (is_shift s) (some (SomeOffset (Offset positive (two_at s 20) (two_at s 23)))) none
+unfoldable pub shift_by : Bool → List ℕ → Option (Option TimeOffset)
+shift_by positive s = pick (is_shift s) (Some (Some (Offset positive (two_at s 20) (two_at s 23)))) None
 
 -- what stands behind the seconds: nothing, Z, or a sign and hh:mm
-unfoldable pub zone_of : List ℕ → Option OptionOffset
+unfoldable pub zone_of : List ℕ → Option (Option TimeOffset)
 zone_of s =
-    pick (eqb (length s) 19) (some NoOffset)
-    (pick (eqb (length s) 20) (pick (eqb (get_or s 19 0) (code "Z")) (some (SomeOffset Utc)) none)
+    pick (eqb (length s) 19) (Some None)
+    (pick (eqb (length s) 20) (pick (eqb (get_or s 19 0) (code "Z")) (Some (Some Utc)) None)
     (pick (eqb (length s) 25)
-    (pick (eqb (get_or s 19 0) (code "+")) (shift_by true s) (pick (eqb (get_or s 19 0) (code "-")) (shift_by false s) none))
-    none))
+    (pick (eqb (get_or s 19 0) (code "+")) (shift_by true s) (pick (eqb (get_or s 19 0) (code "-")) (shift_by false s) None))
+    None))
 
 -- a value goes on, if there is one
 unfoldable pub on_some : {A B : Type 0} → Option A → (A → Option B) → Option B
-on_some none go = none
-on_some (some a) go = go a
+on_some None go = None
+on_some (Some a) go = go a
 
 -- the time of a day
-unfoldable pub time_of : List ℕ → Option OptionTime
-time_of s = pick (is_clock s) (on_some (zone_of s) λ o. some (SomeTime (time (two_at s 11) (two_at s 14) (two_at s 17) o))) none
+unfoldable pub time_of : List ℕ → Option (Option Time)
+time_of s = pick (is_clock s) (on_some (zone_of s) λ o. Some (Some (time (two_at s 11) (two_at s 14) (two_at s 17) o))) None
 
 -- a point without a time: its length says which of the three it can be
 unfoldable pub point_of : List ℕ → Option Datetime
 point_of s =
     pick (eqb (length s) 4) (year_point s)
     (pick (eqb (length s) 7) (month_point s)
-    (pick (eqb (length s) 10) (day_point s NoTime) none))
+    (pick (eqb (length s) 10) (day_point s None) None))

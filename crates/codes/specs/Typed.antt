@@ -1,11 +1,11 @@
 -- The numbers of what a reader answers are of their types: in Rattle, and so in the words.
-use Rattle.std.specs.Prelude.{ℕ, ◌<◌, List, [], ◌∷◌}
+use Rattle.std.specs.Prelude.{ℕ, ◌<◌, List, [], ◌∷◌, Result, Ok, Err}
 use Rattle.std.specs.Int.Signed.{mag}
 use Rattle.dates.specs.declared.Time.{Time}
 use Rattle.dates.specs.declared.Datetime.{Datetime}
 use Rattle.dates.specs.Ends.{EachEnd}
-use Rattle.refusals.specs.declared.ReadDate.{ReadDate}
-use Rattle.refusals.specs.declared.ReadDate.TheVariants.{Accepted, Refused}
+use Rattle.dates.specs.declared.Date.{Date}
+use Rattle.refusals.specs.declared.Refusal.{Refusal}
 use Rattle.codes.specs.Words.{month_number, day_number, clock_of, shift_of, hours_of, minutes_of}
 
 -- numbers that are bytes
@@ -29,6 +29,6 @@ pub record DatetimeTyped (d : Datetime) : Type 0 where
   pub bytes_typed : Bytes (stored d)
 
 -- what a reader answers: those of each end, or a place of two u64
-abbrev pub Typed : ReadDate → Type 0
-Typed (Accepted d) = EachEnd DatetimeTyped d.value
-Typed (Refused e) = (e.place.0 < 18446744073709551616) × (e.place.1 < 18446744073709551616)
+abbrev pub Typed : Result Date Refusal → Type 0
+Typed (Ok d) = EachEnd DatetimeTyped d.value
+Typed (Err e) = (e.place.0 < 18446744073709551616) × (e.place.1 < 18446744073709551616)

@@ -1,25 +1,20 @@
 -- What words say, read back part by part: the way back from `words_of`.
-use Rattle.std.specs.Prelude.{ℕ, ◌-◌, ◌/◌, ◌%◌, eqb, ltb, ℤ, pos, negsuc}
+use Rattle.std.specs.Prelude.{ℕ, ◌-◌, ◌/◌, ◌%◌, eqb, ltb, ℤ, pos, negsuc, Option, Some, None, Result, Ok, Err}
 use Rattle.chars.specs.Pick.{pick}
-use Rattle.dates.specs.declared.OptionMonth.{OptionMonth}
-use Rattle.dates.specs.declared.OptionMonth.TheVariants.{NoMonth}
-use Rattle.dates.specs.declared.OptionDay.{OptionDay}
-use Rattle.dates.specs.declared.OptionDay.TheVariants.{NoDay}
+use Rattle.dates.specs.declared.Day.{Day}
+use Rattle.dates.specs.declared.Month.{Month}
+use Rattle.dates.specs.declared.Season.{Season}
+use Rattle.dates.specs.declared.Season.TheVariants.{Autumn, Spring, Summer, Winter}
+use Rattle.dates.specs.declared.Time.{Time}
+use Rattle.dates.specs.declared.TimeOffset.{TimeOffset}
+use Rattle.refusals.specs.declared.Refusal.{Refusal}
 use Rattle.dates.specs.declared.TimeOffset.TheVariants.{Utc, Offset}
-use Rattle.dates.specs.declared.OptionOffset.{OptionOffset}
-use Rattle.dates.specs.declared.OptionOffset.TheVariants.{NoOffset, SomeOffset}
-use Rattle.dates.specs.declared.OptionTime.{OptionTime}
-use Rattle.dates.specs.declared.OptionTime.TheVariants.{NoTime, SomeTime}
-use Rattle.dates.specs.declared.OptionSeason.{OptionSeason}
-use Rattle.dates.specs.declared.OptionSeason.TheVariants.{NoSeason, Spring, Summer, Autumn, Winter}
 use Rattle.dates.specs.declared.Datetime.{Datetime}
 use Rattle.dates.specs.declared.DateValue.{DateValue}
 use Rattle.dates.specs.declared.DateValue.TheVariants.{At, After, Before, Between}
 use Rattle.dates.specs.declared.Date.{Date}
 use Rattle.dates.specs.Time.{time}
 use Rattle.dates.specs.Value.{month, day, date}
-use Rattle.refusals.specs.declared.ReadDate.{ReadDate}
-use Rattle.refusals.specs.declared.ReadDate.TheVariants.{Accepted, Refused}
 use Rattle.refusals.specs.Refusal.{kind_of, file_span}
 use Rattle.codes.specs.declared.Words.{Words}
 use Rattle.codes.specs.Back.{year_in, has_month_in, month_in, has_day_in, day_in, is_set}
@@ -29,29 +24,29 @@ unfoldable pub from_twos : ℕ → ℤ
 from_twos n = pick (ltb n 2147483648) (pos n) (negsuc (4294967295 - n))
 
 -- the month, if there is one
-unfoldable pub month_of : ℕ → ℕ → OptionMonth
-month_of has n = pick (eqb has 0) NoMonth (month n)
+unfoldable pub month_of : ℕ → ℕ → Option Month
+month_of has n = pick (eqb has 0) None (month n)
 
 -- the day, if there is one
-unfoldable pub day_of : ℕ → ℕ → OptionDay
-day_of has n = pick (eqb has 0) NoDay (day n)
+unfoldable pub day_of : ℕ → ℕ → Option Day
+day_of has n = pick (eqb has 0) None (day n)
 
 -- the offset: 0 none, 1 UTC, 2 ahead of it, every other number behind it
-unfoldable pub offset_of : ℕ → ℕ → ℕ → OptionOffset
+unfoldable pub offset_of : ℕ → ℕ → ℕ → Option TimeOffset
 offset_of sort hours minutes =
-    pick (eqb sort 0) NoOffset (pick (eqb sort 1) (SomeOffset Utc) (SomeOffset (Offset (eqb sort 2) hours minutes)))
+    pick (eqb sort 0) None (pick (eqb sort 1) (Some Utc) (Some (Offset (eqb sort 2) hours minutes)))
 
 -- the time, if there is one
-unfoldable pub time_in : ℕ → OptionTime
+unfoldable pub time_in : ℕ → Option Time
 time_in t =
-    pick (eqb (t % 256) 0) NoTime
-    (SomeTime
+    pick (eqb (t % 256) 0) None
+    (Some
     (time (t / 256 % 256) (t / 65536 % 256) (t / 16777216 % 256)
     (offset_of (t / 4294967296 % 256) (t / 1099511627776 % 256) (t / 281474976710656 % 256))))
 
 -- the season: 0 none, 21 spring, 22 summer, 23 autumn, every other number winter
-unfoldable pub season_of : ℕ → OptionSeason
-season_of n = pick (eqb n 0) NoSeason (pick (eqb n 21) Spring (pick (eqb n 22) Summer (pick (eqb n 23) Autumn Winter)))
+unfoldable pub season_of : ℕ → Option Season
+season_of n = pick (eqb n 0) None (pick (eqb n 21) (Some Spring) (pick (eqb n 22) (Some Summer) (pick (eqb n 23) (Some Autumn) (Some Winter))))
 
 -- the Datetime of two words
 unfoldable pub datetime_in : ℕ → ℕ → Datetime
@@ -77,7 +72,7 @@ unfoldable pub date_in : Words → Date
 date_in w = date (value_in w) (is_set (w.last / 256 % 256)) (is_set (w.last / 65536 % 256))
 
 -- what a reader answered: the Date if the refusal's number is 0, or the refusal of that number with its place
-unfoldable pub read_in : Words → ReadDate
+unfoldable pub read_in : Words → Result Date Refusal
 read_in w =
-    pick (eqb (w.last / 4294967296 % 256) 0) (Accepted (date_in w))
-    (Refused (record { kind = kind_of (w.last / 4294967296 % 256); place = file_span w.start w.end }))
+    pick (eqb (w.last / 4294967296 % 256) 0) (Ok (date_in w))
+    (Err (record { kind = kind_of (w.last / 4294967296 % 256); place = file_span w.start w.end }))

@@ -1,24 +1,17 @@
 -- What a reader answers, in seven words of 64 bits: numbers that are handed on in registers, and the words that a C caller gets.
-use Rattle.std.specs.Prelude.{ℕ, ◌+◌, ◌*◌, ◌-◌, Bool, true, false, ℤ, pos, negsuc}
-use Rattle.std.proofs.Math.Option.{Option, none, some}
-use Rattle.dates.specs.declared.OptionMonth.{OptionMonth}
-use Rattle.dates.specs.declared.OptionMonth.TheVariants.{NoMonth, SomeMonth}
-use Rattle.dates.specs.declared.OptionDay.{OptionDay}
-use Rattle.dates.specs.declared.OptionDay.TheVariants.{NoDay, SomeDay}
+use Rattle.std.specs.Prelude.{ℕ, ◌+◌, ◌*◌, ◌-◌, Bool, true, false, ℤ, pos, negsuc, Some, None, Result, Ok, Err, Option}
+use Rattle.dates.specs.declared.Date.{Date}
+use Rattle.dates.specs.declared.Day.{Day}
+use Rattle.dates.specs.declared.Month.{Month}
+use Rattle.refusals.specs.declared.Refusal.{Refusal}
 use Rattle.dates.specs.declared.TimeOffset.{TimeOffset}
 use Rattle.dates.specs.declared.TimeOffset.TheVariants.{Utc, Offset}
-use Rattle.dates.specs.declared.OptionOffset.{OptionOffset}
-use Rattle.dates.specs.declared.OptionOffset.TheVariants.{NoOffset, SomeOffset}
 use Rattle.dates.specs.declared.Time.{Time}
-use Rattle.dates.specs.declared.OptionTime.{OptionTime}
-use Rattle.dates.specs.declared.OptionTime.TheVariants.{NoTime, SomeTime}
 use Rattle.dates.specs.declared.Datetime.{Datetime}
 use Rattle.dates.specs.declared.DateValue.{DateValue}
 use Rattle.dates.specs.declared.DateValue.TheVariants.{At, After, Before, Between}
 use Rattle.dates.specs.Time.{time}
 use Rattle.dates.specs.Value.{season_number}
-use Rattle.refusals.specs.declared.ReadDate.{ReadDate}
-use Rattle.refusals.specs.declared.ReadDate.TheVariants.{Accepted, Refused}
 use Rattle.refusals.specs.Refusal.{number}
 use Rattle.codes.specs.declared.Words.{Words}
 
@@ -37,34 +30,34 @@ flag true = 1
 flag false = 0
 
 -- whether there is a month, as a number
-abbrev pub has_month : OptionMonth → ℕ
-has_month NoMonth = 0
-has_month (SomeMonth m) = 1
+abbrev pub has_month : Option Month → ℕ
+has_month None = 0
+has_month (Some m) = 1
 
 -- the stored month, counted from zero; 0 if there is none
-abbrev pub month_number : OptionMonth → ℕ
-month_number NoMonth = 0
-month_number (SomeMonth m) = m.0
+abbrev pub month_number : Option Month → ℕ
+month_number None = 0
+month_number (Some m) = m.0
 
 -- whether there is a day
-abbrev pub has_day : OptionDay → ℕ
-has_day NoDay = 0
-has_day (SomeDay d) = 1
+abbrev pub has_day : Option Day → ℕ
+has_day None = 0
+has_day (Some d) = 1
 
 -- the stored day, counted from zero; 0 if there is none
-abbrev pub day_number : OptionDay → ℕ
-day_number NoDay = 0
-day_number (SomeDay d) = d.0
+abbrev pub day_number : Option Day → ℕ
+day_number None = 0
+day_number (Some d) = d.0
 
 -- whether there is a time
-abbrev pub has_time : OptionTime → ℕ
-has_time NoTime = 0
-has_time (SomeTime t) = 1
+abbrev pub has_time : Option Time → ℕ
+has_time None = 0
+has_time (Some t) = 1
 
 -- the time; zeros and no offset if there is none
-abbrev pub clock_of : OptionTime → Time
-clock_of NoTime = time 0 0 0 NoOffset
-clock_of (SomeTime t) = t
+abbrev pub clock_of : Option Time → Time
+clock_of None = time 0 0 0 None
+clock_of (Some t) = t
 
 -- UTC is 1, ahead of it 2, behind it 3
 abbrev pub sort_of : TimeOffset → ℕ
@@ -73,14 +66,14 @@ sort_of (Offset true hours minutes) = 2
 sort_of (Offset false hours minutes) = 3
 
 -- no offset is 0
-abbrev pub offset_sort : OptionOffset → ℕ
-offset_sort NoOffset = 0
-offset_sort (SomeOffset o) = sort_of o
+abbrev pub offset_sort : Option TimeOffset → ℕ
+offset_sort None = 0
+offset_sort (Some o) = sort_of o
 
 -- the offset; UTC if there is none
-abbrev pub shift_of : OptionOffset → TimeOffset
-shift_of NoOffset = Utc
-shift_of (SomeOffset o) = o
+abbrev pub shift_of : Option TimeOffset → TimeOffset
+shift_of None = Utc
+shift_of (Some o) = o
 
 -- the hours of an offset; UTC has none
 abbrev pub hours_of : TimeOffset → ℕ
@@ -121,23 +114,23 @@ day_word d = day_word_of d.year (has_month d.month) (month_number d.month) (has_
 
 -- the same of a point that may be none
 abbrev pub point_word : Option Datetime → ℕ
-point_word none = nothing
-point_word (some d) = day_word d
+point_word None = nothing
+point_word (Some d) = day_word d
 
 -- a year's part of the word
 abbrev pub year_word : Option ℤ → ℕ
-year_word none = nothing
-year_word (some y) = twos y
+year_word None = nothing
+year_word (Some y) = twos y
 
 -- a month's part
-abbrev pub month_word : Option OptionMonth → ℕ
-month_word none = nothing
-month_word (some m) = 4294967296 * (has_month m + 256 * month_number m)
+abbrev pub month_word : Option (Option Month) → ℕ
+month_word None = nothing
+month_word (Some m) = 4294967296 * (has_month m + 256 * month_number m)
 
 -- a day's part
-abbrev pub day_part_word : Option OptionDay → ℕ
-day_part_word none = nothing
-day_part_word (some d) = 281474976710656 * (has_day d + 256 * day_number d)
+abbrev pub day_part_word : Option (Option Day) → ℕ
+day_part_word None = nothing
+day_part_word (Some d) = 281474976710656 * (has_day d + 256 * day_number d)
 
 -- the second
 abbrev pub time_word : Datetime → ℕ
@@ -157,9 +150,9 @@ shift_word true sort h m = 4294967296 * four_bytes sort h m 0
 shift_word false sort h m = nothing
 
 -- the part of what stands behind the seconds
-abbrev pub zone_word : Option OptionOffset → ℕ
-zone_word none = nothing
-zone_word (some o) = shift_word true (offset_sort o) (hours_of (shift_of o)) (minutes_of (shift_of o))
+abbrev pub zone_word : Option (Option TimeOffset) → ℕ
+zone_word None = nothing
+zone_word (Some o) = shift_word true (offset_sort o) (hours_of (shift_of o)) (minutes_of (shift_of o))
 
 -- the words of a place, two for each Datetime, and the last
 abbrev pub words : ℕ → ℕ → ℕ → ℕ → ℕ → ℕ → ℕ → Words
@@ -179,18 +172,18 @@ marks_of u a = 256 * flag u + 65536 * flag a
 
 -- the words of a point or range that may be none, by its marks in the last word
 abbrev pub value_or : Option DateValue → ℕ → Words
-value_or none marks = words 0 0 0 0 0 0 nothing
-value_or (some (At d)) marks = words 0 0 (day_word d) (time_word d) 0 0 marks
-value_or (some (After d)) marks = words 0 0 (day_word d) (time_word d) 0 0 (1 + marks)
-value_or (some (Before d)) marks = words 0 0 (day_word d) (time_word d) 0 0 (2 + marks)
-value_or (some (Between a b)) marks = words 0 0 (day_word a) (time_word a) (day_word b) (time_word b) (3 + marks)
+value_or None marks = words 0 0 0 0 0 0 nothing
+value_or (Some (At d)) marks = words 0 0 (day_word d) (time_word d) 0 0 marks
+value_or (Some (After d)) marks = words 0 0 (day_word d) (time_word d) 0 0 (1 + marks)
+value_or (Some (Before d)) marks = words 0 0 (day_word d) (time_word d) 0 0 (2 + marks)
+value_or (Some (Between a b)) marks = words 0 0 (day_word a) (time_word a) (day_word b) (time_word b) (3 + marks)
 
 -- what a reader answers: the Date with no refusal, or the refusal's number and place with no Date
-abbrev pub words_of : ReadDate → Words
-words_of (Accepted d) = value_words d.value (flag d.uncertain) (flag d.approximate)
-words_of (Refused e) = words e.place.0 e.place.1 0 0 0 0 (last_word 0 0 0 (number e.kind))
+abbrev pub words_of : Result Date Refusal → Words
+words_of (Ok d) = value_words d.value (flag d.uncertain) (flag d.approximate)
+words_of (Err e) = words e.place.0 e.place.1 0 0 0 0 (last_word 0 0 0 (number e.kind))
 
 -- what is said at once, or that nothing is
-abbrev pub words_or : Option ReadDate → Words
-words_or none = words 0 0 0 0 0 0 nothing
-words_or (some r) = words_of r
+abbrev pub words_or : Option (Result Date Refusal) → Words
+words_or None = words 0 0 0 0 0 0 nothing
+words_or (Some r) = words_of r

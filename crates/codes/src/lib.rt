@@ -2,11 +2,8 @@
 // said here at once is what the readers say (`code_laws`); other texts are for them.
 #![tactic(auto)]
 
-ghost use Rattle.std.specs.Prelude.{◌≡◌, ◌+◌, ◌*◌, ◌%◌, ◌≤◌, ◌<◌, length, take, pos, true, [], ◌∷◌};
-ghost use Rattle.std.proofs.Math.Option.{none};
+ghost use Rattle.std.specs.Prelude.{◌≡◌, ◌+◌, ◌*◌, ◌%◌, ◌≤◌, ◌<◌, length, take, pos, true, [], ◌∷◌, None};
 ghost use Rattle.std.specs.Int.Signed.{mag};
-ghost use Rattle.dates.specs.declared.OptionTime.TheVariants.{NoTime};
-ghost use Rattle.refusals.specs.declared.ReadDate.{ReadDate};
 ghost use Rattle.datefield.specs.Text.{last_byte, is_uncertain, is_approximate, unmarked};
 ghost use Rattle.codes.specs.Words as words;
 ghost use Rattle.codes.specs.Points as spec;
@@ -28,12 +25,9 @@ ghost use Rattle.codes.specs.Back as back;
 
 use chars::is_digit;
 use datefield::is_dots;
-use dates::{
-    Date, DateValue, Datetime, Day, Month, OptionDay, OptionMonth, OptionOffset, OptionSeason,
-    OptionTime, Time, TimeOffset,
-};
+use dates::{Date, DateValue, Datetime, Day, Month, Season, Time, TimeOffset};
 use puts::put_mark;
-use refusals::{ReadDate, Refusal, kind_of, lent_span};
+use refusals::{Refusal, kind_of, lent_span};
 
 // Where nothing is said.
 pub const NOTHING: u64 = 0xFFFFFFFFFFFFFFFF;
@@ -172,7 +166,7 @@ fn month_word(s: &[u8]) -> u64
 // dddd-mm-dd at the front, whatever stands behind it.
 fn day_word(s: &[u8]) -> u64
     requires { 10 ≤ length s.now }
-    ensures { result ≡ words.point_word (spec.day_point s.now NoTime) }
+    ensures { result ≡ words.point_word (spec.day_point s.now None) }
 {
     let y = year(s);
     let m = part_at(s, 4);
@@ -316,7 +310,7 @@ fn slash_of(s: &[u8]) -> usize
 
 // Nothing is said.
 pub fn no_words() -> Words
-    ensures { result ≡ words.words_or none }
+    ensures { result ≡ words.words_or None }
 {
     Words {
         start: 0,
@@ -332,7 +326,7 @@ pub fn no_words() -> Words
 // A shape with one point, if there is one.
 fn one(shape: u64, w: u64, marks: u64) -> Words
     requires { (shape ≤ 3) × (marks ≤ 65792) }
-    ensures value { w ≡ words.nothing → result ≡ words.words_or none }
+    ensures value { w ≡ words.nothing → result ≡ words.words_or None }
     ensures value_2 { (w ≡ words.nothing → ⊥) → result ≡ words.words 0 0 w 0 0 0 (shape + marks) }
 {
     if w == NOTHING {
@@ -352,8 +346,8 @@ fn one(shape: u64, w: u64, marks: u64) -> Words
 // A range of two points, if there are two.
 fn both(a: u64, b: u64, marks: u64) -> Words
     requires { marks ≤ 65792 }
-    ensures value { a ≡ words.nothing → result ≡ words.words_or none }
-    ensures value_2 { b ≡ words.nothing → result ≡ words.words_or none }
+    ensures value { a ≡ words.nothing → result ≡ words.words_or None }
+    ensures value_2 { b ≡ words.nothing → result ≡ words.words_or None }
     ensures value_3 { (a ≡ words.nothing → ⊥) → (b ≡ words.nothing → ⊥) → result ≡ words.words 0 0 a 0 b 0 (3 + marks) }
 {
     if a == NOTHING {
@@ -483,10 +477,8 @@ fn are_spaces(s: &[u8], at: usize) -> bool
     ensures { result ≡ true → texts.unspaced (take (at + 16) s.now) ≡ texts.unspaced (take at s.now) }
 {
     let mut ok = true;
-    let mut i = 0;
-    while i < 16 {
+    for i in 0..16 {
         ok = ok & (s[at + i] == b' ');
-        i = i + 1;
     }
     ok
 }
@@ -496,6 +488,7 @@ fn shed_many(s: &[u8]) -> usize
     ensures { (texts.unspaced (take result s.now) ≡ texts.unspaced s.now) × (result ≤ length s.now) }
 {
     let mut n = s.len();
+    // Kept as a while: it goes backwards from an end that is no multiple of sixteen, and stops early; a range would need `s.len() % 16` added to each place.
     while 16 <= n {
         if are_spaces(s, n - 16) {
             n = n - 16;
@@ -511,15 +504,12 @@ fn shed_each(s: &[u8], end: usize) -> usize
     requires { end ≤ length s.now }
     ensures { (take result s.now ≡ texts.unspaced (take end s.now)) × (result ≤ end) }
 {
-    let mut n = end;
-    while 0 < n {
-        if s[n - 1] == b' ' {
-            n = n - 1;
-        } else {
-            return n;
+    for n in (0..end).rev() {
+        if s[n] != b' ' {
+            return n + 1;
         }
     }
-    n
+    0
 }
 
 // Where the spaces at a text's end start. Mostly there are none: the last byte is looked at first.
@@ -538,39 +528,39 @@ pub fn unspaced(s: &[u8]) -> usize
 
 // ---- words
 
-fn has_month(m: OptionMonth) -> u8
+fn has_month(m: Option<Month>) -> u8
     ensures { result ≡ words.has_month m }
 {
     match m {
-        OptionMonth::NoMonth => 0,
-        OptionMonth::SomeMonth(_) => 1,
+        None => 0,
+        Some(_) => 1,
     }
 }
 
-fn month_number(m: OptionMonth) -> u8
+fn month_number(m: Option<Month>) -> u8
     ensures { result ≡ words.month_number m }
 {
     match m {
-        OptionMonth::NoMonth => 0,
-        OptionMonth::SomeMonth(x) => x.0,
+        None => 0,
+        Some(x) => x.0,
     }
 }
 
-fn has_day(d: OptionDay) -> u8
+fn has_day(d: Option<Day>) -> u8
     ensures { result ≡ words.has_day d }
 {
     match d {
-        OptionDay::NoDay => 0,
-        OptionDay::SomeDay(_) => 1,
+        None => 0,
+        Some(_) => 1,
     }
 }
 
-fn day_number(d: OptionDay) -> u8
+fn day_number(d: Option<Day>) -> u8
     ensures { result ≡ words.day_number d }
 {
     match d {
-        OptionDay::NoDay => 0,
-        OptionDay::SomeDay(x) => x.0,
+        None => 0,
+        Some(x) => x.0,
     }
 }
 
@@ -587,22 +577,22 @@ fn sort_of(o: TimeOffset) -> u8
     }
 }
 
-fn offset_sort(o: OptionOffset) -> u8
+fn offset_sort(o: Option<TimeOffset>) -> u8
     ensures { result ≡ words.offset_sort o }
 {
     match o {
-        OptionOffset::NoOffset => 0,
-        OptionOffset::SomeOffset(x) => sort_of(x),
+        None => 0,
+        Some(x) => sort_of(x),
     }
 }
 
 // The offset, or UTC where there is none.
-fn shift_of(o: OptionOffset) -> TimeOffset
+fn shift_of(o: Option<TimeOffset>) -> TimeOffset
     ensures { result ≡ words.shift_of o }
 {
     match o {
-        OptionOffset::NoOffset => TimeOffset::Utc,
-        OptionOffset::SomeOffset(x) => x,
+        None => TimeOffset::Utc,
+        Some(x) => x,
     }
 }
 
@@ -656,10 +646,10 @@ fn time_word(d: Datetime) -> u64
     let season = d.season;
     let number = dates::season_number(season);
     match time {
-        OptionTime::NoTime => {
+        None => {
             return 4294967296 * four_bytes(0, 0, 0, number);
         }
-        OptionTime::SomeTime(t) => {
+        Some(t) => {
             let offset = t.offset;
             let o = shift_of(offset);
             return four_bytes(1, t.hour, t.minute, t.second)
@@ -719,12 +709,12 @@ fn two_words(a: Datetime, b: Datetime, marks: u64) -> Words
 }
 
 // What a reader answers, as words; its numbers are of their types.
-pub fn pack(r: ReadDate) -> Words
+pub fn pack(r: Result<Date, Refusal>) -> Words
     ensures value { result ≡ words.words_of r }
     ensures typed { typed.Typed r }
 {
     match r {
-        ReadDate::Accepted(d) => {
+        Ok(d) => {
             let v = d.value;
             let marks = marks_word(d.uncertain, d.approximate);
             match v {
@@ -742,7 +732,7 @@ pub fn pack(r: ReadDate) -> Words
                 }
             }
         }
-        ReadDate::Refused(e) => {
+        Err(e) => {
             let kind = e.kind;
             let start = e.place.0;
             let end = e.place.1;
@@ -869,10 +859,8 @@ fn all_words(t: &[u8]) -> bool
     ensures { result ≡ ported_specs.are_word_bytes t.now }
 {
     let mut ok = true;
-    let mut i = 0;
-    while i < t.len() {
-        ok = ok & is_word_byte(t[i]);
-        i = i + 1;
+    for b in t {
+        ok = ok & is_word_byte(*b);
     }
     ok
 }
@@ -1190,10 +1178,8 @@ fn all_letters(t: &[u8]) -> bool
     ensures { result ≡ parts.are_letters t.now }
 {
     let mut ok = true;
-    let mut i = 0;
-    while i < t.len() {
-        ok = ok & is_letter(t[i]);
-        i = i + 1;
+    for b in t {
+        ok = ok & is_letter(*b);
     }
     ok
 }
@@ -1206,14 +1192,15 @@ fn month_word_of(m: u8) -> u64
 }
 
 // The month of a name.
+#[tactic(auto, unfolding(crate::specs::Parts::named_month, crate::specs::Parts::some_month, chars::specs::Pick::pick))]
 fn named_month(s: &[u8]) -> u64
     ensures { result ≡ words.month_word (parts.named_month s.now) }
 {
     if s.len() < 10 {
         if all_letters(s) {
             return match fields::month_for(s) {
-                OptionMonth::SomeMonth(m) => month_word_of(m.0),
-                OptionMonth::NoMonth => NOTHING,
+                Some(m) => month_word_of(m.0),
+                None => NOTHING,
             };
         }
     }
@@ -1479,53 +1466,53 @@ fn from_twos(n: u64) -> i32
     -1 - (4294967295 - n) as i32
 }
 
-fn month_back(has: u8, n: u8) -> OptionMonth
+fn month_back(has: u8, n: u8) -> Option<Month>
     ensures { result ≡ unpacked.month_of has n }
 {
     if has == 0 {
-        return OptionMonth::NoMonth;
+        return None;
     }
-    OptionMonth::SomeMonth(Month(n))
+    Some(Month(n))
 }
 
-fn day_back(has: u8, n: u8) -> OptionDay
+fn day_back(has: u8, n: u8) -> Option<Day>
     ensures { result ≡ unpacked.day_of has n }
 {
     if has == 0 {
-        return OptionDay::NoDay;
+        return None;
     }
-    OptionDay::SomeDay(Day(n))
+    Some(Day(n))
 }
 
 // An offset by its sort, its hours and its minutes.
-pub fn offset_of(sort: u8, hours: u8, minutes: u8) -> OptionOffset
+pub fn offset_of(sort: u8, hours: u8, minutes: u8) -> Option<TimeOffset>
     ensures { result ≡ unpacked.offset_of sort hours minutes }
 {
     if sort == 0 {
-        return OptionOffset::NoOffset;
+        return None;
     }
     if sort == 1 {
-        return OptionOffset::SomeOffset(TimeOffset::Utc);
+        return Some(TimeOffset::Utc);
     }
-    OptionOffset::SomeOffset(TimeOffset::Offset {
+    Some(TimeOffset::Offset {
         positive: sort == 2,
         hours,
         minutes,
     })
 }
 
-fn time_back(t: u64) -> OptionTime
+fn time_back(t: u64) -> Option<Time>
     ensures { result ≡ unpacked.time_in t }
 {
     if t % 256 == 0 {
-        return OptionTime::NoTime;
+        return None;
     }
     let offset = offset_of(
         low_byte(t / 4294967296),
         low_byte(t / 1099511627776),
         low_byte(t / 281474976710656),
     );
-    OptionTime::SomeTime(Time {
+    Some(Time {
         hour: low_byte(t / 256),
         minute: low_byte(t / 65536),
         second: low_byte(t / 16777216),
@@ -1534,22 +1521,22 @@ fn time_back(t: u64) -> OptionTime
 }
 
 // A season by its number.
-pub fn season_of(n: u8) -> OptionSeason
+pub fn season_of(n: u8) -> Option<Season>
     ensures { result ≡ unpacked.season_of n }
 {
     if n == 0 {
-        return OptionSeason::NoSeason;
+        return None;
     }
     if n == 21 {
-        return OptionSeason::Spring;
+        return Some(Season::Spring);
     }
     if n == 22 {
-        return OptionSeason::Summer;
+        return Some(Season::Summer);
     }
     if n == 23 {
-        return OptionSeason::Autumn;
+        return Some(Season::Autumn);
     }
-    OptionSeason::Winter
+    Some(Season::Winter)
 }
 
 fn datetime_back(a: u64, t: u64) -> Datetime
@@ -1600,14 +1587,14 @@ fn date_back(w: Words) -> Date
 }
 
 // What a reader answered, from its words.
-pub fn unpack(w: Words) -> ReadDate
+pub fn unpack(w: Words) -> Result<Date, Refusal>
     ensures { result ≡ unpacked.read_in w }
 {
     let refusal = low_byte(w.last / 4294967296);
     if refusal == 0 {
-        return ReadDate::Accepted(date_back(w));
+        return Ok(date_back(w));
     }
-    ReadDate::Refused(Refusal {
+    Err(Refusal {
         kind: kind_of(refusal),
         place: lent_span(w.start, w.end),
     })

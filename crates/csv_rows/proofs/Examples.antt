@@ -10,7 +10,7 @@ use Rattle.csv_rows.specs.declared.Separator.TheVariants.{Comma, Semicolon, Tab}
 use Rattle.csv_rows.specs.declared.Fault.TheVariants.{QuoteInside, TextBehind, LoneReturn, NeverClosed, TooMany}
 use Rattle.csv_rows.specs.declared.RowRead.{RowRead}
 use Rattle.csv_rows.specs.declared.RowRead.TheVariants.{Row, Faulty, More, Nothing}
-use Rattle.csv_rows.specs.declared.Copied.TheVariants.{Text, NoRoom}
+use Rattle.std.specs.Prelude.{Some, None}
 use Rattle.csv_rows.specs.declared.Skipped.TheVariants.{Ended, Wait, Over}
 use Rattle.csv_rows.specs.Reader.{byte_of, is_stop, is_special, is, up_to, inner_len, return_of, stop_of, closed, plain_by, quoted_by, cell_of, line_by, line_from, line}
 use Rattle.csv_rows.specs.Answers.{window, is_cut, is_over, place_of, end_len, counted, row_by, refused, answer_by, answer_of, numbers, listed, line_of, answer, table_after, skipped}
@@ -103,7 +103,7 @@ unfolding pick is_stop is_special is up_to inner_len return_of stop_of closed pl
 texts = refl
 
 -- copying: room for the own bytes, or none
-pub copies : (copied (97 ∷ 34 ∷ 34 ∷ []) 3 ≡ Text 2) × (copied (97 ∷ 34 ∷ 34 ∷ []) 2 ≡ NoRoom) × (copied_into (97 ∷ 34 ∷ 34 ∷ []) (1 ∷ 2 ∷ 3 ∷ []) ≡ 97 ∷ 34 ∷ 3 ∷ []) × (copied_into (97 ∷ 34 ∷ 34 ∷ []) (1 ∷ 2 ∷ []) ≡ 1 ∷ 2 ∷ [])
+pub copies : (copied (97 ∷ 34 ∷ 34 ∷ []) 3 ≡ Some 2) × (copied (97 ∷ 34 ∷ 34 ∷ []) 2 ≡ None) × (copied_into (97 ∷ 34 ∷ 34 ∷ []) (1 ∷ 2 ∷ 3 ∷ []) ≡ 97 ∷ 34 ∷ 3 ∷ []) × (copied_into (97 ∷ 34 ∷ 34 ∷ []) (1 ∷ 2 ∷ []) ≡ 1 ∷ 2 ∷ [])
 unfolding undoubled copied copied_into pick
 copies = (refl, refl, refl, refl)
 

@@ -11,6 +11,9 @@ use lib.Seq.{drop-drop}
 use Rattle.chars.specs.Pick.{pick}
 use Rattle.chars.specs.Utf8.{first, len_d, decode_at}
 use Rattle.chars.proofs.Laws.{first-ascii, fits}
+use Rattle.std.specs.List.{count_by}
+use Rattle.std.proofs.lemmas.List.Recursion.{is_count_by}
+use Rattle.chars.proofs.Cases.{of_test}
 use Rattle.csv_rows.specs.Bytes.{one_if, feeds, utf8_from, utf8_end}
 use Rattle.csv_rows.specs.Scans.{SameEnd}
 use Rattle.csv_rows.proofs.Laws.{front, past}
@@ -20,6 +23,10 @@ pub one-most : (t : Bool) (n : ℕ) → n ≡ one_if t → n ≤ 1
 unfolding one_if pick
 one-most true n e = omega arith
 one-most false n e = omega arith
+
+pub feeds-count : (s : List ℕ) → feeds s ≡ count_by (λ b. eqb b 10) s
+unfolding feeds one_if pick
+feeds-count s = is_count_by feeds (λ b. eqb b 10) refl (λ b t. of_test (eqb b 10) (λ e. rw e) (λ e. rw e (omega arith))) s
 
 feeds-one : (s : List ℕ) (i : ℕ) → i < length s → feeds (drop i s) ≡ one_if (eqb (get_or s i 0) 10) + feeds (drop (i + 1) s)
 unfolding feeds

@@ -1,9 +1,7 @@
 -- What the text of a cell is, and what is left in the buffer that it is copied to.
-use Rattle.std.specs.Prelude.{ℕ, ◌-◌, List, [], ◌∷◌, eqb, leb, length, take, drop}
+use Rattle.std.specs.Prelude.{ℕ, ◌-◌, List, [], ◌∷◌, eqb, leb, length, take, drop, Option, Some, None}
 use Rattle.std.proofs.lemmas.List.Edits.{sets}
 use Rattle.chars.specs.Pick.{pick}
-use Rattle.csv_rows.specs.declared.Copied.{Copied}
-use Rattle.csv_rows.specs.declared.Copied.TheVariants.{Text, NoRoom}
 use Rattle.csv_rows.specs.Reader.{Place}
 
 -- bytes with each doubled quote as one
@@ -13,8 +11,8 @@ undoubled (b ∷ []) = b ∷ []
 undoubled (b ∷ c ∷ s) = pick (eqb b 34) (pick (eqb c 34) (b ∷ undoubled s) (b ∷ undoubled (c ∷ s))) (b ∷ undoubled (c ∷ s))
 
 -- what is answered where the text of these own bytes is copied: there is room if the own bytes are no more than the room
-unfoldable pub copied : List ℕ → ℕ → Copied
-copied raw room = pick (leb (length raw) room) (Text (length (undoubled raw))) NoRoom
+unfoldable pub copied : List ℕ → ℕ → Option ℕ
+copied raw room = pick (leb (length raw) room) (Some (length (undoubled raw))) None
 
 -- the buffer afterwards: the text at its front, or as it was
 unfoldable pub copied_into : List ℕ → List ℕ → List ℕ

@@ -80,13 +80,6 @@ struct Scan {
     ending: Ending,
 }
 
-// The text of a cell was copied, and has so many bytes; or there was no room.
-#[derive(Clone, Copy)]
-pub enum Copied {
-    Text(usize),
-    NoRoom,
-}
-
 // The rest of a line: it ends before this place; it goes on behind the window; more bytes are needed; there is nothing.
 #[derive(Clone, Copy)]
 pub enum Skipped {
@@ -134,14 +127,12 @@ fn is_at(s: &[u8], at: usize, c: u8) -> bool
 fn plain_from(s: &[u8], at: usize, sep: u8) -> usize
     ensures { result ≡ at + spec.up_to (spec.is_special sep) (drop at s.now) }
 {
-    let mut i = at;
-    while i < s.len() {
+    for i in at..s.len() {
         if is_special(s[i], sep) {
             return i;
         }
-        i += 1;
     }
-    i
+    at.max(s.len())
 }
 
 // Whether a special byte stands among sixteen. No test here decides where to go on: the compiler then takes them all at once.
@@ -150,10 +141,8 @@ fn has_special(s: &[u8], at: usize, sep: u8) -> bool
     ensures { result ≡ false → scans.SameEnd (spec.up_to (spec.is_special sep)) s.now at (at + 16) }
 {
     let mut any = false;
-    let mut i = 0;
-    while i < 16 {
+    for i in 0..16 {
         any = any | is_special(s[at + i], sep);
-        i += 1;
     }
     any
 }
@@ -164,6 +153,7 @@ fn skip_plain(s: &[u8], at: usize, sep: u8) -> usize
     ensures { scans.SameEnd (spec.up_to (spec.is_special sep)) s.now at result }
 {
     let mut i = at;
+    // Kept as a while: `step_by` over whole blocks proves too, but has their end to compute first, which costs where there are few of them.
     while 16 <= s.len() - i {
         if has_special(s, i, sep) {
             return i;
@@ -177,17 +167,15 @@ fn skip_plain(s: &[u8], at: usize, sep: u8) -> usize
 fn plain_end(s: &[u8], at: usize, sep: u8) -> usize
     ensures { result ≡ at + spec.up_to (spec.is_special sep) (drop at s.now) }
 {
-    let mut i = at;
-    while i < s.len() {
+    for i in at..s.len() {
         if is_special(s[i], sep) {
             return i;
         }
-        i += 1;
-        if 8 <= i - at {
-            return plain_from(s, skip_plain(s, i, sep), sep);
+        if 7 <= i - at {
+            return plain_from(s, skip_plain(s, i + 1, sep), sep);
         }
     }
-    i
+    at.max(s.len())
 }
 
 // Whether this byte stands among thirty-two.
@@ -196,10 +184,8 @@ fn has_byte(s: &[u8], at: usize, c: u8) -> bool
     ensures { result ≡ false → scans.SameEnd (spec.up_to (spec.equal c)) s.now at (at + 32) }
 {
     let mut any = false;
-    let mut i = 0;
-    while i < 32 {
+    for i in 0..32 {
         any = any | (s[at + i] == c);
-        i += 1;
     }
     any
 }
@@ -210,6 +196,7 @@ fn skip_others(s: &[u8], at: usize, c: u8) -> usize
     ensures { scans.SameEnd (spec.up_to (spec.equal c)) s.now at result }
 {
     let mut i = at;
+    // Kept as a while, as `skip_plain` is.
     while 32 <= s.len() - i {
         if has_byte(s, i, c) {
             return i;
@@ -224,14 +211,12 @@ fn byte_end(s: &[u8], at: usize, c: u8) -> usize
     requires { at ≤ length s.now }
     ensures { result ≡ at + spec.up_to (spec.equal c) (drop at s.now) }
 {
-    let mut i = skip_others(s, at, c);
-    while i < s.len() {
+    for i in skip_others(s, at, c)..s.len() {
         if s[i] == c {
             return i;
         }
-        i += 1;
     }
-    i
+    s.len()
 }
 
 // ---- a cell
@@ -242,6 +227,7 @@ fn quote_end(s: &[u8], at: usize) -> usize
     ensures { result ≡ at + spec.inner_len (drop at s.now) }
 {
     let mut i = at;
+    // Kept as a loop: it goes on behind each doubled quote, wherever that is found, and a `for` goes on by the same step each time.
     loop {
         let e = byte_end(s, i, 34);
         if e < s.len() {
@@ -361,6 +347,7 @@ fn read_cells(s: &[u8], sep: u8, over: bool, table: &mut [usize]) -> Scan
 {
     let mut at = 0;
     let mut count = 0;
+    // Kept as a loop: a cell begins where the one before it ends. A `for` that counts the cells would need an answer behind its end.
     loop {
         match cell_at(s, at, sep, over) {
             CellRead::Good { start, stop, next } => {
@@ -531,6 +518,7 @@ fn copy_in(raw: &[u8], out: &mut [u8]) -> usize
 {
     let mut i = 0;
     let mut n = 0;
+    // Kept as a while: the two places move apart at a doubled quote. A `for` over the bytes would have to remember a first quote.
     while i < raw.len() {
         out[n] = raw[i];
         let k = text_step(raw, i);
@@ -542,14 +530,14 @@ fn copy_in(raw: &[u8], out: &mut [u8]) -> usize
 
 // Copies the text of a cell, of which these are the own bytes: doubled quotes become one. There is no room exactly if the own bytes are
 // more than the buffer has; then nothing is stored.
-pub fn copy_text(raw: &[u8], out: &mut [u8]) -> Copied
+pub fn copy_text(raw: &[u8], out: &mut [u8]) -> Option<usize>
     ensures value { result ≡ texts.copied raw.now (length out.old) }
     ensures out_after { out.new ≡ texts.copied_into raw.now out.old }
 {
     if raw.len() <= out.len() {
-        return Copied::Text(copy_in(raw, out));
+        return Some(copy_in(raw, out));
     }
-    Copied::NoRoom
+    None
 }
 
 // ---- lines and characters
@@ -593,10 +581,8 @@ fn feeds_in(s: &[u8], at: usize) -> usize
     ensures { (result + bytes.feeds (drop (at + 64) s.now) ≡ bytes.feeds (drop at s.now)) × (result ≤ 64) }
 {
     let mut n: u8 = 0;
-    let mut i = 0;
-    while i < 64 {
+    for i in 0..64 {
         n = n + one_if(s[at + i] == 10);
-        i += 1;
     }
     n as usize
 }
@@ -606,26 +592,19 @@ fn feeds_from(s: &[u8], at: usize) -> usize
     requires { at ≤ length s.now }
     ensures { result ≡ bytes.feeds (drop at s.now) }
 {
-    let mut n = 0;
-    let mut i = at;
-    while i < s.len() {
-        n = n + one_if(s[i] == 10) as usize;
-        i += 1;
-    }
-    n
+    s[at..].iter().filter(|b| **b == 10).count()
 }
 
 // How many line feeds there are, by sixty-four bytes at a time.
 pub fn count_feeds(s: &[u8]) -> usize
     ensures { result ≡ bytes.feeds s.now }
 {
+    let end = s.len() - s.len() % 64;
     let mut n = 0;
-    let mut i = 0;
-    while 64 <= s.len() - i {
+    for i in (0..end).step_by(64) {
         n = n + feeds_in(s, i);
-        i += 64;
     }
-    n + feeds_from(s, i)
+    n + feeds_from(s, end)
 }
 
 // How many bytes the character at a place has; 0 where there is none.
@@ -645,10 +624,8 @@ fn are_ascii(s: &[u8], at: usize) -> bool
     ensures { result ≡ true → scans.SameEnd bytes.utf8_end s.now at (at + 32) }
 {
     let mut all = true;
-    let mut i = 0;
-    while i < 32 {
+    for i in 0..32 {
         all = all & (s[at + i] < 0x80);
-        i += 1;
     }
     all
 }
@@ -659,6 +636,7 @@ fn skip_ascii(s: &[u8], at: usize) -> usize
     ensures { scans.SameEnd bytes.utf8_end s.now at result }
 {
     let mut i = at;
+    // Kept as a while, as `skip_plain` is.
     while 32 <= s.len() - i {
         if are_ascii(s, i) {
             i += 32;
@@ -674,6 +652,7 @@ pub fn utf8_end(s: &[u8]) -> usize
     ensures { result ≡ bytes.utf8_end s.now }
 {
     let mut i = 0;
+    // Kept as a loop: it goes on by blocks and by characters of one to four bytes, and a `for` by the same step each time.
     loop {
         i = skip_ascii(s, i);
         let k = char_step(s, i);

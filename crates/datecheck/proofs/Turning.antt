@@ -1,24 +1,19 @@
 -- What was kept of a block and what was read behind it; a turn of steps and a read; and that steps that wait leave room to read.
 -- Assumes nothing.
-use mathlib.Core.Path.{◌≡◌, refl, sym, ap, ◌∙◌}
-use mathlib.Core.Bool.{Bool, true, false, false≢true}
+use mathlib.Core.Path.{◌≡◌, refl, ap, ◌∙◌}
+use mathlib.Core.Bool.{Bool, true, false}
 use mathlib.Core.List.{List, [], ◌∷◌, ◌++◌, append-nil}
 use Prim.Native.Nat.{ℕ, ◌+◌, ◌-◌, ◌≤◌, ◌<◌}
 use native.Mathlib.Omega.{arith}
 use borrow.Author.Tests.{eqb-true, eqb-false}
 use borrow.Rule.Slice.PartMut.{put_mid}
-use mir.Syntax.{w64}
-use mir.Val.{SFits, of_z, to_z}
-use mir.ValLaws.{to_z-of_z}
 use lib.Dec.{eqb}
-use lib.IntN.{ℤ, pos, negsuc, nat_abs}
-use lib.Signed.{lt_z}
 use lib.ListN.{length, take, drop, length-drop}
 use lib.Seq.{length-take-le, drop-drop}
+use Rattle.std.specs.Prelude.{Option, Some, None, IfSome}
 use Rattle.runs.specs.Runs.{Onward}
 use Rattle.runs.specs.Runs.Run.{read, end}
 use Rattle.blocks.specs.Moves.{moved_down}
-use Rattle.blocks.specs.Reads.{MayRead}
 use Rattle.blocks.proofs.Laws.{part-is, moved-kept}
 use Rattle.sheets.specs.declared.State.{State}
 use Rattle.sheets.specs.Steps.{next}
@@ -26,6 +21,7 @@ use Rattle.sheets.proofs.Waits.{waits-short}
 use Rattle.datecheck.specs.Goes.{Went, Refilled, Turned}
 use Rattle.datecheck.specs.Goes.Went.{waits, full}
 use Rattle.datecheck.specs.Goes.Refilled.{bytes, none}
+use Rattle.datecheck.specs.declared.Progress.{Progress}
 use Rattle.datecheck.specs.declared.Stop.{Stop}
 use Rattle.datecheck.specs.declared.Stop.TheVariants.{Waits, Full}
 use Rattle.datecheck.proofs.Filled.{filled}
@@ -45,15 +41,6 @@ module _ (b new : List ℕ) where
       let z : 0 < length new = omega arith in
       bytes new z
 
-  read-in : (z : ℤ) → lt_z z (pos 0) ≡ false → length new ≡ nat_abs z → Refilled b (eqb (of_z w64 z) 0) (b ++ new)
-  read-in (pos k) n l = read_some k l (eqb k 0) refl
-  read-in (negsuc k) n l = absurd (false≢true (sym n))
-
--- what is no failure counts no more bytes than were lent
-within : (z : ℤ) (lent : ℕ) → lt_z z (pos 0) ≡ false → MayRead lent z → nat_abs z ≤ lent
-within (pos k) lent n r = r
-within (negsuc k) lent n r = absurd (false≢true (sym n))
-
 -- in the buffer to whose front it was moved
 module _ (buf m part : List ℕ) (from have : ℕ) (h : from ≤ have) (g : have ≤ length buf) (e : m ≡ moved_down from have buf) (l : length m ≡ length buf)
     (p : length part ≡ length buf - (have - from)) where
@@ -69,12 +56,11 @@ module _ (buf m part : List ℕ) (from have : ℕ) (h : from ≤ have) (g : have
   rest-long : length (take (length m - (have - from)) (drop (have - from) m)) ≡ length part
   rest-long = let d = length-drop (have - from) m in length-take-le (length m - (have - from)) (drop (have - from) m) (omega arith) ∙ omega arith
 
-  pub refilled : (z : ℤ) → SFits w64 z → lt_z (to_z w64 (of_z w64 z)) (pos 0) ≡ false → MayRead (length (take (length m - (have - from)) (drop (have - from) m))) z
-      → Refilled (drop from (take have buf)) (eqb (of_z w64 z) 0) (take (have - from + nat_abs (to_z w64 (of_z w64 z))) after)
-  refilled z f n r =
-      let i = rw (to_z-of_z w64 z f) at n in
-      let k = within z (length part) i (rw rest-long at r) in
-      rw (to_z-of_z w64 z f, front-is (nat_abs z) k) (read-in (drop from (take have buf)) (take (nat_abs z) part) z i (length-take-le (nat_abs z) part k))
+  pub refilled : (n : ℕ) → n ≤ length (take (length m - (have - from)) (drop (have - from) m))
+      → Refilled (drop from (take have buf)) (eqb n 0) (take (have - from + n) after)
+  refilled n r =
+      let k : n ≤ length part = rw rest-long at r in
+      rw (front-is n k) (read_some (drop from (take have buf)) (take n part) n (length-take-le n part k) (eqb n 0) refl)
 
 -- steps that wait do so before the file's end, and have left little
 pub waits-little : {last : Bool} {b b' put : List ℕ} {st st' : State} → Went last b st Waits b' st' put → (last ≡ false) × (length b' ≤ 65539)
@@ -115,6 +101,8 @@ module _ (buf out : List ℕ) (from have at put : ℕ) (h : from ≤ have) (g : 
   pub turned-full : put ≤ length out → stop ≡ Full → Turned last (drop from (take have buf)) st out last (drop (from + at) (take have buf)) st'
   turned-full k e = full-turned k (went e)
 
-  pub turned-waits : {last' : Bool} {b : List ℕ} → put ≤ length out → stop ≡ Waits → Refilled (drop (from + at) (take have buf)) last' b
-      → Turned last (drop from (take have buf)) st out last' b st'
-  turned-waits k e r = wait-turned k (went e) r
+  pub turned-waits : (after : List ℕ) (r : Option Progress) → put ≤ length out → stop ≡ Waits
+      → IfSome r (λ q. (q.state ≡ st') × Refilled (drop (from + at) (take have buf)) q.last (drop q.from (take q.have after)))
+      → IfSome r (λ q. Turned last (drop from (take have buf)) st out q.last (drop q.from (take q.have after)) q.state)
+  turned-waits after None k e n = n
+  turned-waits after (Some q) k e n = rw n.0 (wait-turned k (went e) n.1)

@@ -3,7 +3,7 @@
 // sheets; here is only the reading and the writing.
 #![tactic(auto)]
 
-ghost use Rattle.std.specs.Prelude.{◌≡◌, true, ◌-◌, ◌≤◌, ◌<◌, length, take, drop};
+ghost use Rattle.std.specs.Prelude.{◌≡◌, ◌-◌, ◌≤◌, ◌<◌, IfSome, length, take, drop};
 ghost use Rattle.datecheck.specs.Goes.{Went, Refilled, Turned};
 
 use sheets::{State, Taken};
@@ -29,14 +29,12 @@ struct Done {
     state: State,
 }
 
-// What is kept between turns: the bytes of the block from a place to another are not taken yet; whether the file ends behind them, and
-// whether to go on.
+// What is kept between turns: the bytes of the block from a place to another are not taken yet, and whether the file ends behind them.
 #[derive(Clone, Copy)]
 struct Progress {
     from: usize,
     have: usize,
     last: bool,
-    more: bool,
     state: State,
 }
 
@@ -78,7 +76,8 @@ fn stopped(from: usize, put: usize, stop: Stop, state: State) -> Done
     }
 }
 
-// Moves what was not taken to the front of the block, and reads behind it, where there is room; nothing read is the file's end.
+// Moves what was not taken to the front of the block, and reads behind it, where there is room; nothing read is the file's end. `None`:
+// it cannot be read.
 fn refill<R: Read>(
     rt: &impl Eprint,
     file: &mut R,
@@ -86,34 +85,24 @@ fn refill<R: Read>(
     from: usize,
     have: usize,
     state: State,
-) -> Progress
+) -> Option<Progress>
     requires { (from ≤ have) × ((have ≤ length buf.old) × (have - from < length buf.old)) }
-    ensures from_le_have { (result.from ≤ result.have) × (result.have ≤ length buf.new) }
-    ensures state_value { (result.state ≡ state) × (result.more ≡ true → Refilled (drop from (take have buf.old)) result.last (drop result.from (take result.have buf.new))) }
+    ensures from_le_have { IfSome result λ p. (p.from ≤ p.have) × (p.have ≤ length buf.new) }
+    ensures state_value { IfSome result λ p. (p.state ≡ state) × Refilled (drop from (take have buf.old)) p.last (drop p.from (take p.have buf.new)) }
 {
     let n = have - from;
     blocks::move_down(buf, from, have);
-    let got = blocks::read_on(rt, file, "the file", &mut buf[n..]);
-    if got < 0 {
-        return Progress {
-            from: 0,
-            have: 0,
-            last: true,
-            more: false,
-            state,
-        };
-    }
-    Progress {
+    let got = blocks::read_on(rt, file, "the file", &mut buf[n..])?;
+    Some(Progress {
         from: 0,
-        have: n + got as usize,
+        have: n + got,
         last: got == 0,
-        more: true,
         state,
-    }
+    })
 }
 
 // The steps over what stands in the block. What they put is out before the next turn, and before the next read. Steps that wait have left so
-// little that there is room to read.
+// little that there is room to read. `None`: it was the last turn.
 fn turn<R: Read>(
     rt: &(impl Print + Eprint),
     file: &mut R,
@@ -121,46 +110,29 @@ fn turn<R: Read>(
     table: &mut [usize; 512],
     out: &mut [u8],
     p: Progress,
-) -> Progress
+) -> Option<Progress>
     requires { (p.from ≤ p.have) × ((p.have ≤ length buf.old) × (65539 < length buf.old)) }
-    ensures from_le_have { (result.from ≤ result.have) × (result.have ≤ length buf.new) }
-    ensures turned { result.more ≡ true → Turned p.last (drop p.from (take p.have buf.old)) p.state out.new result.last (drop result.from (take result.have buf.new)) result.state }
+    ensures from_le_have { IfSome result λ q. (q.from ≤ q.have) × (q.have ≤ length buf.new) }
+    ensures turned { IfSome result λ q. Turned p.last (drop p.from (take p.have buf.old)) p.state out.new q.last (drop q.from (take q.have buf.new)) q.state }
 {
-    let from = p.from;
-    let have = p.have;
-    let st = p.state;
-    let d = steps(&buf[from..have], p.last, st, table, out);
-    let at = from + d.from;
-    let kept = d.state;
-    let good = blocks::flush(rt, out, d.put);
-    let stop = d.stop;
-    match stop {
-        Stop::Waits => {
-            if good {
-                return refill(rt, file, buf, at, have, kept);
-            }
-        }
-        Stop::Full => {
-            return Progress {
-                from: at,
-                have,
-                last: p.last,
-                more: good,
-                state: kept,
-            };
-        }
-        Stop::Over => {}
+    let d = steps(&buf[p.from..p.have], p.last, p.state, table, out);
+    if !blocks::flush(rt, out, d.put) {
+        return None;
     }
-    Progress {
-        from: 0,
-        have: 0,
-        last: true,
-        more: false,
-        state: kept,
+    let at = p.from + d.from;
+    match d.stop {
+        Stop::Waits => refill(rt, file, buf, at, p.have, d.state),
+        Stop::Full => Some(Progress {
+            from: at,
+            have: p.have,
+            last: p.last,
+            state: d.state,
+        }),
+        Stop::Over => None,
     }
 }
 
-// The loop: a count of turns that no run uses up falls.
+// The loop: so many turns that no run uses them up.
 fn run<R: Read>(
     rt: &(impl Print + Eprint),
     file: &mut R,
@@ -170,17 +142,17 @@ fn run<R: Read>(
 )
     requires { 65539 < length buf.old }
 {
-    let mut turns = u64::MAX;
     let mut p = Progress {
         from: 0,
         have: 0,
         last: false,
-        more: true,
         state: sheets::fresh(),
     };
-    while turns > 0 && p.more {
-        p = turn(rt, file, buf, table, out, p);
-        turns -= 1;
+    for _turn in 0..u64::MAX {
+        let Some(q) = turn(rt, file, buf, table, out, p) else {
+            return;
+        };
+        p = q;
     }
 }
 

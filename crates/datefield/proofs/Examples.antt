@@ -22,18 +22,16 @@ use Rattle.numbers.specs.Number.{admits, run_value, run_of, run_at, parse_unsign
 use Rattle.numbers.specs.Parse.{whole_value, digits_from, parse}
 use Rattle.numbers.specs.Trim.{step_by, step_over, trim_step, trim_from, trim_end}
 use Rattle.dates.specs.Calendar.{multiple, leap_year, february, month_lengths, month_length}
-use Rattle.dates.specs.declared.OptionMonth.TheVariants.{NoMonth}
-use Rattle.dates.specs.declared.OptionDay.TheVariants.{NoDay}
-use Rattle.dates.specs.declared.OptionTime.TheVariants.{NoTime}
+use Rattle.dates.specs.declared.Date.{Date}
+use Rattle.refusals.specs.declared.Refusal.{Refusal}
+use Rattle.std.specs.Prelude.{None, Result, Ok, Err}
 use Rattle.dates.specs.declared.Datetime.{Datetime}
 use Rattle.dates.specs.declared.DateValue.{DateValue}
 use Rattle.dates.specs.declared.DateValue.TheVariants.{At, After, Before, Between}
 use Rattle.dates.specs.Value.{datetime, date, month as stored, day}
-use Rattle.points.specs.Step.{stored_part, part_at, month_at, day_at, hyphen_or, hyphen_from, hyphen_at, on_part, on_separator, or_end}
+use Rattle.points.specs.Step.{refuse_number, stored_part, part_at, month_at, day_at, hyphen_or, hyphen_from, hyphen_at, on_part, on_separator, or_end}
 use Rattle.points.specs.Point.{windowed, windowed_int, short_year, long_of, long_year, short_or, year_at, on_year, with_time, time_or, behind_day, behind_month, behind_year, point}
 use Rattle.xranges.specs.Range as x
-use Rattle.refusals.specs.declared.ReadDate.{ReadDate}
-use Rattle.refusals.specs.declared.ReadDate.TheVariants.{Accepted, Refused}
 use Rattle.datefield.specs.Text.{trimmed, last_byte, is_uncertain, is_approximate, unmarked, first_of, is_blank, is_dots, is_open}
 use Rattle.datefield.specs.Value.{moved, first_half, second_half, on_half, both_halves, halves, x_range, value, marked, trimmed_date, parse_text}
 
@@ -41,31 +39,31 @@ use Rattle.datefield.specs.Value.{moved, first_half, second_half, on_half, both_
 pub record Example : Type 0 where
   pub text : String
   pub span : FileSpan
-  pub says : ReadDate
+  pub says : Result Date Refusal
 
 -- a year alone
 abbrev year : ℕ → Datetime
-year y = datetime (pos y) NoMonth NoDay NoTime
+year y = datetime (pos y) None None None
 
 -- a date without a mark
 abbrev is : String → DateValue → Example
-is t v = record { text = t; span = file_span 100 200; says = Accepted (date v false false) }
+is t v = record { text = t; span = file_span 100 200; says = Ok (date v false false) }
 
 -- a refusal, in a list whose span starts at 100
 abbrev no : String → Kind → ℕ → ℕ → Example
-no t k a e = record { text = t; span = file_span 100 200; says = Refused (record { kind = k; place = file_span a e }) }
+no t k a e = record { text = t; span = file_span 100 200; says = Err (record { kind = k; place = file_span a e }) }
 
 -- a refusal, in a list whose span starts so many bytes before the largest number, 2^64 - 1
 abbrev far : String → ℕ → Kind → ℕ → ℕ → Example
-far t start k a e = record { text = t; span = file_span start 0; says = Refused (record { kind = k; place = file_span a e }) }
+far t start k a e = record { text = t; span = file_span start 0; says = Err (record { kind = k; place = file_span a e }) }
 
 abbrev pub table : List Example
 table =
     is "49" (At (year 2049))
-    ∷ record { text = "49?"; span = file_span 100 200; says = Accepted (date (At (year 2049)) true false) }
-    ∷ record { text = "49~"; span = file_span 100 200; says = Accepted (date (At (year 2049)) false true) }
-    ∷ record { text = "49 % "; span = file_span 100 200; says = Accepted (date (At (year 2049)) true true) }
-    ∷ record { text = "2000/ ?"; span = file_span 100 200; says = Accepted (date (After (year 2000)) true false) }
+    ∷ record { text = "49?"; span = file_span 100 200; says = Ok (date (At (year 2049)) true false) }
+    ∷ record { text = "49~"; span = file_span 100 200; says = Ok (date (At (year 2049)) false true) }
+    ∷ record { text = "49 % "; span = file_span 100 200; says = Ok (date (At (year 2049)) true true) }
+    ∷ record { text = "2000/ ?"; span = file_span 100 200; says = Ok (date (After (year 2000)) true false) }
     ∷ is "2000/2001" (Between (year 2000) (year 2001))
     ∷ is "2001/2000" (Between (year 2001) (year 2000))
     ∷ is "2000/.." (After (year 2000))
@@ -73,7 +71,7 @@ table =
     ∷ is "../2000" (Before (year 2000))
     ∷ is " /2000" (Before (year 2000))
     ∷ is "19XX/2005" (Between (year 1900) (year 1999))
-    ∷ is "2000-02-XX" (Between (datetime (pos 2000) (stored 1) (day 0) NoTime) (datetime (pos 2000) (stored 1) (day 30) NoTime))
+    ∷ is "2000-02-XX" (Between (datetime (pos 2000) (stored 1) (day 0) None) (datetime (pos 2000) (stored 1) (day 30) None))
     ∷ no "../.." UndefinedRange 100 200
     ∷ no "/" UndefinedRange 100 200
     ∷ no "" InvalidFormat 100 100
@@ -101,5 +99,5 @@ table =
     ∷ []
 
 pub examples : map (λ (e : Example). parse_text e.span (ascii e.text)) table ≡ map (λ (e : Example). e.says) table
-unfolding pick digit_of within is_whitespace is_ascii_digit is_numeric signed len_of is_cont is_surrogate decode2 decode3 decode4 decode first decode_at in_class len_in match_len walk eat_while eat_if eaten eat_at stands_at done_at part refusal saturating_add offset offset_second admits run_value run_of run_at parse_unsigned_int or_kept behind_sign with_sign scanned_at next_run signed_at signed_run int_of parse_int whole_value digits_from parse step_by step_over trim_step trim_from trim_end multiple leap_year february month_lengths month_length stored_part part_at month_at day_at hyphen_or hyphen_from hyphen_at on_part on_separator or_end windowed windowed_int short_year long_of long_year short_or year_at on_year with_time time_or behind_day behind_month behind_year point x.hyphen_run x.hyphen_from x.get_hyphen x.on_hyphen x.on_value x.years x.months x.days x.second_run x.second_at x.behind_months x.end_of_days x.day_run x.behind_month x.month_run x.month x.months_run x.behind_year x.year_run x.digit_run x.range_from x.range_dates trimmed last_byte is_uncertain is_approximate unmarked first_of is_blank is_dots is_open moved first_half second_half on_half both_halves halves x_range value marked trimmed_date parse_text
+unfolding pick digit_of within is_whitespace is_ascii_digit is_numeric signed len_of is_cont is_surrogate decode2 decode3 decode4 decode first decode_at in_class len_in match_len walk eat_while eat_if eaten eat_at stands_at done_at part refusal saturating_add offset offset_second admits run_value run_of run_at parse_unsigned_int or_kept behind_sign with_sign scanned_at next_run signed_at signed_run int_of parse_int whole_value digits_from parse step_by step_over trim_step trim_from trim_end multiple leap_year february month_lengths month_length stored_part refuse_number part_at month_at day_at hyphen_or hyphen_from hyphen_at on_part on_separator or_end windowed windowed_int short_year long_of long_year short_or year_at on_year with_time time_or behind_day behind_month behind_year point x.hyphen_run x.hyphen_from x.get_hyphen x.on_hyphen x.on_value x.years x.months x.days x.second_run x.second_at x.behind_months x.end_of_days x.day_run x.behind_month x.month_run x.month x.months_run x.behind_year x.year_run x.digit_run x.range_from x.range_dates trimmed last_byte is_uncertain is_approximate unmarked first_of is_blank is_dots is_open moved first_half second_half on_half both_halves halves x_range value marked trimmed_date parse_text
 examples = refl

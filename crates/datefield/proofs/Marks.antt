@@ -9,8 +9,10 @@ use lib.ListN.{length, take}
 use lib.Seq.{take-length}
 use Rattle.chars.specs.Pick.{pick}
 use Rattle.refusals.specs.declared.FileSpan.{FileSpan}
-use Rattle.datefield.specs.declared.ReadValue.{ReadValue}
-use Rattle.refusals.specs.declared.ReadDate.{ReadDate}
+use Rattle.dates.specs.declared.Date.{Date}
+use Rattle.dates.specs.declared.DateValue.{DateValue}
+use Rattle.refusals.specs.declared.Refusal.{Refusal}
+use Rattle.std.specs.Prelude.{Result}
 use Rattle.datefield.specs.Text.{last_byte, is_uncertain, is_approximate, unmarked}
 use Rattle.datefield.specs.Value.{value, marked, trimmed_date}
 
@@ -33,6 +35,6 @@ module _ (s : List ℕ) {u a : Bool} (f : u ≡ is_uncertain (last_byte s)) (g :
   unfolding unmarked pick
   mark-none t = rw (← f, ← g, t, take-length s)
 
-  pub mark-date : (span : FileSpan) {t : List ℕ} {v : ReadValue} {r : ReadDate} → t ≡ unmarked s → v ≡ value span t → r ≡ marked u a v → r ≡ trimmed_date span s
+  pub mark-date : (span : FileSpan) {t : List ℕ} {v : Result DateValue Refusal} {r : Result Date Refusal} → t ≡ unmarked s → v ≡ value span t → r ≡ marked u a v → r ≡ trimmed_date span s
   unfolding trimmed_date
   mark-date span h k l = l ∙ rw (f, g, k, h)

@@ -5,8 +5,9 @@ use mathlib.Core.Path.{◌≡◌, refl}
 use mathlib.Core.List.{List, [], ◌∷◌, map}
 use Rattle.chars.specs.Ascii.{ascii}
 use Rattle.chars.specs.Signs.{signed}
-use Rattle.refusals.specs.declared.ReadDate.{ReadDate}
-use Rattle.refusals.specs.declared.ReadDate.TheVariants.{Accepted, Refused}
+use Rattle.dates.specs.declared.Date.{Date}
+use Rattle.refusals.specs.declared.Refusal.{Refusal}
+use Rattle.std.specs.Prelude.{Result, Ok, Err}
 use Rattle.refusals.specs.Refusal.{number, file_span}
 use Rattle.datefield.specs.Value.{parse_text}
 use Rattle.chars.specs.Ascii as chars_ascii
@@ -27,9 +28,9 @@ use Rattle.datefield.specs.Text as datefield_text
 use Rattle.datefield.specs.Value as datefield_value
 
 -- what is answered in numbers: 0, or the refusal's own, its start and its end
-abbrev pub shown : ReadDate → List ℕ
-shown (Accepted d) = 0 ∷ []
-shown (Refused e) = number e.kind ∷ e.place.0 ∷ e.place.1 ∷ []
+abbrev pub shown : Result Date Refusal → List ℕ
+shown (Ok d) = 0 ∷ []
+shown (Err e) = number e.kind ∷ e.place.0 ∷ e.place.1 ∷ []
 
 -- a text in upper case, with its span in the file, and what is answered
 pub record Row : Type 0 where
@@ -65,5 +66,5 @@ rows =
     ∷ []
 
 pub places : map (λ (r : Row). shown (parse_text (file_span r.start r.end) (ascii r.text))) rows ≡ map (λ (r : Row). r.says) rows
-unfolding chars_ascii.digit_of chars_classes.within chars_classes.is_whitespace chars_classes.is_ascii_digit chars_classes.is_numeric chars_pick.pick chars_utf8.len_of chars_utf8.decode chars_utf8.first chars_utf8.decode_at scanner_class.in_class scanner_scan.len_in scanner_scan.match_len scanner_scan.walk scanner_scan.eat_while scanner_scan.eat_if scanner_scan.done_at scanner_scan.part scanner_scan.run_at scanner_scan.next_run refusals_offset.saturating_add refusals_offset.offset refusals_offset.offset_second refusals_refusal.refusal numbers_number.admits numbers_number.run_value numbers_number.run_of numbers_number.run_at numbers_number.parse_unsigned_int numbers_number.or_kept numbers_number.behind_sign signed numbers_number.with_sign numbers_number.signed_at numbers_number.signed_run numbers_number.int_of numbers_number.parse_int numbers_parse.whole_value numbers_parse.digits_from numbers_parse.parse numbers_trim.step_by numbers_trim.step_over numbers_trim.trim_step numbers_trim.trim_from numbers_trim.trim_end points_point.windowed_int points_point.short_year points_point.long_of points_point.long_year points_point.short_or points_point.year_at points_point.on_year points_point.behind_year points_point.point points_step.or_end xranges_range.digit_run xranges_range.year_run xranges_range.range_from xranges_range.range_dates datefield_text.trimmed datefield_text.last_byte datefield_text.is_uncertain datefield_text.is_approximate datefield_text.unmarked datefield_text.first_of datefield_text.is_blank datefield_text.is_dots datefield_text.is_open datefield_value.moved datefield_value.first_half datefield_value.second_half datefield_value.on_half datefield_value.both_halves datefield_value.halves datefield_value.x_range datefield_value.value datefield_value.marked datefield_value.trimmed_date datefield_value.parse_text
+unfolding chars_ascii.digit_of chars_classes.within chars_classes.is_whitespace chars_classes.is_ascii_digit chars_classes.is_numeric chars_pick.pick chars_utf8.len_of chars_utf8.decode chars_utf8.first chars_utf8.decode_at scanner_class.in_class scanner_scan.len_in scanner_scan.match_len scanner_scan.walk scanner_scan.eat_while scanner_scan.eat_if scanner_scan.done_at scanner_scan.part scanner_scan.run_at scanner_scan.next_run refusals_offset.saturating_add refusals_offset.offset refusals_offset.offset_second refusals_refusal.refusal numbers_number.admits numbers_number.run_value numbers_number.run_of numbers_number.run_at numbers_number.parse_unsigned_int numbers_number.or_kept numbers_number.behind_sign signed numbers_number.with_sign numbers_number.signed_at numbers_number.signed_run numbers_number.int_of numbers_number.parse_int numbers_parse.whole_value numbers_parse.digits_from numbers_parse.parse numbers_trim.step_by numbers_trim.step_over numbers_trim.trim_step numbers_trim.trim_from numbers_trim.trim_end points_point.windowed_int points_point.short_year points_point.long_of points_point.long_year points_point.short_or points_point.year_at points_point.on_year points_point.behind_year points_point.point points_step.or_end points_step.refuse_number xranges_range.digit_run xranges_range.year_run xranges_range.range_from xranges_range.range_dates datefield_text.trimmed datefield_text.last_byte datefield_text.is_uncertain datefield_text.is_approximate datefield_text.unmarked datefield_text.first_of datefield_text.is_blank datefield_text.is_dots datefield_text.is_open datefield_value.moved datefield_value.first_half datefield_value.second_half datefield_value.on_half datefield_value.both_halves datefield_value.halves datefield_value.x_range datefield_value.value datefield_value.marked datefield_value.trimmed_date datefield_value.parse_text
 places = refl

@@ -7,24 +7,8 @@ ghost use Rattle.datefield.specs.Text as text;
 ghost use Rattle.datefield.specs.Value as spec;
 
 use dates::{Date, DateValue, Datetime};
-use points::ReadPoint;
-use refusals::{FileSpan, Kind, ReadDate, Refusal};
+use refusals::{FileSpan, Kind, Refusal, TextRefusal};
 use scanner::Cursor;
-use xranges::ReadRange;
-
-// A half of a range, or why it is refused.
-#[derive(Clone, Copy)]
-pub enum ReadHalf {
-    Half(Datetime),
-    NoHalf(Refusal),
-}
-
-// What a text without its mark says, or why it is refused.
-#[derive(Clone, Copy)]
-pub enum ReadValue {
-    Read(DateValue),
-    NoValue(Refusal),
-}
 
 // Whether none of sixteen bytes is b. None of them decides where the loop goes on: the compiler takes them all at once.
 fn lacks(s: &[u8], at: usize, b: u8) -> bool
@@ -32,10 +16,8 @@ fn lacks(s: &[u8], at: usize, b: u8) -> bool
     ensures { result ≡ true → at + 16 + text.first_of b (drop (at + 16) s.now) ≡ at + text.first_of b (drop at s.now) }
 {
     let mut ok = true;
-    let mut i = 0;
-    while i < 16 {
+    for i in 0..16 {
         ok = ok & (s[at + i] != b);
-        i = i + 1;
     }
     ok
 }
@@ -44,29 +26,24 @@ fn lacks(s: &[u8], at: usize, b: u8) -> bool
 fn skip(s: &[u8], b: u8) -> usize
     ensures { (result + text.first_of b (drop result s.now) ≡ text.first_of b s.now) × (result ≤ length s.now) }
 {
-    let mut i = 0;
-    while 16 <= s.len() - i {
-        if lacks(s, i, b) {
-            i = i + 16;
-        } else {
-            return i;
+    for k in 0..s.len() / 16 {
+        if !lacks(s, 16 * k, b) {
+            return 16 * k;
         }
     }
-    i
+    s.len() / 16 * 16
 }
 
 // The place of the first byte that is b, or the end.
 fn find(s: &[u8], b: u8) -> usize
     ensures { result ≡ text.first_of b s.now }
 {
-    let mut i = skip(s, b);
-    while i < s.len() {
+    for i in skip(s, b)..s.len() {
         if s[i] == b {
             return i;
         }
-        i = i + 1;
     }
-    i
+    s.len()
 }
 
 // White space alone, or nothing.
@@ -97,17 +74,15 @@ fn is_open_range(s: &[u8]) -> bool
 }
 
 // A point of the text; a refusal has its place moved by the span's start.
-fn moved(p: ReadPoint, start: u64) -> ReadHalf
+#[tactic(auto, unfolding(crate::specs::Value::moved))]
+fn moved(p: Result<Datetime, TextRefusal>, start: u64) -> Result<Datetime, Refusal>
     ensures { result ≡ spec.moved p (λ e. offset e start) }
 {
-    match p {
-        ReadPoint::Point(d) => ReadHalf::Half(d),
-        ReadPoint::Refused(e) => ReadHalf::NoHalf(refusals::offset(e, start)),
-    }
+    p.map_err(|e| refusals::offset(e, start))
 }
 
 // The half before the slash. It starts where the text does.
-fn first_half(s: &[u8], slash: usize, span: FileSpan) -> ReadHalf
+fn first_half(s: &[u8], slash: usize, span: FileSpan) -> Result<Datetime, Refusal>
     requires { slash < length s.now }
     ensures { result ≡ spec.first_half span s.now slash }
 {
@@ -115,32 +90,28 @@ fn first_half(s: &[u8], slash: usize, span: FileSpan) -> ReadHalf
 }
 
 // The half behind the slash. Its place is counted from there, and moves by the slash too.
-fn second_half(s: &[u8], slash: usize, span: FileSpan) -> ReadHalf
+#[tactic(auto, unfolding(crate::specs::Value::second_half, crate::specs::Value::moved))]
+fn second_half(s: &[u8], slash: usize, span: FileSpan) -> Result<Datetime, Refusal>
     requires { slash < length s.now }
     ensures { result ≡ spec.second_half span s.now slash }
 {
-    match points::parse(&s[slash + 1..]) {
-        ReadPoint::Point(d) => ReadHalf::Half(d),
-        ReadPoint::Refused(e) => ReadHalf::NoHalf(refusals::offset_second(e, span.0, slash)),
-    }
+    points::parse(&s[slash + 1..]).map_err(|e| refusals::offset_second(e, span.0, slash))
 }
 
 // Both halves; the first is refused first. A start after the end is accepted.
-fn both_halves(s: &[u8], slash: usize, span: FileSpan) -> ReadValue
+#[tactic(auto, unfolding(crate::specs::Value::both_halves, crate::specs::Value::on_half))]
+fn both_halves(s: &[u8], slash: usize, span: FileSpan) -> Result<DateValue, Refusal>
     requires { slash < length s.now }
     ensures { result ≡ spec.both_halves span s.now slash }
 {
-    match first_half(s, slash, span) {
-        ReadHalf::Half(a) => match second_half(s, slash, span) {
-            ReadHalf::Half(b) => ReadValue::Read(DateValue::Between(a, b)),
-            ReadHalf::NoHalf(e) => ReadValue::NoValue(e),
-        },
-        ReadHalf::NoHalf(e) => ReadValue::NoValue(e),
-    }
+    let a = first_half(s, slash, span)?;
+    let b = second_half(s, slash, span)?;
+    Ok(DateValue::Between(a, b))
 }
 
 // A range with a slash: which of its halves are open.
-fn halves(s: &[u8], slash: usize, span: FileSpan) -> ReadValue
+#[tactic(auto, unfolding(crate::specs::Value::halves, crate::specs::Value::on_half, chars::specs::Pick::pick))]
+fn halves(s: &[u8], slash: usize, span: FileSpan) -> Result<DateValue, Refusal>
     requires { slash < length s.now }
     ensures { result ≡ spec.halves span s.now slash }
 {
@@ -148,42 +119,33 @@ fn halves(s: &[u8], slash: usize, span: FileSpan) -> ReadValue
     let second = is_open_range(&s[slash + 1..]);
     if first {
         if second {
-            return ReadValue::NoValue(refusals::refuse(Kind::UndefinedRange, span));
+            return Err(refusals::refuse(Kind::UndefinedRange, span));
         }
-        return match second_half(s, slash, span) {
-            ReadHalf::Half(b) => ReadValue::Read(DateValue::Before(b)),
-            ReadHalf::NoHalf(e) => ReadValue::NoValue(e),
-        };
+        return Ok(DateValue::Before(second_half(s, slash, span)?));
     }
     if second {
-        return match first_half(s, slash, span) {
-            ReadHalf::Half(a) => ReadValue::Read(DateValue::After(a)),
-            ReadHalf::NoHalf(e) => ReadValue::NoValue(e),
-        };
+        return Ok(DateValue::After(first_half(s, slash, span)?));
     }
     both_halves(s, slash, span)
 }
 
 // What a text without its mark says: an X anywhere makes it an X range, else a slash a range.
-fn read_value(s: &[u8], span: FileSpan) -> ReadValue
+#[tactic(auto, unfolding(crate::specs::Value::value, crate::specs::Value::x_range, crate::specs::Value::on_half, chars::specs::Pick::pick))]
+fn read_value(s: &[u8], span: FileSpan) -> Result<DateValue, Refusal>
     ensures { result ≡ spec.value span s.now }
 {
     let start = span.0;
     let x = find(s, b'X');
     if x < s.len() {
-        return match xranges::range_dates(s) {
-            ReadRange::Range(a, b) => ReadValue::Read(DateValue::Between(a, b)),
-            ReadRange::NoRange(e) => ReadValue::NoValue(refusals::offset(e, start)),
-        };
+        let (a, b) = xranges::range_dates(s).map_err(|e| refusals::offset(e, start))?;
+        return Ok(DateValue::Between(a, b));
     }
     let slash = find(s, b'/');
     if slash < s.len() {
         return halves(s, slash, span);
     }
-    match moved(points::parse(s), start) {
-        ReadHalf::Half(d) => ReadValue::Read(DateValue::At(d)),
-        ReadHalf::NoHalf(e) => ReadValue::NoValue(e),
-    }
+    let d = moved(points::parse(s), start)?;
+    Ok(DateValue::At(d))
 }
 
 fn is_uncertain(mark: u8) -> bool
@@ -210,17 +172,20 @@ fn last_byte(s: &[u8]) -> u8
 }
 
 // The marks are those of the whole Date, not of one end.
-fn marked(value: ReadValue, uncertain: bool, approximate: bool) -> ReadDate
+#[tactic(auto, unfolding(crate::specs::Value::marked))]
+fn marked(
+    value: Result<DateValue, Refusal>,
+    uncertain: bool,
+    approximate: bool,
+) -> Result<Date, Refusal>
     ensures { result ≡ spec.marked uncertain approximate value }
 {
-    match value {
-        ReadValue::Read(v) => ReadDate::Accepted(Date {
-            value: v,
-            uncertain,
-            approximate,
-        }),
-        ReadValue::NoValue(e) => ReadDate::Refused(e),
-    }
+    let v = value?;
+    Ok(Date {
+        value: v,
+        uncertain,
+        approximate,
+    })
 }
 
 // How many bytes stand before the mark: all where there is none.
@@ -235,7 +200,7 @@ fn unmarked_length(s: &[u8], uncertain: bool, approximate: bool) -> usize
 }
 
 // A text that is trimmed: one final mark is dropped, and the rest is read.
-fn read_trimmed(s: &[u8], span: FileSpan) -> ReadDate
+fn read_trimmed(s: &[u8], span: FileSpan) -> Result<Date, Refusal>
     ensures { result ≡ spec.trimmed_date span s.now }
 {
     let mark = last_byte(s);
@@ -246,7 +211,7 @@ fn read_trimmed(s: &[u8], span: FileSpan) -> ReadDate
 }
 
 // The text of a date field, in upper case, of a chunk list with this span.
-pub fn parse_text(s: &[u8], span: FileSpan) -> ReadDate
+pub fn parse_text(s: &[u8], span: FileSpan) -> Result<Date, Refusal>
     ensures { result ≡ spec.parse_text span s.now }
 {
     let end = numbers::trim_end(s);

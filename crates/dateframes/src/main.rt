@@ -3,20 +3,25 @@
 // input comes in blocks, is proved of the crate lines; here is only the reading and the writing.
 #![tactic(auto)]
 
-ghost use Rattle.std.specs.Prelude.{◌≡◌, true, [], ◌+◌, ◌≤◌, ◌<◌, length, take, drop};
+ghost use Rattle.std.specs.Prelude.{◌≡◌, true, [], ◌+◌, ◌≤◌, ◌<◌, IfSome, length, take, drop};
 ghost use Rattle.lines.specs.Lines.{NoFeed};
 ghost use Rattle.lines.specs.Runs.{Onward};
 ghost use Rattle.frames.specs.Frame.{line_answer};
 
 use std::io::Read;
 
-// What is kept between reads: how many bytes of a line stand at the front of the block, whether that line is too long already, and whether
-// to go on.
+// What is kept between reads: how many bytes of a line stand at the front of the block, and whether that line is too long already.
 #[derive(Clone, Copy)]
 struct State {
     have: usize,
     long: bool,
-    more: bool,
+}
+
+// What is left of a block behind its complete lines, and whether all their answers were written.
+#[derive(Clone, Copy)]
+struct Left {
+    state: State,
+    good: bool,
 }
 
 // Where the lines of a block end: the start of the rest, whether its line is too long already, and whether all answers were written.
@@ -62,64 +67,60 @@ fn answer_read(
     count: usize,
     long: bool,
     out: &mut [u8],
-) -> State
+) -> Left
     requires { (have + count ≤ length buf.old) × (147 ≤ length out.old) }
-    ensures onward { Onward line_answer 16384 (take count (drop have buf.old)) (take have buf.old) long (take result.have buf.new) result.long }
-    ensures no_feed { result.more ≡ true → NoFeed (take result.have buf.new) × (result.have ≤ 16384) }
+    ensures onward { Onward line_answer 16384 (take count (drop have buf.old)) (take have buf.old) long (take result.state.have buf.new) result.state.long }
+    ensures no_feed { result.good ≡ true → NoFeed (take result.state.have buf.new) × (result.state.have ≤ 16384) }
 {
     let n = have + count;
     let d = steps(rt, &buf[..n], long, out);
     let from = d.from;
     blocks::move_down(buf, from, n);
-    State {
+    let state = State {
         have: n - from,
         long: d.long,
-        more: d.good,
+    };
+    Left {
+        state,
+        good: d.good,
     }
 }
 
-// One read, and the lines that it completes: their answers are out before the next.
+// One read, and the lines that it completes: their answers are out before the next. `None`: it was the last turn.
 fn turn<R: Read>(
     rt: &(impl Print + Eprint),
     input: &mut R,
     buf: &mut [u8],
     out: &mut [u8],
     st: State,
-) -> State
+) -> Option<State>
     requires { (st.have ≤ length buf.old) × (147 ≤ length out.old) }
-    ensures { result.more ≡ true → NoFeed (take result.have buf.new) × (result.have ≤ 16384) }
+    ensures { IfSome result λ q. NoFeed (take q.have buf.new) × (q.have ≤ 16384) }
 {
     let have = st.have;
-    let stop = State {
-        have: 0,
-        long: false,
-        more: false,
-    };
-    let got = blocks::read_on(rt, input, "standard input", &mut buf[have..]);
-    if got < 0 {
-        return stop;
-    }
+    let got = blocks::read_on(rt, input, "standard input", &mut buf[have..])?;
     if got == 0 {
         let k = lines::finish(&buf[..have], st.long, out);
         blocks::flush(rt, out, k);
-        return stop;
+        return None;
     }
-    answer_read(rt, buf, have, got as usize, st.long, out)
+    let left = answer_read(rt, buf, have, got, st.long, out);
+    if left.good { Some(left.state) } else { None }
 }
 
-// The loop: a count of turns that no run uses up falls.
+// The loop: so many turns that no run uses them up.
 fn run<R: Read>(rt: &(impl Print + Eprint), input: &mut R, buf: &mut [u8], out: &mut [u8])
     requires { (16384 < length buf.old) × (147 ≤ length out.old) }
 {
-    let mut turns = u64::MAX;
     let mut st = State {
         have: 0,
         long: false,
-        more: true,
     };
-    while turns > 0 && st.more {
-        st = turn(rt, input, buf, out, st);
-        turns -= 1;
+    for _turn in 0..u64::MAX {
+        let Some(next) = turn(rt, input, buf, out, st) else {
+            return;
+        };
+        st = next;
     }
 }
 

@@ -5,17 +5,13 @@ use mathlib.Core.List.{List, [], ◌∷◌, map}
 use Prim.Native.Nat.{ℕ}
 use lib.IntN.{ℤ, pos, negsuc}
 use Rattle.chars.specs.Pick.{pick}
-use Rattle.dates.specs.declared.OptionMonth.{OptionMonth}
-use Rattle.dates.specs.declared.OptionMonth.TheVariants.{NoMonth}
-use Rattle.dates.specs.declared.OptionDay.{OptionDay}
-use Rattle.dates.specs.declared.OptionDay.TheVariants.{NoDay}
+use Rattle.dates.specs.declared.Day.{Day}
+use Rattle.dates.specs.declared.Month.{Month}
+use Rattle.dates.specs.declared.Season.TheVariants.{Autumn, Spring, Summer, Winter}
+use Rattle.dates.specs.declared.TimeOffset.{TimeOffset}
+use Rattle.std.specs.Prelude.{Option, Some, None}
 use Rattle.dates.specs.declared.TimeOffset.TheVariants.{Utc, Offset}
-use Rattle.dates.specs.declared.OptionOffset.{OptionOffset}
-use Rattle.dates.specs.declared.OptionOffset.TheVariants.{NoOffset, SomeOffset}
 use Rattle.dates.specs.declared.Time.{Time}
-use Rattle.dates.specs.declared.OptionTime.{OptionTime}
-use Rattle.dates.specs.declared.OptionTime.TheVariants.{NoTime, SomeTime}
-use Rattle.dates.specs.declared.OptionSeason.TheVariants.{NoSeason, Spring, Summer, Autumn, Winter}
 use Rattle.dates.specs.declared.DateValue.TheVariants.{At, After, Before, Between}
 use Rattle.dates.specs.Calendar.{multiple, leap_year, february, month_lengths, month_length}
 use Rattle.dates.specs.Clocks.{offset_in, zone_in, clock_in, day_beside_month, bad_time, has_bad_time}
@@ -76,8 +72,8 @@ unfolding month_length month_lengths february leap_year multiple
 leap-year = refl
 
 -- an offset of hours and minutes ahead of UTC, or behind
-abbrev pub shifted : Bool → ℕ → ℕ → OptionOffset
-shifted positive h m = SomeOffset (Offset positive h m)
+abbrev pub shifted : Bool → ℕ → ℕ → Option TimeOffset
+shifted positive h m = Some (Offset positive h m)
 
 -- a time, and its seconds in UTC
 pub record Seconds : Type 0 where
@@ -86,11 +82,11 @@ pub record Seconds : Type 0 where
 
 abbrev pub times : List Seconds
 times =
-    record { of = time 0 0 0 NoOffset; are = pos 0 }
-    ∷ record { of = time 0 0 1 NoOffset; are = pos 1 }
-    ∷ record { of = time 0 1 0 NoOffset; are = pos 60 }
-    ∷ record { of = time 1 0 0 NoOffset; are = pos 3600 }
-    ∷ record { of = time 23 59 59 (SomeOffset Utc); are = pos 86399 }
+    record { of = time 0 0 0 None; are = pos 0 }
+    ∷ record { of = time 0 0 1 None; are = pos 1 }
+    ∷ record { of = time 0 1 0 None; are = pos 60 }
+    ∷ record { of = time 1 0 0 None; are = pos 3600 }
+    ∷ record { of = time 23 59 59 (Some Utc); are = pos 86399 }
     ∷ record { of = time 0 0 0 (shifted true 0 0); are = pos 0 }
     ∷ record { of = time 0 0 0 (shifted false 0 0); are = pos 0 }
     ∷ record { of = time 12 0 0 (shifted true 2 30); are = pos 34200 }
@@ -105,34 +101,34 @@ unfolding utc_seconds ahead_of offset_seconds ahead_or_behind seconds
 all-seconds = refl
 
 -- which times are made; the offset is not looked at
-pub all_made : time_of 23 59 59 NoOffset ∷ time_of 0 0 0 (shifted true 24 60) ∷ time_of 24 0 0 NoOffset ∷ time_of 0 60 0 NoOffset ∷ time_of 23 59 60 NoOffset ∷ []
-    ≡ SomeTime (time 23 59 59 NoOffset) ∷ SomeTime (time 0 0 0 (shifted true 24 60)) ∷ NoTime ∷ NoTime ∷ NoTime ∷ []
+pub all_made : time_of 23 59 59 None ∷ time_of 0 0 0 (shifted true 24 60) ∷ time_of 24 0 0 None ∷ time_of 0 60 0 None ∷ time_of 23 59 60 None ∷ []
+    ≡ Some (time 23 59 59 None) ∷ Some (time 0 0 0 (shifted true 24 60)) ∷ None ∷ None ∷ None ∷ []
 unfolding time_of in_range pick
 all_made = refl
 
 -- a month, a day and a time, and whether the time is bad
 pub record Clocked : Type 0 where
-  pub month : OptionMonth
-  pub day : OptionDay
-  pub time : OptionTime
+  pub month : Option Month
+  pub day : Option Day
+  pub time : Option Time
   pub bad : Bool
 
 abbrev pub clocks : List Clocked
 clocks =
-    record { month = NoMonth; day = NoDay; time = NoTime; bad = false }
-    ∷ record { month = NoMonth; day = NoDay; time = SomeTime (time 0 0 0 NoOffset); bad = true }
-    ∷ record { month = NoMonth; day = day 0; time = SomeTime (time 0 0 0 NoOffset); bad = true }
-    ∷ record { month = month 0; day = NoDay; time = SomeTime (time 0 0 0 NoOffset); bad = true }
-    ∷ record { month = month 0; day = day 0; time = SomeTime (time 0 0 0 NoOffset); bad = false }
-    ∷ record { month = month 0; day = day 0; time = SomeTime (time 23 59 59 (SomeOffset Utc)); bad = false }
-    ∷ record { month = month 0; day = day 0; time = SomeTime (time 24 0 0 NoOffset); bad = true }
-    ∷ record { month = month 0; day = day 0; time = SomeTime (time 0 60 0 NoOffset); bad = true }
-    ∷ record { month = month 0; day = day 0; time = SomeTime (time 0 0 60 NoOffset); bad = true }
-    ∷ record { month = month 0; day = day 0; time = SomeTime (time 0 0 0 (shifted true 23 59)); bad = false }
-    ∷ record { month = month 0; day = day 0; time = SomeTime (time 0 0 0 (shifted false 23 59)); bad = false }
-    ∷ record { month = month 0; day = day 0; time = SomeTime (time 0 0 0 (shifted true 24 0)); bad = true }
-    ∷ record { month = month 0; day = day 0; time = SomeTime (time 0 0 0 (shifted false 0 60)); bad = true }
-    ∷ record { month = month 255; day = day 255; time = SomeTime (time 0 0 0 NoOffset); bad = false }
+    record { month = None; day = None; time = None; bad = false }
+    ∷ record { month = None; day = None; time = Some (time 0 0 0 None); bad = true }
+    ∷ record { month = None; day = day 0; time = Some (time 0 0 0 None); bad = true }
+    ∷ record { month = month 0; day = None; time = Some (time 0 0 0 None); bad = true }
+    ∷ record { month = month 0; day = day 0; time = Some (time 0 0 0 None); bad = false }
+    ∷ record { month = month 0; day = day 0; time = Some (time 23 59 59 (Some Utc)); bad = false }
+    ∷ record { month = month 0; day = day 0; time = Some (time 24 0 0 None); bad = true }
+    ∷ record { month = month 0; day = day 0; time = Some (time 0 60 0 None); bad = true }
+    ∷ record { month = month 0; day = day 0; time = Some (time 0 0 60 None); bad = true }
+    ∷ record { month = month 0; day = day 0; time = Some (time 0 0 0 (shifted true 23 59)); bad = false }
+    ∷ record { month = month 0; day = day 0; time = Some (time 0 0 0 (shifted false 23 59)); bad = false }
+    ∷ record { month = month 0; day = day 0; time = Some (time 0 0 0 (shifted true 24 0)); bad = true }
+    ∷ record { month = month 0; day = day 0; time = Some (time 0 0 0 (shifted false 0 60)); bad = true }
+    ∷ record { month = month 255; day = day 255; time = Some (time 0 0 0 None); bad = false }
     ∷ []
 
 pub all-clocks : map (λ (e : Clocked). has_bad_time (datetime (pos 2000) e.month e.day e.time)) clocks ≡ map (λ (e : Clocked). e.bad) clocks
@@ -140,12 +136,12 @@ unfolding has_bad_time bad_time day_beside_month clock_in zone_in offset_in in_r
 all-clocks = refl
 
 -- the numbers of the seasons
-pub all-seasons : season_number NoSeason ∷ season_number Spring ∷ season_number Summer ∷ season_number Autumn ∷ season_number Winter ∷ [] ≡ 0 ∷ 21 ∷ 22 ∷ 23 ∷ 24 ∷ []
+pub all-seasons : season_number None ∷ season_number (Some Spring) ∷ season_number (Some Summer) ∷ season_number (Some Autumn) ∷ season_number (Some Winter) ∷ [] ≡ 0 ∷ 21 ∷ 22 ∷ 23 ∷ 24 ∷ []
 all-seasons = refl
 
 -- an end with a season is found in each place
-pub seasons-found : any_season (At (season_of (pos 2000) Spring)) ∷ any_season (After (season_of (pos 2000) Summer)) ∷ any_season (Before (season_of (pos 2000) Autumn))
-    ∷ any_season (Between (season_of (pos 2000) Winter) (season_of (pos 2000) NoSeason)) ∷ any_season (Between (season_of (pos 2000) NoSeason) (season_of (pos 2000) Spring))
-    ∷ any_season (Between (season_of (pos 2000) NoSeason) (season_of (pos 2000) NoSeason)) ∷ []
+pub seasons-found : any_season (At (season_of (pos 2000) (Some Spring))) ∷ any_season (After (season_of (pos 2000) (Some Summer))) ∷ any_season (Before (season_of (pos 2000) (Some Autumn)))
+    ∷ any_season (Between (season_of (pos 2000) (Some Winter)) (season_of (pos 2000) None)) ∷ any_season (Between (season_of (pos 2000) None) (season_of (pos 2000) (Some Spring)))
+    ∷ any_season (Between (season_of (pos 2000) None) (season_of (pos 2000) None)) ∷ []
     ≡ true ∷ true ∷ true ∷ true ∷ true ∷ false ∷ []
 seasons-found = refl

@@ -1,16 +1,10 @@
 -- Which times are good: beside a day, an hour up to 23, a minute and a second up to 59, and an offset with hours up to 23 and minutes up to 59.
-use Rattle.std.specs.Prelude.{Bool, true, false, not, ◌&&◌, leb}
-use Rattle.dates.specs.declared.OptionMonth.{OptionMonth}
-use Rattle.dates.specs.declared.OptionMonth.TheVariants.{NoMonth, SomeMonth}
-use Rattle.dates.specs.declared.OptionDay.{OptionDay}
-use Rattle.dates.specs.declared.OptionDay.TheVariants.{NoDay, SomeDay}
+use Rattle.std.specs.Prelude.{Bool, true, false, not, ◌&&◌, leb, is_some, Option, Some, None}
+use Rattle.dates.specs.declared.Day.{Day}
+use Rattle.dates.specs.declared.Month.{Month}
 use Rattle.dates.specs.declared.TimeOffset.{TimeOffset}
 use Rattle.dates.specs.declared.TimeOffset.TheVariants.{Utc, Offset}
-use Rattle.dates.specs.declared.OptionOffset.{OptionOffset}
-use Rattle.dates.specs.declared.OptionOffset.TheVariants.{NoOffset, SomeOffset}
 use Rattle.dates.specs.declared.Time.{Time}
-use Rattle.dates.specs.declared.OptionTime.{OptionTime}
-use Rattle.dates.specs.declared.OptionTime.TheVariants.{NoTime, SomeTime}
 use Rattle.dates.specs.declared.Datetime.{Datetime}
 use Rattle.dates.specs.Time.{in_range}
 
@@ -20,24 +14,22 @@ offset_in Utc = true
 offset_in (Offset positive h m) = leb h 23 && leb m 59
 
 -- no offset is in range too
-unfoldable pub zone_in : OptionOffset → Bool
-zone_in NoOffset = true
-zone_in (SomeOffset o) = offset_in o
+unfoldable pub zone_in : Option TimeOffset → Bool
+zone_in None = true
+zone_in (Some o) = offset_in o
 
 -- a time that a clock shows, with such an offset
 unfoldable pub clock_in : Time → Bool
 clock_in t = in_range t.hour t.minute t.second && zone_in t.offset
 
 -- whether there is a day beside a month
-unfoldable pub day_beside_month : OptionMonth → OptionDay → Bool
-day_beside_month NoMonth d = false
-day_beside_month (SomeMonth m) NoDay = false
-day_beside_month (SomeMonth m) (SomeDay d) = true
+unfoldable pub day_beside_month : Option Month → Option Day → Bool
+day_beside_month m d = is_some m && is_some d
 
 -- a time is bad without a day, or out of range; no time is not bad
-unfoldable pub bad_time : Bool → OptionTime → Bool
-bad_time has_day NoTime = false
-bad_time has_day (SomeTime t) = not (has_day && clock_in t)
+unfoldable pub bad_time : Bool → Option Time → Bool
+bad_time has_day None = false
+bad_time has_day (Some t) = not (has_day && clock_in t)
 
 -- whether a Datetime has a bad time
 unfoldable pub has_bad_time : Datetime → Bool

@@ -1,13 +1,10 @@
 -- Datetimes and Dates, and what callers say of their parts.
-use Rattle.std.specs.Prelude.{ℕ, Bool, true, false, ℤ}
-use Rattle.dates.specs.declared.OptionMonth.{OptionMonth}
-use Rattle.dates.specs.declared.OptionMonth.TheVariants.{NoMonth, SomeMonth}
-use Rattle.dates.specs.declared.OptionDay.{OptionDay}
-use Rattle.dates.specs.declared.OptionDay.TheVariants.{NoDay, SomeDay}
-use Rattle.dates.specs.declared.OptionTime.{OptionTime}
-use Rattle.dates.specs.declared.OptionTime.TheVariants.{NoTime}
-use Rattle.dates.specs.declared.OptionSeason.{OptionSeason}
-use Rattle.dates.specs.declared.OptionSeason.TheVariants.{NoSeason, Spring, Summer, Autumn, Winter}
+use Rattle.std.specs.Prelude.{ℕ, Bool, true, false, ℤ, Option, Some, None}
+use Rattle.dates.specs.declared.Day.{Day}
+use Rattle.dates.specs.declared.Month.{Month}
+use Rattle.dates.specs.declared.Season.{Season}
+use Rattle.dates.specs.declared.Season.TheVariants.{Autumn, Spring, Summer, Winter}
+use Rattle.dates.specs.declared.Time.{Time}
 use Rattle.dates.specs.declared.Datetime.{Datetime}
 use Rattle.dates.specs.declared.DateValue.{DateValue}
 use Rattle.dates.specs.declared.DateValue.TheVariants.{At}
@@ -15,36 +12,36 @@ use Rattle.dates.specs.declared.Date.{Date}
 use Rattle.dates.specs.Ends.{any_end}
 
 -- a month as it is stored: counted from zero
-abbrev pub month : ℕ → OptionMonth
-month m = SomeMonth (record { 0 = m })
+abbrev pub month : ℕ → Option Month
+month m = Some (record { 0 = m })
 
 -- a day likewise
-abbrev pub day : ℕ → OptionDay
-day d = SomeDay (record { 0 = d })
+abbrev pub day : ℕ → Option Day
+day d = Some (record { 0 = d })
 
 -- the Datetime of four parts, without a season
-abbrev pub datetime : ℤ → OptionMonth → OptionDay → OptionTime → Datetime
-datetime y m d t = record { year = y; month = m; day = d; time = t; season = NoSeason }
+abbrev pub datetime : ℤ → Option Month → Option Day → Option Time → Datetime
+datetime y m d t = record { year = y; month = m; day = d; time = t; season = None }
 
 -- a season of a year
-abbrev pub season_of : ℤ → OptionSeason → Datetime
-season_of y s = record { year = y; month = NoMonth; day = NoDay; time = NoTime; season = s }
+abbrev pub season_of : ℤ → Option Season → Datetime
+season_of y s = record { year = y; month = None; day = None; time = None; season = s }
 
 -- the number of a season in ISO 8601-2: 21 to 24; 0 for none
-abbrev pub season_number : OptionSeason → ℕ
-season_number NoSeason = 0
-season_number Spring = 21
-season_number Summer = 22
-season_number Autumn = 23
-season_number Winter = 24
+abbrev pub season_number : Option Season → ℕ
+season_number None = 0
+season_number (Some Spring) = 21
+season_number (Some Summer) = 22
+season_number (Some Autumn) = 23
+season_number (Some Winter) = 24
 
 -- whether there is one
-abbrev pub is_season : OptionSeason → Bool
-is_season NoSeason = false
-is_season Spring = true
-is_season Summer = true
-is_season Autumn = true
-is_season Winter = true
+abbrev pub is_season : Option Season → Bool
+is_season None = false
+is_season (Some Spring) = true
+is_season (Some Summer) = true
+is_season (Some Autumn) = true
+is_season (Some Winter) = true
 
 -- whether a Datetime has a season
 abbrev pub has_season : Datetime → Bool

@@ -1,10 +1,9 @@
 // The values that are read, compared and written, with the names of the ported code; and the calendar.
 #![tactic(auto)]
 
-ghost use Rattle.std.specs.Prelude.{◌≡◌, ◌<◌};
+ghost use Rattle.std.specs.Prelude.{◌≡◌, ◌<◌, Some, None};
 ghost use Rattle.std.specs.Int.Signed.{mag};
 ghost use Rattle.dates.specs.Calendar.{leap_year, month_length};
-ghost use Rattle.dates.specs.declared.OptionOffset.TheVariants.{NoOffset, SomeOffset};
 ghost use Rattle.dates.specs.Value as spec;
 ghost use Rattle.dates.specs.Time as clock;
 ghost use Rattle.dates.specs.Clocks as good;
@@ -25,18 +24,6 @@ pub struct WrittenMonth(pub u8);
 #[derive(Clone, Copy)]
 pub struct WrittenDay(pub u8);
 
-#[derive(Clone, Copy)]
-pub enum OptionMonth {
-    NoMonth,
-    SomeMonth(Month),
-}
-
-#[derive(Clone, Copy)]
-pub enum OptionDay {
-    NoDay,
-    SomeDay(Day),
-}
-
 // A timezone offset: UTC, or hours and minutes ahead of it or behind.
 #[derive(Clone, Copy)]
 pub enum TimeOffset {
@@ -48,32 +35,19 @@ pub enum TimeOffset {
     },
 }
 
-#[derive(Clone, Copy)]
-pub enum OptionOffset {
-    NoOffset,
-    SomeOffset(TimeOffset),
-}
-
 // A time, with a timezone offset or without.
 #[derive(Clone, Copy)]
 pub struct Time {
     pub hour: u8,
     pub minute: u8,
     pub second: u8,
-    pub offset: OptionOffset,
+    pub offset: Option<TimeOffset>,
 }
 
+// A season of a year, by the numbers of ISO 8601-2.
 #[derive(Clone, Copy)]
-pub enum OptionTime {
-    NoTime,
-    SomeTime(Time),
-}
-
-// A season of a year, by the numbers of ISO 8601-2, or none.
-#[derive(Clone, Copy)]
-pub enum OptionSeason {
-    NoSeason,
-    Spring,
+pub enum Season {
+    Spring = 21,
     Summer,
     Autumn,
     Winter,
@@ -84,10 +58,10 @@ pub enum OptionSeason {
 #[derive(Clone, Copy)]
 pub struct Datetime {
     pub year: i32,
-    pub month: OptionMonth,
-    pub day: OptionDay,
-    pub time: OptionTime,
-    pub season: OptionSeason,
+    pub month: Option<Month>,
+    pub day: Option<Day>,
+    pub time: Option<Time>,
+    pub season: Option<Season>,
 }
 
 // A single date or a range of dates.
@@ -111,18 +85,18 @@ pub struct Date {
 
 impl Time {
     // The time of an hour, a minute and a second, without an offset; none if one of them is out of range.
-    pub fn from_hms(hour: u8, minute: u8, second: u8) -> OptionTime
-        ensures { result ≡ clock.time_of hour minute second NoOffset }
+    pub fn from_hms(hour: u8, minute: u8, second: u8) -> Option<Time>
+        ensures { result ≡ clock.time_of hour minute second None }
     {
-        let offset = OptionOffset::NoOffset;
+        let offset = None;
         from_parts(hour, minute, second, offset)
     }
 
     // The same with an offset, which is not checked.
-    pub fn from_hms_offset(hour: u8, minute: u8, second: u8, offset: TimeOffset) -> OptionTime
-        ensures { result ≡ clock.time_of hour minute second (SomeOffset offset) }
+    pub fn from_hms_offset(hour: u8, minute: u8, second: u8, offset: TimeOffset) -> Option<Time>
+        ensures { result ≡ clock.time_of hour minute second (Some offset) }
     {
-        let some = OptionOffset::SomeOffset(offset);
+        let some = Some(offset);
         from_parts(hour, minute, second, some)
     }
 
@@ -168,18 +142,18 @@ fn in_range(hour: u8, minute: u8, second: u8) -> bool
 }
 
 // The time of four parts, if it is one.
-fn from_parts(hour: u8, minute: u8, second: u8, offset: OptionOffset) -> OptionTime
+fn from_parts(hour: u8, minute: u8, second: u8, offset: Option<TimeOffset>) -> Option<Time>
     ensures { result ≡ clock.time_of hour minute second offset }
 {
     if in_range(hour, minute, second) {
-        return OptionTime::SomeTime(Time {
+        return Some(Time {
             hour,
             minute,
             second,
             offset,
         });
     }
-    OptionTime::NoTime
+    None
 }
 
 // Any three bytes will do: those of an offset are not checked.
@@ -190,18 +164,18 @@ fn seconds(hour: u8, minute: u8, second: u8) -> u32
 }
 
 // The seconds that an offset is ahead of UTC, if there is one.
-fn ahead_of(offset: OptionOffset) -> i64
+fn ahead_of(offset: Option<TimeOffset>) -> i64
     ensures { (result ≡ clock.ahead_of offset) × (mag result < 1000000) }
 {
     match offset {
-        OptionOffset::NoOffset => 0,
-        OptionOffset::SomeOffset(o) => o.to_seconds(),
+        None => 0,
+        Some(o) => o.to_seconds(),
     }
 }
 
 impl Datetime {
     // The Datetime of four parts, without a season.
-    pub fn new(year: i32, month: OptionMonth, day: OptionDay, time: OptionTime) -> Self
+    pub fn new(year: i32, month: Option<Month>, day: Option<Day>, time: Option<Time>) -> Self
         ensures { result ≡ spec.datetime year month day time }
     {
         Self {
@@ -209,19 +183,19 @@ impl Datetime {
             month,
             day,
             time,
-            season: OptionSeason::NoSeason,
+            season: None,
         }
     }
 
     // A season of a year: no month, no day and no time.
-    pub fn of_season(year: i32, season: OptionSeason) -> Self
+    pub fn of_season(year: i32, season: Option<Season>) -> Self
         ensures { result ≡ spec.season_of year season }
     {
         Self {
             year,
-            month: OptionMonth::NoMonth,
-            day: OptionDay::NoDay,
-            time: OptionTime::NoTime,
+            month: None,
+            day: None,
+            time: None,
             season,
         }
     }
@@ -230,14 +204,7 @@ impl Datetime {
     pub fn has_season(self) -> bool
         ensures { result ≡ spec.has_season self }
     {
-        let season = self.season;
-        match season {
-            OptionSeason::NoSeason => false,
-            OptionSeason::Spring => true,
-            OptionSeason::Summer => true,
-            OptionSeason::Autumn => true,
-            OptionSeason::Winter => true,
-        }
+        self.season.is_some()
     }
 }
 
@@ -274,15 +241,12 @@ impl Date {
 }
 
 // The number of a season in ISO 8601-2: 21 to 24; 0 for none.
-pub fn season_number(season: OptionSeason) -> u8
+pub fn season_number(season: Option<Season>) -> u8
     ensures { result ≡ spec.season_number season }
 {
     match season {
-        OptionSeason::NoSeason => 0,
-        OptionSeason::Spring => 21,
-        OptionSeason::Summer => 22,
-        OptionSeason::Autumn => 23,
-        OptionSeason::Winter => 24,
+        None => 0,
+        Some(s) => s as u8,
     }
 }
 
@@ -332,12 +296,12 @@ fn offset_in(o: TimeOffset) -> bool
 }
 
 // The same of an offset that may be absent.
-fn zone_in(o: OptionOffset) -> bool
+fn zone_in(o: Option<TimeOffset>) -> bool
     ensures { result ≡ good.zone_in o }
 {
     match o {
-        OptionOffset::NoOffset => true,
-        OptionOffset::SomeOffset(o) => offset_in(o),
+        None => true,
+        Some(o) => offset_in(o),
     }
 }
 
@@ -357,25 +321,20 @@ fn clock_in(t: Time) -> bool
 }
 
 // Whether there is a day beside a month.
-fn on_day(month: OptionMonth, day: OptionDay) -> bool
+#[tactic(auto, unfolding(crate::specs::Clocks::day_beside_month))]
+fn on_day(month: Option<Month>, day: Option<Day>) -> bool
     ensures { result ≡ good.day_beside_month month day }
 {
-    match month {
-        OptionMonth::NoMonth => false,
-        OptionMonth::SomeMonth(_) => match day {
-            OptionDay::NoDay => false,
-            OptionDay::SomeDay(_) => true,
-        },
-    }
+    month.is_some() && day.is_some()
 }
 
 // Whether a time is bad: without a day, or out of range.
-fn bad_time(dated: bool, t: OptionTime) -> bool
+fn bad_time(dated: bool, t: Option<Time>) -> bool
     ensures { result ≡ good.bad_time dated t }
 {
     match t {
-        OptionTime::NoTime => false,
-        OptionTime::SomeTime(t) => {
+        None => false,
+        Some(t) => {
             if dated {
                 return !clock_in(t);
             }

@@ -7,21 +7,19 @@ use lib.Dec.{ltb}
 use lib.IntN.{ℤ, pos, negsuc, ◌+ℤ◌}
 use borrow.Author.Tests.{ltb-true}
 use Rattle.chars.specs.Pick.{pick}
-use Rattle.dates.specs.declared.OptionMonth.{OptionMonth}
-use Rattle.dates.specs.declared.OptionMonth.TheVariants.{NoMonth, SomeMonth}
-use Rattle.dates.specs.declared.OptionDay.{OptionDay}
-use Rattle.dates.specs.declared.OptionDay.TheVariants.{NoDay, SomeDay}
+use Rattle.dates.specs.declared.Day.{Day}
+use Rattle.dates.specs.declared.Month.{Month}
+use Rattle.days.specs.declared.Period.{Period}
+use Rattle.refusals.specs.declared.Refusal.{Refusal}
+use Rattle.std.specs.Prelude.{Option, Some, None, Result, Ok}
 use Rattle.dates.specs.declared.Datetime.{Datetime}
 use Rattle.dates.specs.Calendar.{leap_year, month_length}
 use Rattle.dates.proofs.Months.{some-day}
 use Rattle.dates.proofs.Lengths.{length_most}
-use Rattle.days.specs.declared.Covered.{Covered}
-use Rattle.days.specs.declared.Covered.TheVariants.{Days}
 use Rattle.days.specs.declared.Stretch.{Stretch}
-use Rattle.days.specs.declared.Stretch.TheVariants.{NoDate, Part}
 use Rattle.days.specs.Days.{year_length, days_before, days_from, days_back, new_year, month_start}
 use Rattle.days.specs.Covered.{year_in, parts_in, first_of, length_of, last_of, is_date, first_day, last_day, period, not_adate, calendar_days}
-use Rattle.days.specs.Counts.{counted, asked_month, asked_year, asked, days_to, numbered, period_from}
+use Rattle.days.specs.Counts.{counted, stretch, asked_month, asked_year, asked, days_to, numbered, period_from}
 use Rattle.days.specs.Ways.{stretch_days}
 use Rattle.days.proofs.Years.{year-most, year-least, from-most, leap-on, leap-back, from_on, from_back}
 use Rattle.days.proofs.Months.{before-first, before-most, before_same}
@@ -49,26 +47,26 @@ unfolding days_to
 to-most n m = omega (arith, from-most n, before-most m (pos n), year-most (pos n))
 
 -- the bounds of what is asked
-abbrev pub In : Stretch → Type 0
-In NoDate = Unit {0}
-In (Part n m p k) = (0 < n) × (n < 20000) × (m < 12) × (p < 31) × (0 < k) × (k < 367)
+abbrev pub In : Option Stretch → Type 0
+In None = Unit {0}
+In (Some s) = (0 < s.year) × (s.year < 20000) × (s.month < 12) × (s.past < 31) × (0 < s.count) × (s.count < 367)
 
-in-month : (y : ℤ) → year_in y ≡ true → (m : ℕ) → m < 12 → (day : OptionDay) → In (asked_month y m day)
+in-month : (y : ℤ) → year_in y ≡ true → (m : ℕ) → m < 12 → (day : Option Day) → In (asked_month y m day)
 unfolding asked_month pick
-in-month y t m h NoDay = ((counted-in y t).0, (counted-in y t).1, h, omega arith, some-day m y h, omega (arith, length_most m y))
-in-month y t m h (SomeDay d) = go (ltb d.0 (month_length m y)) refl
+in-month y t m h None = ((counted-in y t).0, (counted-in y t).1, h, omega arith, some-day m y h, omega (arith, length_most m y))
+in-month y t m h (Some d) = go (ltb d.0 (month_length m y)) refl
   where
-    go : (u : Bool) → ltb d.0 (month_length m y) ≡ u → In (pick u (Part (counted y) m d.0 1) NoDate)
+    go : (u : Bool) → ltb d.0 (month_length m y) ≡ u → In (pick u (Some (stretch (counted y) m d.0 1)) None)
     go true e = ((counted-in y t).0, (counted-in y t).1, h, omega (arith, ltb-true d.0 (month_length m y) e, length_most m y), omega arith, omega arith)
     go false e = tt
 
-in-year : (y : ℤ) → year_in y ≡ true → (month : OptionMonth) (day : OptionDay) → In (asked_year y month day)
+in-year : (y : ℤ) → year_in y ≡ true → (month : Option Month) (day : Option Day) → In (asked_year y month day)
 unfolding asked_year pick
-in-year y t NoMonth NoDay = ((counted-in y t).0, (counted-in y t).1, omega arith, omega arith, omega (arith, year-least y), omega (arith, year-most y))
-in-year y t NoMonth (SomeDay d) = tt
-in-year y t (SomeMonth m) day = go (ltb m.0 12) refl
+in-year y t None None = ((counted-in y t).0, (counted-in y t).1, omega arith, omega arith, omega (arith, year-least y), omega (arith, year-most y))
+in-year y t None (Some d) = tt
+in-year y t (Some m) day = go (ltb m.0 12) refl
   where
-    go : (u : Bool) → ltb m.0 12 ≡ u → In (pick u (asked_month y m.0 day) NoDate)
+    go : (u : Bool) → ltb m.0 12 ≡ u → In (pick u (asked_month y m.0 day) None)
     go true e = in-month y t m.0 (ltb-true m.0 12 e) day
     go false e = tt
 
@@ -76,43 +74,43 @@ pub asked_in : (d : Datetime) → In (asked d)
 unfolding asked pick
 asked_in d = go (year_in d.year) refl
   where
-    go : (u : Bool) → year_in d.year ≡ u → In (pick u (asked_year d.year d.month d.day) NoDate)
+    go : (u : Bool) → year_in d.year ≡ u → In (pick u (asked_year d.year d.month d.day) None)
     go true e = in-year d.year e d.month d.day
     go false e = tt
 
-part : (first : ℤ) (a k : ℕ) → first ≡ numbered a → 0 < k → Days (period first (first +ℤ pos (k - 1))) ≡ Days (period_from a k)
+part : (first : ℤ) (a k : ℕ) → first ≡ numbered a → 0 < k → ◌≡◌ {A = Result Period Refusal} (Ok (period first (first +ℤ pos (k - 1)))) (Ok (period_from a k))
 unfolding period_from
 part first a k e h =
     let g : a + (k - 1) ≡ a + k - 1 = omega arith in
-    rw e (ap (λ (z : ℤ). Days (period (numbered a) z)) (numbered-on a (k - 1) ∙ ap numbered g))
+    rw e (ap {B = Result Period Refusal} (λ (z : ℤ). Ok (period (numbered a) z)) (numbered-on a (k - 1) ∙ ap numbered g))
 
-abbrev covered_by : Bool → ℤ → OptionMonth → OptionDay → Covered
-covered_by u y month day = pick u (Days (period (first_of y month day) (first_of y month day +ℤ pos (length_of y month day - 1)))) not_adate
+abbrev covered_by : Bool → ℤ → Option Month → Option Day → Result Period Refusal
+covered_by u y month day = pick u (Ok (period (first_of y month day) (first_of y month day +ℤ pos (length_of y month day - 1)))) not_adate
 
-of_month : (y : ℤ) → year_in y ≡ true → (m : ℕ) → m < 12 → Days (period (month_start m y) (month_start m y +ℤ pos (month_length m y - 1))) ≡ stretch_days days_to (Part (counted y) m 0 (month_length m y))
+of_month : (y : ℤ) → year_in y ≡ true → (m : ℕ) → m < 12 → Ok (period (month_start m y) (month_start m y +ℤ pos (month_length m y - 1))) ≡ stretch_days days_to (Some (stretch (counted y) m 0 (month_length m y)))
 of_month y t m h = part (month_start m y) (days_to (counted y) m + 0) (month_length m y) (month-counted m y t ∙ ap numbered (omega arith)) (some-day m y h)
 
-of-day : (y : ℤ) → year_in y ≡ true → (m d : ℕ) → Days (period (month_start m y +ℤ pos d) (month_start m y +ℤ pos d +ℤ pos (1 - 1))) ≡ stretch_days days_to (Part (counted y) m d 1)
+of-day : (y : ℤ) → year_in y ≡ true → (m d : ℕ) → Ok (period (month_start m y +ℤ pos d) (month_start m y +ℤ pos d +ℤ pos (1 - 1))) ≡ stretch_days days_to (Some (stretch (counted y) m d 1))
 of-day y t m d =
     part (month_start m y +ℤ pos d) (days_to (counted y) m + d) 1 (ap (λ (z : ℤ). z +ℤ pos d) (month-counted m y t) ∙ numbered-on (days_to (counted y) m) d) (omega arith)
 
-of-year : (y : ℤ) → year_in y ≡ true → Days (period (new_year y) (new_year y +ℤ pos (year_length y - 1))) ≡ stretch_days days_to (Part (counted y) 0 0 (year_length y))
+of-year : (y : ℤ) → year_in y ≡ true → Ok (period (new_year y) (new_year y +ℤ pos (year_length y - 1))) ≡ stretch_days days_to (Some (stretch (counted y) 0 0 (year_length y)))
 unfolding days_to
 of-year y t =
     part (new_year y) (days_to (counted y) 0 + 0) (year_length y) (year-counted y t ∙ ap numbered (omega (arith, before-first (pos (counted y))))) (omega (arith, year-least y))
 
-parts : (y : ℤ) → year_in y ≡ true → (month : OptionMonth) (day : OptionDay) → covered_by (parts_in y month day) y month day ≡ stretch_days days_to (asked_year y month day)
+parts : (y : ℤ) → year_in y ≡ true → (month : Option Month) (day : Option Day) → covered_by (parts_in y month day) y month day ≡ stretch_days days_to (asked_year y month day)
 unfolding parts_in first_of length_of asked_month asked_year pick
-parts y t NoMonth NoDay = of-year y t
-parts y t NoMonth (SomeDay d) = refl
-parts y t (SomeMonth m) NoDay = go (ltb m.0 12) refl
+parts y t None None = of-year y t
+parts y t None (Some d) = refl
+parts y t (Some m) None = go (ltb m.0 12) refl
   where
-    go : (u : Bool) → ltb m.0 12 ≡ u → covered_by u y (SomeMonth m) NoDay ≡ stretch_days days_to (pick u (asked_month y m.0 NoDay) NoDate)
+    go : (u : Bool) → ltb m.0 12 ≡ u → covered_by u y (Some m) None ≡ stretch_days days_to (pick u (asked_month y m.0 None) None)
     go true e = of_month y t m.0 (ltb-true m.0 12 e)
     go false e = refl
-parts y t (SomeMonth m) (SomeDay d) = go (ltb m.0 12) (ltb d.0 (month_length m.0 y)) refl
+parts y t (Some m) (Some d) = go (ltb m.0 12) (ltb d.0 (month_length m.0 y)) refl
   where
-    go : (u v : Bool) → ltb d.0 (month_length m.0 y) ≡ v → covered_by (u && v) y (SomeMonth m) (SomeDay d) ≡ stretch_days days_to (pick u (asked_month y m.0 (SomeDay d)) NoDate)
+    go : (u v : Bool) → ltb d.0 (month_length m.0 y) ≡ v → covered_by (u && v) y (Some m) (Some d) ≡ stretch_days days_to (pick u (asked_month y m.0 (Some d)) None)
     go true true e = rw e (of-day y t m.0 d.0)
     go true false e = rw e
     go false v e = refl
@@ -122,17 +120,14 @@ pub answered : (d : Datetime) → calendar_days d ≡ stretch_days days_to (aske
 unfolding calendar_days is_date first_day last_day last_of asked pick
 answered d = go (year_in d.year) refl
   where
-    go : (u : Bool) → year_in d.year ≡ u → covered_by (u && parts_in d.year d.month d.day) d.year d.month d.day ≡ stretch_days days_to (pick u (asked_year d.year d.month d.day) NoDate)
+    go : (u : Bool) → year_in d.year ≡ u → covered_by (u && parts_in d.year d.month d.day) d.year d.month d.day ≡ stretch_days days_to (pick u (asked_year d.year d.month d.day) None)
     go true e = parts d.year e d.month d.day
     go false e = refl
 
 -- as a caller meets it: what was asked is told by the case, and the days before a month are counted in one of the ways
-pub not_covered : (before : ℕ → ℕ → ℕ) (d : Datetime) {s : Stretch} → s ≡ asked d → s ≡ NoDate → not_adate ≡ stretch_days before (asked d)
-not_covered before d e f = ap (stretch_days before) (sym f ∙ e)
-
-module _ (d : Datetime) {s : Stretch} {n m p k : ℕ} (e : s ≡ asked d) (f : s ≡ Part n m p k) where
-  pub bounds : (0 < n) × (n < 20000) × (m < 12) × (p < 31) × (0 < k) × (k < 367)
+module _ (d : Datetime) {o : Option Stretch} {s : Stretch} (e : o ≡ asked d) (f : o ≡ Some s) where
+  pub bounds : In (Some s)
   bounds = subst In (sym e ∙ f) (asked_in d)
 
-  pub covers : (before : ℕ → ℕ → ℕ) {b : ℕ} → b ≡ before n m → Days (period_from (b + p) k) ≡ stretch_days before (asked d)
+  pub covers : (before : ℕ → ℕ → ℕ) {b : ℕ} → b ≡ before s.year s.month → Ok (period_from (b + s.past) s.count) ≡ stretch_days before (asked d)
   covers before g = rw g (ap (stretch_days before) (sym f ∙ e))

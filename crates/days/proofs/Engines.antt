@@ -7,9 +7,10 @@ use lib.ListN.{get_or}
 use Rattle.dates.specs.Calendar.{leap_year, month_length}
 use Rattle.days.specs.Days.{year_length, days_before, days_from}
 use Rattle.dates.specs.declared.Datetime.{Datetime}
-use Rattle.days.specs.declared.Covered.TheVariants.{Days}
+use Rattle.std.specs.Prelude.{Option, Some, None, Result, Ok}
+use Rattle.days.specs.declared.Period.{Period}
+use Rattle.refusals.specs.declared.Refusal.{Refusal}
 use Rattle.days.specs.declared.Stretch.{Stretch}
-use Rattle.days.specs.declared.Stretch.TheVariants.{NoDate, Part}
 use Rattle.days.specs.Covered.{calendar_days, covered}
 use Rattle.days.specs.Counts.{asked, days_to, length_at, months_to, period_from}
 use Rattle.days.specs.Table.{table}
@@ -69,9 +70,9 @@ table_is n m h =
     let e : get_or table (n % 400 * 12 + m) 0 ≡ days_to (n % 400) m = entry-is (n % 400 * 12 + m) (omega arith) ∙ months-are (n % 400) m h in
     omega (arith, e, from-cycle n m)
 
-same : (f g : ℕ → ℕ → ℕ) → ((n m : ℕ) → m < 12 → f n m ≡ g n m) → (s : Stretch) → In s → stretch_days f s ≡ stretch_days g s
-same f g e NoDate h = refl
-same f g e (Part n m p k) h = ap (λ (b : ℕ). Days (period_from (b + p) k)) (e n m h.2)
+same : (f g : ℕ → ℕ → ℕ) → ((n m : ℕ) → m < 12 → f n m ≡ g n m) → (o : Option Stretch) → In o → stretch_days f o ≡ stretch_days g o
+same f g e None h = refl
+same f g e (Some s) h = ap {B = Result Period Refusal} (λ (b : ℕ). Ok (period_from (b + s.past) s.count)) (e s.year s.month h.2)
 
 -- by each way a Datetime has the days of the calendar
 pub formula-days : (d : Datetime) → calendar_days d ≡ stretch_days by_formula (asked d)

@@ -6,10 +6,9 @@ use native.Mathlib.Nat.{eq-or-lt_of_le, le_of_suc-le-suc}
 use native.Mathlib.Omega.{arith}
 use mathlib.Core.Logic.{⊎_elim}
 use lib.IntN.{ℤ, pos, negsuc, neg_ℤ, suc_ℤ, ◌+ℤ◌, +ℤ_assoc, +ℤ_idr, +ℤ_invl, neg_ℤ-+ℤ}
-use Rattle.dates.specs.declared.OptionMonth.{OptionMonth}
-use Rattle.dates.specs.declared.OptionMonth.TheVariants.{NoMonth, SomeMonth}
-use Rattle.dates.specs.declared.OptionDay.{OptionDay}
-use Rattle.dates.specs.declared.OptionDay.TheVariants.{NoDay, SomeDay}
+use Rattle.dates.specs.declared.Day.{Day}
+use Rattle.dates.specs.declared.Month.{Month}
+use Rattle.std.specs.Prelude.{Option, Some, None}
 use Rattle.dates.specs.Calendar.{month_length}
 use Rattle.dates.specs.Value.{month, day}
 use Rattle.dates.proofs.Months.{some-day}
@@ -75,26 +74,26 @@ unfolding month_start
 december y = ap (λ (k : ℕ). new_year y +ℤ pos k) (before_last y) ∙ sym (next-year y)
 
 -- the day behind the last is as many days on as there are
-pub behind : (y : ℤ) (mo : OptionMonth) (da : OptionDay) → 0 < length_of y mo da → last_of y mo da +ℤ pos 1 ≡ first_of y mo da +ℤ pos (length_of y mo da)
+pub behind : (y : ℤ) (mo : Option Month) (da : Option Day) → 0 < length_of y mo da → last_of y mo da +ℤ pos 1 ≡ first_of y mo da +ℤ pos (length_of y mo da)
 unfolding last_of
 behind y mo da h =
     let e : length_of y mo da - 1 + 1 ≡ length_of y mo da = omega arith in
     +ℤ_assoc (first_of y mo da) (pos (length_of y mo da - 1)) (pos 1) ∙ ap (λ (k : ℕ). first_of y mo da +ℤ pos k) e
 
 -- a year begins on the day behind the last of the year before
-pub years-follow : (y : ℤ) → first_of (suc_ℤ y) NoMonth NoDay ≡ last_of y NoMonth NoDay +ℤ pos 1
+pub years-follow : (y : ℤ) → first_of (suc_ℤ y) None None ≡ last_of y None None +ℤ pos 1
 unfolding first_of length_of
-years-follow y = next-year y ∙ sym (behind y NoMonth NoDay (omega (arith, year-least y)))
+years-follow y = next-year y ∙ sym (behind y None None (omega (arith, year-least y)))
 
 -- a month on the day behind the last of the month before
-pub months-follow : (m : ℕ) (y : ℤ) → m < 12 → first_of y (month (suc m)) NoDay ≡ last_of y (month m) NoDay +ℤ pos 1
+pub months-follow : (m : ℕ) (y : ℤ) → m < 12 → first_of y (month (suc m)) None ≡ last_of y (month m) None +ℤ pos 1
 unfolding first_of length_of
-months-follow m y h = next-month m y ∙ sym (behind y (month m) NoDay (some-day m y h))
+months-follow m y h = next-month m y ∙ sym (behind y (month m) None (some-day m y h))
 
 -- January of the next year on the day behind the last of December
-pub january-follows : (y : ℤ) → first_of (suc_ℤ y) (month 0) NoDay ≡ last_of y (month 11) NoDay +ℤ pos 1
+pub january-follows : (y : ℤ) → first_of (suc_ℤ y) (month 0) None ≡ last_of y (month 11) None +ℤ pos 1
 unfolding first_of length_of
-january-follows y = january (suc_ℤ y) ∙ sym (december y) ∙ next-month 11 y ∙ sym (behind y (month 11) NoDay (some-day 11 y (omega arith)))
+january-follows y = january (suc_ℤ y) ∙ sym (december y) ∙ next-month 11 y ∙ sym (behind y (month 11) None (some-day 11 y (omega arith)))
 
 -- and a day behind the day before; the first of a month is the month's first
 pub days-follow : (d m : ℕ) (y : ℤ) → first_of y (month m) (day (suc d)) ≡ last_of y (month m) (day d) +ℤ pos 1
@@ -103,24 +102,24 @@ days-follow d m y =
     let e : suc d ≡ d + 1 = omega arith in
     ap (λ (k : ℕ). month_start m y +ℤ pos k) e ∙ sym (+ℤ_assoc (month_start m y) (pos d) (pos 1)) ∙ sym (behind y (month m) (day d) (omega arith))
 
-pub day-first : (m : ℕ) (y : ℤ) → first_of y (month m) (day 0) ≡ first_of y (month m) NoDay
+pub day-first : (m : ℕ) (y : ℤ) → first_of y (month m) (day 0) ≡ first_of y (month m) None
 unfolding first_of
 day-first m y = +ℤ_idr (month_start m y)
 
 -- The same, counted from -10000-01-01, for the years that are counted: omega reads these.
 
 -- the days before the first day
-unfoldable pub beginning : ℤ → OptionMonth → OptionDay → ℕ
-beginning y NoMonth da = days_from (counted y)
-beginning y (SomeMonth m) NoDay = days_to (counted y) m.0
-beginning y (SomeMonth m) (SomeDay d) = days_to (counted y) m.0 + d.0
+unfoldable pub beginning : ℤ → Option Month → Option Day → ℕ
+beginning y None da = days_from (counted y)
+beginning y (Some m) None = days_to (counted y) m.0
+beginning y (Some m) (Some d) = days_to (counted y) m.0 + d.0
 
-pub first-at : (y : ℤ) (mo : OptionMonth) (da : OptionDay) → year_in y ≡ true → first_of y mo da ≡ numbered (beginning y mo da)
+pub first-at : (y : ℤ) (mo : Option Month) (da : Option Day) → year_in y ≡ true → first_of y mo da ≡ numbered (beginning y mo da)
 unfolding first_of beginning
-first-at y NoMonth da t = year-counted y t
-first-at y (SomeMonth m) NoDay t = month-counted m.0 y t
-first-at y (SomeMonth m) (SomeDay d) t = ap (λ (z : ℤ). z +ℤ pos d.0) (month-counted m.0 y t) ∙ numbered-on (days_to (counted y) m.0) d.0
+first-at y None da t = year-counted y t
+first-at y (Some m) None t = month-counted m.0 y t
+first-at y (Some m) (Some d) t = ap (λ (z : ℤ). z +ℤ pos d.0) (month-counted m.0 y t) ∙ numbered-on (days_to (counted y) m.0) d.0
 
-pub last-at : (y : ℤ) (mo : OptionMonth) (da : OptionDay) → year_in y ≡ true → last_of y mo da ≡ numbered (beginning y mo da + (length_of y mo da - 1))
+pub last-at : (y : ℤ) (mo : Option Month) (da : Option Day) → year_in y ≡ true → last_of y mo da ≡ numbered (beginning y mo da + (length_of y mo da - 1))
 unfolding last_of
 last-at y mo da t = ap (λ (z : ℤ). z +ℤ pos (length_of y mo da - 1)) (first-at y mo da t) ∙ numbered-on (beginning y mo da) (length_of y mo da - 1)

@@ -14,17 +14,13 @@ use Rattle.refusals.specs.declared.Kind.TheVariants.{NotACalendarDate, HasSeason
 use Rattle.refusals.specs.Refusal.{file_span, refusal, number}
 use Rattle.dates.specs.declared.Month.{Month}
 use Rattle.dates.specs.declared.Day.{Day}
-use Rattle.dates.specs.declared.OptionMonth.{OptionMonth}
-use Rattle.dates.specs.declared.OptionMonth.TheVariants.{NoMonth, SomeMonth}
-use Rattle.dates.specs.declared.OptionDay.{OptionDay}
-use Rattle.dates.specs.declared.OptionDay.TheVariants.{NoDay, SomeDay}
+use Rattle.std.specs.Prelude.{Option, Some, None, Ok, Err}
 use Rattle.dates.specs.declared.Datetime.{Datetime}
 use Rattle.dates.specs.Calendar.{month_length}
 use Rattle.dates.specs.Domain.{PartsIn}
 use Rattle.dates.specs.Value.{month, day, has_season}
 use Rattle.dates.proofs.Months.{some-day}
 use Rattle.days.specs.declared.Period.{Period}
-use Rattle.days.specs.declared.Covered.TheVariants.{Days, Refused}
 use Rattle.days.specs.Days.{year_length, days_from}
 use Rattle.days.specs.Covered.{year_in, parts_in, first_of, length_of, last_of, is_date, first_day, last_day, period, not_adate, calendar_days, seasoned, covered}
 use Rattle.days.specs.Faults.{Fault, year_outside, month_above, lone_day, day_past}
@@ -47,12 +43,12 @@ joined : {a b : Bool} → a ≡ true → b ≡ true → a && b ≡ true
 joined e f = rw (e, f)
 
 -- The parts that are admitted are those of the calendar,
-pub parts_are : (y : ℤ) (mo : OptionMonth) (da : OptionDay) → (parts_in y mo da ≡ true) ↔ PartsIn y mo da
+pub parts_are : (y : ℤ) (mo : Option Month) (da : Option Day) → (parts_in y mo da ≡ true) ↔ PartsIn y mo da
 unfolding parts_in
-parts_are y NoMonth NoDay = (λ e. tt, λ u. refl)
-parts_are y NoMonth (SomeDay d) = (λ e. absurd (false≢true e), λ u. absurd u)
-parts_are y (SomeMonth m) NoDay = (λ e. ltb-true m.0 12 e, λ h. lt-ltb m.0 12 h)
-parts_are y (SomeMonth m) (SomeDay d) = (
+parts_are y None None = (λ e. tt, λ u. refl)
+parts_are y None (Some d) = (λ e. absurd (false≢true e), λ u. absurd u)
+parts_are y (Some m) None = (λ e. ltb-true m.0 12 e, λ h. lt-ltb m.0 12 h)
+parts_are y (Some m) (Some d) = (
   λ e. (ltb-true m.0 12 (both (ltb m.0 12) e).0, ltb-true d.0 (month_length m.0 y) (both (ltb m.0 12) e).1),
   λ (h : (m.0 < 12) × (d.0 < month_length m.0 y)). joined (lt-ltb m.0 12 h.0) (lt-ltb d.0 (month_length m.0 y) h.1),
 )
@@ -67,36 +63,36 @@ accepted d =
     )
 
 -- Why it is refused.
-faulty : {y : ℤ} (mo : OptionMonth) (da : OptionDay) → Fault y mo da → year_in y && parts_in y mo da ≡ false
+faulty : {y : ℤ} (mo : Option Month) (da : Option Day) → Fault y mo da → year_in y && parts_in y mo da ≡ false
 unfolding year_in parts_in
 faulty {y} mo da (year_outside h) = rw (le-ltb (nat_abs y) 10000 h)
 faulty {y} mo da (month_above {m} h) = and-false (ltb (nat_abs y) 10000) (above da)
   where
-    above : (da : OptionDay) → parts_in y (SomeMonth m) da ≡ false
-    above NoDay = le-ltb m.0 12 h
-    above (SomeDay d) = rw (le-ltb m.0 12 h)
+    above : (da : Option Day) → parts_in y (Some m) da ≡ false
+    above None = le-ltb m.0 12 h
+    above (Some d) = rw (le-ltb m.0 12 h)
 faulty {y} mo da lone_day = and-false (ltb (nat_abs y) 10000) refl
 faulty {y} mo da (day_past {m} {d} h) = and-false (ltb (nat_abs y) 10000) (and-false (ltb m.0 12) (le-ltb d.0 (month_length m.0 y) h))
 
-fault-of : (y : ℤ) (mo : OptionMonth) (da : OptionDay) → year_in y && parts_in y mo da ≡ false → Fault y mo da
+fault-of : (y : ℤ) (mo : Option Month) (da : Option Day) → year_in y && parts_in y mo da ≡ false → Fault y mo da
 unfolding year_in parts_in
 fault-of y mo da e = go (ltb (nat_abs y) 10000) refl e
   where
-    day-fault : (m : Month) (d : Day) (t : Bool) → ltb m.0 12 ≡ t → t && ltb d.0 (month_length m.0 y) ≡ false → Fault y (SomeMonth m) (SomeDay d)
+    day-fault : (m : Month) (d : Day) (t : Bool) → ltb m.0 12 ≡ t → t && ltb d.0 (month_length m.0 y) ≡ false → Fault y (Some m) (Some d)
     day-fault m d true p q = day_past (ltb-false d.0 (month_length m.0 y) q)
     day-fault m d false p q = month_above (ltb-false m.0 12 p)
 
-    part : (mo : OptionMonth) (da : OptionDay) → parts_in y mo da ≡ false → Fault y mo da
-    part NoMonth NoDay q = absurd (false≢true (sym q))
-    part NoMonth (SomeDay d) q = lone_day
-    part (SomeMonth m) NoDay q = month_above (ltb-false m.0 12 q)
-    part (SomeMonth m) (SomeDay d) q = day-fault m d (ltb m.0 12) refl q
+    part : (mo : Option Month) (da : Option Day) → parts_in y mo da ≡ false → Fault y mo da
+    part None None q = absurd (false≢true (sym q))
+    part None (Some d) q = lone_day
+    part (Some m) None q = month_above (ltb-false m.0 12 q)
+    part (Some m) (Some d) q = day-fault m d (ltb m.0 12) refl q
 
     go : (t : Bool) → ltb (nat_abs y) 10000 ≡ t → t && parts_in y mo da ≡ false → Fault y mo da
     go true p q = part mo da q
     go false p q = year_outside (ltb-false (nat_abs y) 10000 p)
 
-no-days : (p : Period) (r : Refusal) → Days p ≡ Refused r → ⊥
+no-days : (p : Period) (r : Refusal) → Ok p ≡ Err r → ⊥
 no-days p r e = let z : ◌≡◌ {A = ℕ} 0 1 = cc in omega arith
 
 -- The calendar has no days for it exactly if it has such a cause,
@@ -104,7 +100,7 @@ pub no-date-exactly : (d : Datetime) → (calendar_days d ≡ not_adate) ↔ Fau
 unfolding calendar_days is_date not_adate pick
 no-date-exactly d = (λ e. go (year_in d.year && parts_in d.year d.month d.day) refl e, λ (f : Fault d.year d.month d.day). rw (faulty d.month d.day f))
   where
-    go : (t : Bool) → year_in d.year && parts_in d.year d.month d.day ≡ t → pick t (Days (period (first_day d) (last_day d))) not_adate ≡ not_adate → Fault d.year d.month d.day
+    go : (t : Bool) → year_in d.year && parts_in d.year d.month d.day ≡ t → pick t (Ok (period (first_day d) (last_day d))) not_adate ≡ not_adate → Fault d.year d.month d.day
     go true p q = absurd (no-days _ _ q)
     go false p q = fault-of d.year d.month d.day p
 
@@ -121,7 +117,7 @@ not-seasoned : (d : Datetime) → calendar_days d ≡ seasoned → ⊥
 unfolding calendar_days seasoned pick
 not-seasoned d e = go (is_date d) e
   where
-    go : (t : Bool) → pick t (Days (period (first_day d) (last_day d))) not_adate ≡ seasoned → ⊥
+    go : (t : Bool) → pick t (Ok (period (first_day d) (last_day d))) not_adate ≡ seasoned → ⊥
     go true q = no-days _ _ q
     go false q = apart q
 
@@ -154,16 +150,16 @@ refused-exactly d = (
 )
 
 -- and else its first and last day are those
-pub days_are : (d : Datetime) → has_season d ≡ false → is_date d ≡ true → covered d ≡ Days (period (first_day d) (last_day d))
+pub days_are : (d : Datetime) → has_season d ≡ false → is_date d ≡ true → covered d ≡ Ok (period (first_day d) (last_day d))
 unfolding calendar_days pick
 days_are d s e = else-as-before d s ∙ rw e
 
 -- What has days has no season and is a date.
-pub has-days : (d : Datetime) {p : Period} → covered d ≡ Days p → (has_season d ≡ false) × (is_date d ≡ true)
+pub has-days : (d : Datetime) {p : Period} → covered d ≡ Ok p → (has_season d ≡ false) × (is_date d ≡ true)
 unfolding calendar_days seasoned not_adate pick
 has-days d {p} e = cases d ((has_season d ≡ false) × (is_date d ≡ true)) (λ s c. absurd (no-days _ _ (sym e ∙ c))) (λ s c. (s, go (is_date d) (sym c ∙ e)))
   where
-    go : (t : Bool) → pick t (Days (period (first_day d) (last_day d))) not_adate ≡ Days p → t ≡ true
+    go : (t : Bool) → pick t (Ok (period (first_day d) (last_day d))) not_adate ≡ Ok p → t ≡ true
     go true q = refl
     go false q = absurd (no-days _ _ (sym q))
 
@@ -185,41 +181,41 @@ module _ (y : ℤ) (t : year_in y ≡ true) where
   year-length = omega (arith, from_next (counted y), length-same y (pos (counted y)) (leap-counted y t))
 
   -- in their year
-  pub within : (mo : OptionMonth) (da : OptionDay) → PartsIn y mo da → (days_from (counted y) ≤ beginning y mo da) × (0 < length_of y mo da) × (beginning y mo da + length_of y mo da ≤ days_from (suc (counted y)))
+  pub within : (mo : Option Month) (da : Option Day) → PartsIn y mo da → (days_from (counted y) ≤ beginning y mo da) × (0 < length_of y mo da) × (beginning y mo da + length_of y mo da ≤ days_from (suc (counted y)))
   unfolding beginning length_of days_to
-  within NoMonth NoDay h = (omega arith, omega (arith, year-least y), omega (arith, year-length))
-  within NoMonth (SomeDay d) h = absurd h
-  within (SomeMonth m) NoDay h = (omega arith, some-day m.0 y h, omega (arith, month-length m.0, to-most (counted y) (suc m.0)))
-  within (SomeMonth m) (SomeDay d) h = (omega arith, omega arith, omega (arith, h.1, month-length m.0, to-most (counted y) (suc m.0)))
+  within None None h = (omega arith, omega (arith, year-least y), omega (arith, year-length))
+  within None (Some d) h = absurd h
+  within (Some m) None h = (omega arith, some-day m.0 y h, omega (arith, month-length m.0, to-most (counted y) (suc m.0)))
+  within (Some m) (Some d) h = (omega arith, omega arith, omega (arith, h.1, month-length m.0, to-most (counted y) (suc m.0)))
 
   -- a period of days in the year lies in it
   year-around : (b k : ℕ) → days_from (counted y) ≤ b → 0 < k → b + k ≤ days_from (suc (counted y))
-      → (first_of y NoMonth NoDay ≤ℤ numbered b) × (numbered (b + (k - 1)) ≤ℤ last_of y NoMonth NoDay)
+      → (first_of y None None ≤ℤ numbered b) × (numbered (b + (k - 1)) ≤ℤ last_of y None None)
   unfolding beginning length_of
   year-around b k l p h =
-      rw (first-at y NoMonth NoDay t, last-at y NoMonth NoDay t)
+      rw (first-at y None None t, last-at y None None t)
       (numbered-le (days_from (counted y)) b l, numbered-le (b + (k - 1)) (days_from (counted y) + (year_length y - 1)) (omega (arith, year-length, year-least y)))
 
   -- so a month lies in its year, and a day
-  pub in-year : (mo : OptionMonth) (da : OptionDay) → PartsIn y mo da → (first_of y NoMonth NoDay ≤ℤ first_of y mo da) × (last_of y mo da ≤ℤ last_of y NoMonth NoDay)
+  pub in-year : (mo : Option Month) (da : Option Day) → PartsIn y mo da → (first_of y None None ≤ℤ first_of y mo da) × (last_of y mo da ≤ℤ last_of y None None)
   in-year mo da h =
       let w = within mo da h in
       rw (first-at y mo da t, last-at y mo da t) (year-around (beginning y mo da) (length_of y mo da) w.0 w.1 w.2)
 
   -- and a day in its month
-  pub in-month : (m d : ℕ) → d < month_length m y → (first_of y (month m) NoDay ≤ℤ first_of y (month m) (day d)) × (last_of y (month m) (day d) ≤ℤ last_of y (month m) NoDay)
+  pub in-month : (m d : ℕ) → d < month_length m y → (first_of y (month m) None ≤ℤ first_of y (month m) (day d)) × (last_of y (month m) (day d) ≤ℤ last_of y (month m) None)
   unfolding beginning length_of
   in-month m d h =
       let n = days_to (counted y) m in
-      rw (first-at y (month m) NoDay t, first-at y (month m) (day d) t, last-at y (month m) NoDay t, last-at y (month m) (day d) t)
+      rw (first-at y (month m) None t, first-at y (month m) (day d) t, last-at y (month m) None t, last-at y (month m) (day d) t)
       (numbered-le n (n + d) (omega arith), numbered-le (n + d + (1 - 1)) (n + (month_length m y - 1)) (omega arith))
 
   -- the first day is not behind the last, and both lie in the years that are counted
-  pub in_order : (mo : OptionMonth) (da : OptionDay) → first_of y mo da ≤ℤ last_of y mo da
+  pub in_order : (mo : Option Month) (da : Option Day) → first_of y mo da ≤ℤ last_of y mo da
   in_order mo da =
       rw (first-at y mo da t, last-at y mo da t) (numbered-le (beginning y mo da) (beginning y mo da + (length_of y mo da - 1)) (omega arith))
 
-  pub bounded : (mo : OptionMonth) (da : OptionDay) → PartsIn y mo da → (negsuc 3652058 ≤ℤ first_of y mo da) × (last_of y mo da ≤ℤ pos 3652424)
+  pub bounded : (mo : Option Month) (da : Option Day) → PartsIn y mo da → (negsuc 3652058 ≤ℤ first_of y mo da) × (last_of y mo da ≤ℤ pos 3652424)
   bounded mo da h =
       let w = within mo da h in
       let b = beginning y mo da in

@@ -1,17 +1,14 @@
 -- What the two ways of counting compute on the way. Years are counted from -10000, which is 25 cycles of 400 years before the year 0 and
 -- so has its calendar: no number is negative before the end. The calls promise what `covered` says; that both ways come out
 -- alike (`engines-equal`) is said over these.
-use Rattle.std.specs.Prelude.{ℕ, zero, suc, ◌+◌, ◌-◌, ◌/◌, ◌%◌, ltb, ℤ, pos, nat_abs, ◌+ℤ◌, ◌-ℤ◌}
+use Rattle.std.specs.Prelude.{ℕ, zero, suc, ◌+◌, ◌-◌, ◌/◌, ◌%◌, ltb, ℤ, pos, nat_abs, ◌+ℤ◌, ◌-ℤ◌, Option, Some, None}
 use Rattle.chars.specs.Pick.{pick}
-use Rattle.dates.specs.declared.OptionMonth.{OptionMonth}
-use Rattle.dates.specs.declared.OptionMonth.TheVariants.{NoMonth, SomeMonth}
-use Rattle.dates.specs.declared.OptionDay.{OptionDay}
-use Rattle.dates.specs.declared.OptionDay.TheVariants.{NoDay, SomeDay}
+use Rattle.dates.specs.declared.Day.{Day}
+use Rattle.dates.specs.declared.Month.{Month}
 use Rattle.dates.specs.declared.Datetime.{Datetime}
 use Rattle.dates.specs.Calendar.{month_length}
 use Rattle.days.specs.declared.Period.{Period}
 use Rattle.days.specs.declared.Stretch.{Stretch}
-use Rattle.days.specs.declared.Stretch.TheVariants.{NoDate, Part}
 use Rattle.days.specs.Days.{year_length, days_before, days_from}
 use Rattle.days.specs.Covered.{year_in, period}
 
@@ -19,20 +16,24 @@ use Rattle.days.specs.Covered.{year_in, period}
 unfoldable pub counted : ℤ → ℕ
 counted y = nat_abs (y +ℤ pos 10000)
 
+-- a stretch: a year and a month where counting begins, the days that are past then, and how many are covered
+abbrev pub stretch : ℕ → ℕ → ℕ → ℕ → Stretch
+stretch n m p k = record { year = n; month = m; past = p; count = k }
+
 -- the part of a year: a month with no day, or one day of a month
-unfoldable pub asked_month : ℤ → ℕ → OptionDay → Stretch
-asked_month y m NoDay = Part (counted y) m 0 (month_length m y)
-asked_month y m (SomeDay d) = pick (ltb d.0 (month_length m y)) (Part (counted y) m d.0 1) NoDate
+unfoldable pub asked_month : ℤ → ℕ → Option Day → Option Stretch
+asked_month y m None = Some (stretch (counted y) m 0 (month_length m y))
+asked_month y m (Some d) = pick (ltb d.0 (month_length m y)) (Some (stretch (counted y) m d.0 1)) None
 
 -- the same, or the whole year
-unfoldable pub asked_year : ℤ → OptionMonth → OptionDay → Stretch
-asked_year y NoMonth NoDay = Part (counted y) 0 0 (year_length y)
-asked_year y NoMonth (SomeDay d) = NoDate
-asked_year y (SomeMonth m) day = pick (ltb m.0 12) (asked_month y m.0 day) NoDate
+unfoldable pub asked_year : ℤ → Option Month → Option Day → Option Stretch
+asked_year y None None = Some (stretch (counted y) 0 0 (year_length y))
+asked_year y None (Some d) = None
+asked_year y (Some m) day = pick (ltb m.0 12) (asked_month y m.0 day) None
 
--- what is asked: a year and a month where counting begins, the days that are past then, and how many are covered
-unfoldable pub asked : Datetime → Stretch
-asked d = pick (year_in d.year) (asked_year d.year d.month d.day) NoDate
+-- what is asked of a Datetime, if it is one of the calendar
+unfoldable pub asked : Datetime → Option Stretch
+asked d = pick (year_in d.year) (asked_year d.year d.month d.day) None
 
 -- the days before a month of a year, both counted from zero
 unfoldable pub days_to : ℕ → ℕ → ℕ

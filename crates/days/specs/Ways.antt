@@ -1,13 +1,12 @@
 -- The two ways of counting: by a formula, and from the table.
-use Rattle.std.specs.Prelude.{ℕ, ◌+◌, ◌-◌, ◌*◌, ◌/◌, ◌%◌, Bool, true, false, ltb, pos, get_or}
+use Rattle.std.specs.Prelude.{ℕ, ◌+◌, ◌-◌, ◌*◌, ◌/◌, ◌%◌, Bool, true, false, ltb, pos, get_or, Option, Some, None, Result, Ok}
 use Rattle.chars.specs.Pick.{pick}
 use Rattle.dates.specs.declared.Datetime.{Datetime}
 use Rattle.dates.specs.Calendar.{leap_year}
 use Rattle.dates.specs.Value.{has_season}
-use Rattle.days.specs.declared.Covered.{Covered}
-use Rattle.days.specs.declared.Covered.TheVariants.{Days}
+use Rattle.days.specs.declared.Period.{Period}
+use Rattle.refusals.specs.declared.Refusal.{Refusal}
 use Rattle.days.specs.declared.Stretch.{Stretch}
-use Rattle.days.specs.declared.Stretch.TheVariants.{NoDate, Part}
 use Rattle.days.specs.Covered.{not_adate, seasoned}
 use Rattle.days.specs.Counts.{asked, period_from}
 use Rattle.days.specs.Table.{table}
@@ -38,10 +37,10 @@ unfoldable pub by_table : ℕ → ℕ → ℕ
 by_table n m = n / 400 * 146097 + get_or table (n % 400 * 12 + m) 0
 
 -- the days of what is asked, by the days before a month
-abbrev pub stretch_days : (ℕ → ℕ → ℕ) → Stretch → Covered
-stretch_days before NoDate = not_adate
-stretch_days before (Part n m p k) = Days (period_from (before n m + p) k)
+abbrev pub stretch_days : (ℕ → ℕ → ℕ) → Option Stretch → Result Period Refusal
+stretch_days before None = not_adate
+stretch_days before (Some s) = Ok (period_from (before s.year s.month + s.past) s.count)
 
 -- the first and the last day of a Datetime, counted in one of the two ways; HasSeason comes before all else
-unfoldable pub days_by : (ℕ → ℕ → ℕ) → Datetime → Covered
+unfoldable pub days_by : (ℕ → ℕ → ℕ) → Datetime → Result Period Refusal
 days_by before d = pick (has_season d) seasoned (stretch_days before (asked d))

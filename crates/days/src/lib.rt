@@ -12,7 +12,7 @@ ghost use Rattle.days.specs.Ways as ways;
 
 mod cycle;
 
-use dates::{Datetime, Month, OptionDay, OptionMonth, days_in_month, is_leap};
+use dates::{Datetime, Day, Month, days_in_month, is_leap};
 use refusals::{Kind, Refusal, nowhere};
 
 // The days from a first to a last, both of them included.
@@ -22,63 +22,39 @@ pub struct Period {
     pub last: i32,
 }
 
-// What a Datetime covers.
-#[derive(Clone, Copy)]
-pub enum Covered {
-    Days(Period),
-    Refused(Refusal),
-}
-
 // What is counted: from the start of a month of a year on, some days are past, and then so many are covered. The year is counted from -10000.
 #[derive(Clone, Copy)]
-enum Stretch {
-    NoDate,
-    Part {
-        year: u32,
-        month: u8,
-        past: u8,
-        count: u32,
-    },
+struct Stretch {
+    year: u32,
+    month: u8,
+    past: u8,
+    count: u32,
 }
 
 // The days of a Datetime without a season, by a formula.
-fn formula_days(d: Datetime) -> Covered
+fn formula_days(d: Datetime) -> Result<Period, Refusal>
     ensures { result ≡ ways.stretch_days ways.by_formula (counts.asked d) }
 {
-    match asked(d) {
-        Stretch::NoDate => refused(),
-        Stretch::Part {
-            year,
-            month,
-            past,
-            count,
-        } => {
-            let before = by_formula(year, month);
-            Covered::Days(period_from(before + past as u32, count))
-        }
-    }
+    let Some(a) = asked(d) else {
+        return refused();
+    };
+    let before = by_formula(a.year, a.month);
+    Ok(period_from(before + a.past as u32, a.count))
 }
 
 // The same from the table.
-fn table_days(d: Datetime) -> Covered
+fn table_days(d: Datetime) -> Result<Period, Refusal>
     ensures { result ≡ ways.stretch_days ways.by_table (counts.asked d) }
 {
-    match asked(d) {
-        Stretch::NoDate => refused(),
-        Stretch::Part {
-            year,
-            month,
-            past,
-            count,
-        } => {
-            let before = by_table(year, month);
-            Covered::Days(period_from(before + past as u32, count))
-        }
-    }
+    let Some(a) = asked(d) else {
+        return refused();
+    };
+    let before = by_table(a.year, a.month);
+    Ok(period_from(before + a.past as u32, a.count))
 }
 
 // The first and the last day of a Datetime, by a formula; one with a season is refused.
-pub fn days_by_formula(d: Datetime) -> Covered
+pub fn days_by_formula(d: Datetime) -> Result<Period, Refusal>
     ensures { result ≡ spec.covered d }
 {
     if d.has_season() {
@@ -88,7 +64,7 @@ pub fn days_by_formula(d: Datetime) -> Covered
 }
 
 // The same from the table.
-pub fn days_by_table(d: Datetime) -> Covered
+pub fn days_by_table(d: Datetime) -> Result<Period, Refusal>
     ensures { result ≡ spec.covered d }
 {
     if d.has_season() {
@@ -98,17 +74,17 @@ pub fn days_by_table(d: Datetime) -> Covered
 }
 
 // The refusal of a season.
-fn seasoned() -> Covered
+fn seasoned() -> Result<Period, Refusal>
     ensures { result ≡ spec.seasoned }
 {
-    Covered::Refused(nowhere(Kind::HasSeason))
+    Err(nowhere(Kind::HasSeason))
 }
 
 // The refusal of what is no date of the calendar.
-fn refused() -> Covered
+fn refused() -> Result<Period, Refusal>
     ensures { result ≡ spec.not_adate }
 {
-    Covered::Refused(nowhere(Kind::NotACalendarDate))
+    Err(nowhere(Kind::NotACalendarDate))
 }
 
 // Whether days are counted in a year.
@@ -127,68 +103,64 @@ fn counted(year: i32) -> u32
 }
 
 // What a Datetime asks for, if it is one of the calendar.
-fn asked(d: Datetime) -> Stretch
+#[tactic(auto, unfolding(crate::specs::Counts::asked, chars::specs::Pick::pick))]
+fn asked(d: Datetime) -> Option<Stretch>
     ensures { result ≡ counts.asked d }
 {
-    let year = d.year;
-    let month = d.month;
-    let day = d.day;
-    if in_years(year) {
-        return asked_year(year, month, day);
+    if in_years(d.year) {
+        return asked_year(d.year, d.month, d.day);
     }
-    Stretch::NoDate
+    None
 }
 
 // The whole year, or a part of it.
-fn asked_year(year: i32, month: OptionMonth, day: OptionDay) -> Stretch
+#[tactic(auto, unfolding(crate::specs::Counts::asked_year, chars::specs::Pick::pick))]
+fn asked_year(year: i32, month: Option<Month>, day: Option<Day>) -> Option<Stretch>
     requires { spec.year_in year ≡ true }
     ensures { result ≡ counts.asked_year year month day }
 {
-    match month {
-        OptionMonth::NoMonth => match day {
-            OptionDay::NoDay => Stretch::Part {
-                year: counted(year),
-                month: 0,
-                past: 0,
-                count: year_length(year),
-            },
-            OptionDay::SomeDay(_) => Stretch::NoDate,
-        },
-        OptionMonth::SomeMonth(m) => {
-            if m.0 < 12 {
-                return asked_month(year, m, day);
-            }
-            Stretch::NoDate
+    if let Some(m) = month {
+        if m.0 < 12 {
+            return asked_month(year, m, day);
         }
+        return None;
     }
+    if day.is_some() {
+        return None;
+    }
+    Some(Stretch {
+        year: counted(year),
+        month: 0,
+        past: 0,
+        count: year_length(year),
+    })
 }
 
 // A month, or one day of it.
-fn asked_month(year: i32, month: Month, day: OptionDay) -> Stretch
+#[tactic(auto, unfolding(crate::specs::Counts::asked_month, chars::specs::Pick::pick))]
+fn asked_month(year: i32, month: Month, day: Option<Day>) -> Option<Stretch>
     requires { spec.year_in year ≡ true }
     ensures { result ≡ counts.asked_month year month.0 day }
 {
     let n = counted(year);
     let length = days_in_month(month, year);
-    match day {
-        OptionDay::NoDay => Stretch::Part {
+    let Some(e) = day else {
+        return Some(Stretch {
             year: n,
             month: month.0,
             past: 0,
             count: length as u32,
-        },
-        OptionDay::SomeDay(e) => {
-            if e.0 < length {
-                return Stretch::Part {
-                    year: n,
-                    month: month.0,
-                    past: e.0,
-                    count: 1,
-                };
-            }
-            Stretch::NoDate
-        }
+        });
+    };
+    if e.0 < length {
+        return Some(Stretch {
+            year: n,
+            month: month.0,
+            past: e.0,
+            count: 1,
+        });
     }
+    None
 }
 
 // How many days a year has.

@@ -6,14 +6,14 @@ use Prim.Native.Nat.{ℕ, ◌<◌}
 use borrow.Author.Tests.{ltb-true}
 use lib.Dec.{ltb}
 use Rattle.chars.proofs.Cases.{by-test, and-true}
-use Rattle.dates.specs.declared.OptionMonth.{OptionMonth}
-use Rattle.dates.specs.declared.OptionMonth.TheVariants.{NoMonth, SomeMonth}
+use Rattle.dates.specs.declared.Month.{Month}
+use Rattle.std.specs.Prelude.{Option, Some, None}
 use Rattle.fields.specs.Names.{Word, month_in, names, abbreviations, get_month_for_name, get_month_for_abbr, or_else, month_for}
 
 -- a stored month, if there is one, is below n
-abbrev pub MonthBelow : ℕ → OptionMonth → Type 0
-MonthBelow n NoMonth = Unit {0}
-MonthBelow n (SomeMonth m) = m.0 < n
+abbrev pub MonthBelow : ℕ → Option Month → Type 0
+MonthBelow n None = Unit {0}
+MonthBelow n (Some m) = m.0 < n
 
 -- whether every word of a list says one
 abbrev say_below : ℕ → List Word → Bool
@@ -27,10 +27,10 @@ word_below n (w ∷ ws) t h =
     let p = and-true (ltb w.says n) (say_below n ws) h in
     by-test (MonthBelow n) _ (λ _. ltb-true w.says n p.0) (λ _. word_below n ws t p.1)
 
-else-below : (n : ℕ) (a b : OptionMonth) → MonthBelow n a → MonthBelow n b → MonthBelow n (or_else a b)
+else-below : (n : ℕ) (a b : Option Month) → MonthBelow n a → MonthBelow n b → MonthBelow n (or_else a b)
 unfolding or_else
-else-below n (SomeMonth m) b h k = h
-else-below n NoMonth b h k = k
+else-below n (Some m) b h k = h
+else-below n None b h k = k
 
 -- the month that a name or an abbreviation says
 pub named-below : (t : List ℕ) → MonthBelow 12 (month_for t)

@@ -12,37 +12,21 @@ use Rattle.refusals.specs.declared.Refusal.{Refusal}
 use Rattle.refusals.specs.declared.FileSpan.{FileSpan}
 use Rattle.scanner.specs.declared.Class.TheVariants.{Whitespace, AsciiAlphabetic, Is}
 use Rattle.scanner.specs.declared.Cursor.{Cursor}
-use Rattle.scanner.specs.declared.EatIf.{EatIf}
-use Rattle.scanner.specs.declared.EatIf.TheVariants.{Past, Kept}
+use Rattle.dates.specs.declared.Month.{Month}
+use Rattle.numbers.specs.declared.NoNumber.{NoNumber}
+use Rattle.std.specs.Prelude.{Option, Some, None, Result, Ok, Err}
 use Rattle.scanner.specs.Scan.{eat_while, eat_if, part}
-use Rattle.dates.specs.declared.OptionMonth.{OptionMonth}
-use Rattle.dates.specs.declared.OptionMonth.TheVariants.{NoMonth, SomeMonth}
-use Rattle.dates.specs.declared.OptionDay.{OptionDay}
-use Rattle.dates.specs.declared.OptionDay.TheVariants.{NoDay, SomeDay}
 use Rattle.dates.specs.declared.Day.{Day}
 use Rattle.dates.specs.Value.{month, day}
 use Rattle.numbers.specs.declared.Digits.TheVariants.{OneOrTwo}
-use Rattle.numbers.specs.declared.Parsed.{Parsed}
 use Rattle.numbers.proofs.Laws.{Below, number, wrong, panics, unsigned-below}
-use Rattle.numbers.specs.declared.ParsedNumber.{ParsedNumber}
-use Rattle.numbers.specs.declared.ParsedNumber.TheVariants.{Value, NoValue}
 use Rattle.numbers.specs.Trim.{trim}
 use Rattle.numbers.specs.Parse.{parse}
 use Rattle.numbers.proofs.Whole.{AtMost, at_most, no_number, parse-most}
 use Rattle.fields.specs.Names.{month_for}
 use Rattle.fields.proofs.Named.{MonthBelow, named-below}
 use Rattle.fields.specs.declared.Sign.{Sign}
-use Rattle.fields.specs.declared.Sign.TheVariants.{NoSign, Plus, Minus}
-use Rattle.fields.specs.declared.ReadEra.{ReadEra}
-use Rattle.fields.specs.declared.ReadEra.TheVariants.{Era, NoEra, BadEra}
-use Rattle.fields.specs.declared.ReadYear.{ReadYear}
-use Rattle.fields.specs.declared.ReadYear.TheVariants.{Year, NoYear}
-use Rattle.fields.specs.declared.ReadMonth.{ReadMonth}
-use Rattle.fields.specs.declared.ReadMonth.TheVariants.{MonthRead, NoMonthRead}
-use Rattle.fields.specs.declared.ReadDay.{ReadDay}
-use Rattle.fields.specs.declared.ReadDay.TheVariants.{DayRead, NoDayRead}
-use Rattle.fields.specs.declared.ReadDayField.{ReadDayField}
-use Rattle.fields.specs.declared.ReadDayField.TheVariants.{Given, NotGiven}
+use Rattle.fields.specs.declared.Sign.TheVariants.{Minus, Plus}
 use Rattle.fields.specs.Year.{signed_by, before_christ, on_past, ended, with_era, behind_digits, on_number, year_digits, year_from, behind_sign, year_at, get_year}
 use Rattle.fields.specs.Month.{named, month_of, month_field}
 use Rattle.fields.specs.Day.{is_day, day_of, day_digits, day_behind, day_at, day_from, day_in_month_field, day_given, day_field}
@@ -51,15 +35,15 @@ use Rattle.fields.proofs.Days.{day_in}
 -- ---- the year
 
 -- a year that was read has at most four digits
-pub data YearIn : ReadYear → Type 0 where
-  year : {y : ℤ} → nat_abs y < 10000 → YearIn (Year y)
-  no_year : {e : TextRefusal} → YearIn (NoYear e)
+pub data YearIn : Result ℤ TextRefusal → Type 0 where
+  year : {y : ℤ} → nat_abs y < 10000 → YearIn (Ok y)
+  no_year : {e : TextRefusal} → YearIn (Err e)
 
-signed-in : (sign : Sign) (n : ℕ) → n < 10000 → nat_abs (signed_by sign n) < 10000
-signed-in NoSign n h = h
-signed-in Plus n h = h
-signed-in Minus zero h = h
-signed-in Minus (suc n) h = h
+signed-in : (sign : Option Sign) (n : ℕ) → n < 10000 → nat_abs (signed_by sign n) < 10000
+signed-in None n h = h
+signed-in (Some Plus) n h = h
+signed-in (Some Minus) zero h = h
+signed-in (Some Minus) (suc n) h = h
 
 -- n BC is no further from zero than n
 before-in : (n : ℕ) → n < 10000 → nat_abs (before_christ n) < 10000
@@ -74,52 +58,52 @@ ended-in : (s : List ℕ) (idx at : ℕ) (y : ℤ) → nat_abs y < 10000 → Yea
 unfolding ended
 ended-in s idx at y h = by-test YearIn _ (λ _. year h) (λ _. no_year)
 
-era-in : (s : List ℕ) (idx : ℕ) (sign : Sign) (n : ℕ) → n < 10000 → (e : ReadEra) → YearIn (with_era s idx sign n e)
+era-in : (s : List ℕ) (idx : ℕ) (sign : Option Sign) (n : ℕ) → n < 10000 → (e : Result (Option Bool × Cursor) TextRefusal) → YearIn (with_era s idx sign n e)
 unfolding with_era
-era-in s idx sign n h (Era positive c) =
+era-in s idx sign n h (Ok (Some positive, c)) =
     by-test YearIn _ (λ _. no_year) λ _.
     by-test YearIn _ (λ _. no_year) λ _.
     by-test YearIn _ (λ _. ended-in s idx c.0 (pos n) h) (λ _. year (before-in n h))
-era-in s idx sign n h (NoEra c) = ended-in s idx c.0 (signed_by sign n) (signed-in sign n h)
-era-in s idx sign n h (BadEra e) = no_year
+era-in s idx sign n h (Ok (None, c)) = ended-in s idx c.0 (signed_by sign n) (signed-in sign n h)
+era-in s idx sign n h (Err e) = no_year
 
-number_in : {p : ParsedNumber} {go : ℕ → ReadYear} → AtMost 9999 p → ((n : ℕ) → n < 10000 → YearIn (go n)) → YearIn (on_number p go)
+number_in : {p : Option ℕ} {go : ℕ → Result ℤ TextRefusal} → AtMost 9999 p → ((n : ℕ) → n < 10000 → YearIn (go n)) → YearIn (on_number p go)
 unfolding on_number
 number_in (at_most {v} h) g = g v (omega arith)
 number_in no_number g = no_year
 
-behind-in : (s : List ℕ) (idx at : ℕ) (sign : Sign) → YearIn (behind_sign s idx at sign)
+behind-in : (s : List ℕ) (idx at : ℕ) (sign : Option Sign) → YearIn (behind_sign s idx at sign)
 unfolding behind_sign year_from year_digits behind_digits
 behind-in s idx at sign =
     by-test YearIn _ (λ _. no_year) λ _.
     by-test YearIn _ (λ _. no_year) λ _.
     by-test YearIn _ (λ _. number_in (parse-most 9999 _) λ n h. era-in s idx sign n h _) (λ _. no_year)
 
-past-in : (r : EatIf) {go : ℕ → ReadYear} {else : ReadYear} → ((c : ℕ) → YearIn (go c)) → YearIn else → YearIn (on_past r go else)
+past-in : (r : Option Cursor) {go : ℕ → Result ℤ TextRefusal} {else : Result ℤ TextRefusal} → ((c : ℕ) → YearIn (go c)) → YearIn else → YearIn (on_past r go else)
 unfolding on_past
-past-in (Past c) g h = g c.0
-past-in Kept g h = h
+past-in (Some c) g h = g c.0
+past-in None g h = h
 
 -- of every text
 pub year_in : (s : List ℕ) → YearIn (get_year s)
 unfolding get_year year_at
 year_in s =
     let idx = eat_while Whitespace s 0 in
-    past-in (eat_if (Is 0x2D) s idx) (λ c. behind-in s idx c Minus)
-    (past-in (eat_if (Is 0x2B) s idx) (λ c. behind-in s idx c Plus) (behind-in s idx idx NoSign))
+    past-in (eat_if (Is 0x2D) s idx) (λ c. behind-in s idx c (Some Minus))
+    (past-in (eat_if (Is 0x2B) s idx) (λ c. behind-in s idx c (Some Plus)) (behind-in s idx idx None))
 
 -- ---- the month
 
 -- a month that was read is absent or stored below 99: a number has two digits, and a name says one of twelve
-pub data MonthIn : ReadMonth → Type 0 where
-  month_read : {m : OptionMonth} {c : Cursor} → MonthBelow 99 m → MonthIn (MonthRead m c)
-  no_month : {e : TextRefusal} → MonthIn (NoMonthRead e)
+pub data MonthIn : Result (Option Month × Cursor) TextRefusal → Type 0 where
+  month_read : {m : Option Month} {c : Cursor} → MonthBelow 99 m → MonthIn (Ok (m, c))
+  no_month : {e : TextRefusal} → MonthIn (Err e)
 
-below_more : (m : OptionMonth) → MonthBelow 12 m → MonthBelow 99 m
-below_more NoMonth h = tt
-below_more (SomeMonth m) h = omega arith
+below_more : (m : Option Month) → MonthBelow 12 m → MonthBelow 99 m
+below_more None h = tt
+below_more (Some m) h = omega arith
 
-parsed-in : (s : List ℕ) {p : Parsed} → Below (10 ^ 2) p → MonthIn (month_of s p)
+parsed-in : (s : List ℕ) {p : Result (ℕ × Cursor) NoNumber} → Below (10 ^ 2) p → MonthIn (month_of s p)
 unfolding month_of named
 parsed-in s (number {v} h) = by-test MonthIn _ (λ _. no_month) (λ _. month_read {m = month (v - 1)} (omega arith))
 parsed-in s (wrong {c}) =
@@ -135,40 +119,40 @@ month_in s = parsed-in s (unsigned-below s 0 OneOrTwo)
 -- ---- the day
 
 -- a stored day, if there is one, is below n
-abbrev pub DayBelow : ℕ → OptionDay → Type 0
-DayBelow n NoDay = Unit {0}
-DayBelow n (SomeDay d) = d.0 < n
+abbrev pub DayBelow : ℕ → Option Day → Type 0
+DayBelow n None = Unit {0}
+DayBelow n (Some d) = d.0 < n
 
 -- a day that was read beside a month is absent or stored below 31
-pub data DayIn : ReadDay → Type 0 where
-  day_read : {d : OptionDay} → DayBelow 31 d → DayIn (DayRead d)
-  no_day : {e : TextRefusal} → DayIn (NoDayRead e)
+pub data DayIn : Result (Option Day) TextRefusal → Type 0 where
+  day_read : {d : Option Day} → DayBelow 31 d → DayIn (Ok d)
+  no_day : {e : TextRefusal} → DayIn (Err e)
 
 stored-in : (d : ℕ) → is_day d ≡ true → d - 1 < 31
 stored-in d e = let h = day_in d e in omega arith
 
-day-of-in : (start end : ℕ) (p : ParsedNumber) → DayIn (day_of start end p)
+day-of-in : (start end : ℕ) (p : Option ℕ) → DayIn (day_of start end p)
 unfolding day_of
-day-of-in start end (Value d) = by-test DayIn _ (λ e. day_read {d = day (d - 1)} (stored-in d e)) (λ _. no_day)
-day-of-in start end NoValue = no_day
+day-of-in start end (Some d) = by-test DayIn _ (λ e. day_read {d = day (d - 1)} (stored-in d e)) (λ _. no_day)
+day-of-in start end None = no_day
 
 -- of every text and place
 pub inside-in : (s : List ℕ) (at : ℕ) → DayIn (day_in_month_field s at)
 unfolding day_in_month_field day_from day_at day_behind day_digits
 inside-in s at =
     by-test DayIn _
-    (λ _. by-test DayIn _ (λ _. day_read {d = NoDay} tt) (λ _. no_day))
+    (λ _. by-test DayIn _ (λ _. day_read {d = None} tt) (λ _. no_day))
     (λ _. day-of-in _ _ _)
 
 -- a day field's day is stored below 31
-pub data DayFieldIn : ReadDayField → Type 0 where
-  given : {d : Day} → d.0 < 31 → DayFieldIn (Given d)
-  not_given : {e : Refusal} → DayFieldIn (NotGiven e)
+pub data DayFieldIn : Result Day Refusal → Type 0 where
+  given : {d : Day} → d.0 < 31 → DayFieldIn (Ok d)
+  not_given : {e : Refusal} → DayFieldIn (Err e)
 
-given-in : (span : FileSpan) (p : ParsedNumber) → DayFieldIn (day_given span p)
+given-in : (span : FileSpan) (p : Option ℕ) → DayFieldIn (day_given span p)
 unfolding day_given
-given-in span (Value d) = by-test DayFieldIn _ (λ e. given (stored-in d e)) (λ _. not_given)
-given-in span NoValue = by-test DayFieldIn _ (λ _. not_given) (λ _. not_given)
+given-in span (Some d) = by-test DayFieldIn _ (λ e. given (stored-in d e)) (λ _. not_given)
+given-in span None = by-test DayFieldIn _ (λ _. not_given) (λ _. not_given)
 
 -- of every text
 pub field_in : (s : List ℕ) (span : FileSpan) → DayFieldIn (day_field s span)

@@ -1,10 +1,9 @@
 -- The English names of the months, and their abbreviations, in any mixture of cases.
 use Prim.Native.Char.{code}
-use Rattle.std.specs.Prelude.{ℕ, ◌+◌, Bool, true, false, ◌&&◌, List, [], ◌∷◌, ltb, eqb}
+use Rattle.std.specs.Prelude.{ℕ, ◌+◌, Bool, true, false, ◌&&◌, List, [], ◌∷◌, ltb, eqb, Option, Some, None}
 use Prim.Native.String.{String}
 use Rattle.chars.specs.Pick.{pick}
-use Rattle.dates.specs.declared.OptionMonth.{OptionMonth}
-use Rattle.dates.specs.declared.OptionMonth.TheVariants.{NoMonth, SomeMonth}
+use Rattle.dates.specs.declared.Month.{Month}
 use Rattle.dates.specs.Value.{month}
 use Rattle.chars.specs.Ascii.{ascii}
 
@@ -20,7 +19,7 @@ same_letters (x ∷ name) [] = false
 same_letters (x ∷ name) (b ∷ t) = eqb x (lower b) && same_letters name t
 
 -- a month as it is stored
-abbrev pub stored_month : ℕ → OptionMonth
+abbrev pub stored_month : ℕ → Option Month
 stored_month m = month m
 
 -- a word for a month, and the month as it is stored
@@ -31,8 +30,8 @@ pub record Word : Type 0 where
   pub says : ℕ
 
 -- the month of the first word that the text is
-unfoldable pub month_in : List Word → List ℕ → OptionMonth
-month_in [] t = NoMonth
+unfoldable pub month_in : List Word → List ℕ → Option Month
+month_in [] t = None
 month_in (w ∷ ws) t = pick (same_letters (ascii w.word) t) (stored_month w.says) (month_in ws t)
 
 -- the names, in full and English alone
@@ -73,18 +72,18 @@ abbreviations =
     ∷ []
 
 -- a name in full: a part of one is no name
-unfoldable pub get_month_for_name : List ℕ → OptionMonth
+unfoldable pub get_month_for_name : List ℕ → Option Month
 get_month_for_name t = month_in names t
 
 -- an abbreviation without a full stop
-unfoldable pub get_month_for_abbr : List ℕ → OptionMonth
+unfoldable pub get_month_for_abbr : List ℕ → Option Month
 get_month_for_abbr t = month_in abbreviations t
 
 -- the first month, or where it is absent the second
-unfoldable pub or_else : OptionMonth → OptionMonth → OptionMonth
-or_else (SomeMonth m) else = SomeMonth m
-or_else NoMonth else = else
+unfoldable pub or_else : Option Month → Option Month → Option Month
+or_else (Some m) else = Some m
+or_else None else = else
 
 -- the month of a name, or else of an abbreviation
-unfoldable pub month_for : List ℕ → OptionMonth
+unfoldable pub month_for : List ℕ → Option Month
 month_for t = or_else (get_month_for_name t) (get_month_for_abbr t)

@@ -7,9 +7,8 @@ use Prim.Native.String.{String}
 use lib.IntN.{pos}
 use Rattle.chars.specs.Pick.{pick}
 use Rattle.chars.specs.Ascii.{ascii}
-use Rattle.dates.specs.declared.OptionDay.TheVariants.{NoDay}
-use Rattle.dates.specs.declared.OptionTime.TheVariants.{NoTime}
-use Rattle.dates.specs.declared.OptionSeason.TheVariants.{Spring}
+use Rattle.dates.specs.declared.Season.TheVariants.{Spring}
+use Rattle.std.specs.Prelude.{Some, None}
 use Rattle.dates.specs.declared.DateValue.TheVariants.{At, Between}
 use Rattle.dates.specs.declared.Date.{Date}
 use Rattle.dates.specs.Value.{month, day, datetime, season_of, date}
@@ -75,16 +74,16 @@ pub record DateExample : Type 0 where
 
 -- a day, the days of a month as the ported reader has them, a Date that the writer panics at, and one that it refuses
 abbrev some_day : Date
-some_day = date (At (datetime (pos 1951) (month 6) (day 2) NoTime)) false false
+some_day = date (At (datetime (pos 1951) (month 6) (day 2) None)) false false
 
 abbrev month_days : Date
-month_days = date (Between (datetime (pos 2000) (month 1) (day 0) NoTime) (datetime (pos 2000) (month 1) (day 30) NoTime)) false false
+month_days = date (Between (datetime (pos 2000) (month 1) (day 0) None) (datetime (pos 2000) (month 1) (day 30) None)) false false
 
 abbrev too_late : Date
-too_late = date (At (datetime (pos 1951) (month 255) NoDay NoTime)) false false
+too_late = date (At (datetime (pos 1951) (month 255) None None)) false false
 
 abbrev spring : Date
-spring = date (At (season_of (pos 1951) Spring)) false false
+spring = date (At (season_of (pos 1951) (Some Spring))) false false
 
 abbrev pub date_lines : List DateExample
 date_lines =
@@ -120,7 +119,7 @@ abbrev pub six_lines : List SixExample
 six_lines =
     record { year = ""; month = ""; day = ""; end_year = ""; end_month = ""; end_day = ""; verdict = NoDate; text = "" }
     ∷ record { year = "1949"; month = ""; day = ""; end_year = ""; end_month = ""; end_day = ""; verdict = Full; text = "" }
-    ∷ record { year = "49"; month = "7"; day = ""; end_year = ""; end_month = ""; end_day = ""; verdict = ShortYear (date (At (datetime (pos 49) (month 6) NoDay NoTime)) false false); text = "3\tk\tyear\tyear \"49\", month \"7\"\tshort year\ta year of fewer than four digits is read as it stands; the typesetting run would print 0049-07\n" }
+    ∷ record { year = "49"; month = "7"; day = ""; end_year = ""; end_month = ""; end_day = ""; verdict = ShortYear (date (At (datetime (pos 49) (month 6) None None)) false false); text = "3\tk\tyear\tyear \"49\", month \"7\"\tshort year\ta year of fewer than four digits is read as it stands; the typesetting run would print 0049-07\n" }
     ∷ record { year = "1"; month = "2"; day = "3"; end_year = "4"; end_month = "5"; end_day = "6"; verdict = Refused (refusal DayOutOfRange (file_span 0 1)); text = "3\tk\tyear\tyear \"1\", month \"2\", day \"3\", endyear \"4\", endmonth \"5\", endday \"6\"\trefused\tno such day, at 0..1\n" }
     ∷ record { year = ""; month = ""; day = "3"; end_year = ""; end_month = ""; end_day = "\""; verdict = Unread; text = "3\tk\tyear\tday \"3\", endday \"\\\"\"\trefused\ta part is not read: a day needs its month, an end its year\n" }
     ∷ record { year = ""; month = ""; day = ""; end_year = ""; end_month = ""; end_day = ""; verdict = Unread; text = "3\tk\tyear\t\trefused\ta part is not read: a day needs its month, an end its year\n" }

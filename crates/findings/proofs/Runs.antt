@@ -12,9 +12,7 @@ use borrow.Author.Tests.{lt-leb}
 use Rattle.chars.specs.Pick.{pick}
 use Rattle.refusals.specs.Offset.{top}
 use Rattle.refusals.specs.declared.Refusal.{Refusal}
-use Rattle.puts.specs.declared.Measured.TheVariants.{Length}
-use Rattle.puts.specs.declared.Written.{Written}
-use Rattle.puts.specs.declared.Written.TheVariants.{Done, Refused}
+use Rattle.std.specs.Prelude.{Result, Ok, Err}
 use Rattle.puts.specs.Numbers.{digits, width, decimal}
 use Rattle.puts.specs.Answers.{decided, answer, afterwards, Tried}
 use Rattle.puts.proofs.Counts.{length-decimal}
@@ -81,7 +79,7 @@ tried-digits least n {w} {l} {m} {i} {j} {k} e p q =
 
 -- a text t was measured over another buffer, and n bytes were counted; l is the lent buffer, which has fewer bytes than the largest number
 module _ {t d e : List ℕ} {n : ℕ} (first : Ran t d 0 e n) (l : List ℕ) (small : length l < top) where
-  by_count : decided (Length n) (length l) ≡ decided (Length (length t)) (length l)
+  by_count : decided (Ok n) (length l) ≡ decided (Ok (length t)) (length l)
   unfolding decided pick
   by_count =
       elim (dec_le (length t) top) [
@@ -91,14 +89,14 @@ module _ {t d e : List ℕ} {n : ℕ} (first : Ran t d 0 e n) (l : List ℕ) (sm
             rw (lt-leb n (length l) (omega arith), lt-leb (length t) (length l) (omega arith))
       ]
 
-  module _ {w : Written} (ew : w ≡ decided (Length n) (length l)) where
+  module _ {w : Result ℕ Refusal} (ew : w ≡ decided (Ok n) (length l)) where
     -- there is room, and it was stored
-    pub stored : {m : ℕ} → w ≡ Done m → {out : List ℕ} {k : ℕ} → Ran t l 0 out k → (Done k ≡ answer false t (length l)) × (out ≡ afterwards false t l)
+    pub stored : {m : ℕ} → w ≡ Ok m → {out : List ℕ} {k : ℕ} → Ran t l 0 out k → (Ok k ≡ answer false t (length l)) × (out ≡ afterwards false t l)
     stored ed second =
         let f = fits false t l (has-length t refl refl) (ew ∙ by_count) ed in
         done false t l (has-length t refl refl) (ew ∙ by_count) ed
         (record { behind = second.moved.within (omega arith); bytes = second.bytes (omega arith) (omega arith) })
 
     -- there is none
-    pub refused : {e : Refusal} → w ≡ Refused e → (Refused e ≡ answer false t (length l)) × (l ≡ afterwards false t l)
+    pub refused : {e : Refusal} → w ≡ Err e → (Err e ≡ answer false t (length l)) × (l ≡ afterwards false t l)
     refused er = refuses false t l (has-length t refl refl) (ew ∙ by_count) er

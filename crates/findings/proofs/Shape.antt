@@ -19,8 +19,7 @@ use Rattle.dates.specs.declared.DateValue.TheVariants.{At, After, Before, Betwee
 use Rattle.dates.specs.declared.Date.{Date}
 use Rattle.refusals.specs.declared.Refusal.{Refusal}
 use Rattle.refusals.specs.Refusal.{number, has_place}
-use Rattle.puts.specs.declared.Measured.{Measured}
-use Rattle.puts.specs.declared.Measured.TheVariants.{Length, NoLength}
+use Rattle.std.specs.Prelude.{Result, Ok, Err}
 use Rattle.puts.specs.Numbers.{digits, width, decimal}
 use Rattle.puts.specs.Marks.{mark_text}
 use Rattle.writer.specs.declared.Parts.{Parts}
@@ -185,10 +184,10 @@ date-seen : (d : Date) → Seen (date_text d)
 unfolding date_text
 date-seen d = joins (value-seen d.value) (mark-seen d.uncertain d.approximate)
 
-text-seen : (m : Measured) {t : List ℕ} → Seen t → Seen (text_if m t)
+text-seen : (m : Result ℕ Refusal) {t : List ℕ} → Seen t → Seen (text_if m t)
 unfolding text_if
-text-seen (Length n) p = p
-text-seen (NoLength e) p = none
+text-seen (Ok n) p = p
+text-seen (Err e) p = none
 
 written-seen : (d : Date) → Seen (written_text d)
 unfolding written_text

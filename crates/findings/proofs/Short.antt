@@ -7,8 +7,8 @@ use lib.Dec.{eqb}
 use lib.ListN.{length}
 use Rattle.chars.proofs.Cases.{by-test}
 use Rattle.dates.specs.declared.Date.{Date}
-use Rattle.refusals.specs.declared.ReadDate.{ReadDate}
-use Rattle.refusals.specs.declared.ReadDate.TheVariants.{Accepted, Refused as NotRead}
+use Rattle.refusals.specs.declared.Refusal.{Refusal}
+use Rattle.std.specs.Prelude.{Result, Ok, Err}
 use Rattle.verdicts.specs.declared.Verdict.{Verdict}
 use Rattle.verdicts.specs.declared.Verdict.TheVariants.{NoDate, Full, NotStrict, ShortYear, Unread, Refused}
 use Rattle.verdicts.specs.Dates.{is_same, by_readers, date_verdict}
@@ -26,10 +26,10 @@ is_short (ShortYear d) = true
 is_short Unread = false
 is_short (Refused e) = false
 
-readers-not : (strict ported : ReadDate) → is_short (by_readers strict ported) ≡ false
+readers-not : (strict ported : Result Date Refusal) → is_short (by_readers strict ported) ≡ false
 unfolding by_readers is_short
-readers-not strict (Accepted e) = by-test (λ (v : Verdict). is_short v ≡ false) (is_same strict e) (λ _. refl) (λ _. refl)
-readers-not strict (NotRead f) = refl
+readers-not strict (Ok e) = by-test (λ (v : Verdict). is_short v ≡ false) (is_same strict e) (λ _. refl) (λ _. refl)
+readers-not strict (Err f) = refl
 
 date-not : (s : List ℕ) → is_short (date_verdict s) ≡ false
 unfolding date_verdict is_short

@@ -17,7 +17,7 @@ ghost use Rattle.findings.specs.Runs.{Moved, Ran, head, tail};
 use csv_rows::Fault;
 use dates::Date;
 use headers::{RowFault, Unusable};
-use puts::{Measured, Written, decide, put_bytes, put_digits, width};
+use puts::{decide, put_bytes, put_digits, width};
 use refusals::Refusal;
 use verdicts::Verdict;
 
@@ -140,10 +140,8 @@ fn put_escaped(t: &[u8], out: &mut [u8], at: usize) -> usize
     ensures { Ran (escapes.escaped t.now) out.old at out.new result }
 {
     let mut k = at;
-    let mut i = 0;
-    while i < t.len() {
-        k = put_shown(t[i], out, k);
-        i += 1;
+    for b in t {
+        k = put_shown(*b, out, k);
     }
     k
 }
@@ -207,8 +205,8 @@ fn put_written(d: Date, out: &mut [u8], at: usize) -> usize
 {
     let mut text = [0u8; 40];
     match writer::write_text(d, &mut text) {
-        Written::Done(n) => put_piece(&text[..n], out, at),
-        Written::Refused(_) => at,
+        Ok(n) => put_piece(&text[..n], out, at),
+        Err(_) => at,
     }
 }
 
@@ -248,6 +246,7 @@ fn put_short(d: Date, out: &mut [u8], at: usize) -> usize
 }
 
 // Whether a verdict says anything: of no date, and of a full one, nothing is said.
+#[tactic(auto, unfolding(crate::specs::Words::is_said))]
 pub fn is_said(v: Verdict) -> bool
     ensures { result ≡ words.is_said v }
 {
@@ -262,6 +261,7 @@ pub fn is_said(v: Verdict) -> bool
 }
 
 // Its sort.
+#[tactic(auto, unfolding(crate::specs::Words::sort))]
 fn put_sort(v: Verdict, out: &mut [u8], at: usize) -> usize
     ensures { Ran (words.sort v) out.old at out.new result }
 {
@@ -276,6 +276,7 @@ fn put_sort(v: Verdict, out: &mut [u8], at: usize) -> usize
 }
 
 // Its message.
+#[tactic(auto, unfolding(crate::specs::Words::message))]
 fn put_message(v: Verdict, windowed: bool, out: &mut [u8], at: usize) -> usize
     ensures { Ran (words.message v windowed) out.old at out.new result }
 {
@@ -579,18 +580,14 @@ pub fn write_date_finding(
     verdict: Verdict,
     windowed: bool,
     out: &mut [u8],
-) -> Written
+) -> Result<usize, Refusal>
     ensures value { result ≡ writing.answer false (lines.date_line line key.now column cell.now verdict windowed) (length out.old) }
     ensures out_after { out.new ≡ writing.afterwards false (lines.date_line line key.now column cell.now verdict windowed) out.old }
 {
     let mut one = [0u8; 1];
     let n = put_date_line(line, key, column, cell, verdict, windowed, &mut one);
-    match decide(Measured::Length(n), out.len()) {
-        Written::Done(_) => Written::Done(put_date_line(
-            line, key, column, cell, verdict, windowed, out,
-        )),
-        Written::Refused(e) => Written::Refused(e),
-    }
+    decide(Ok(n), out.len())?;
+    Ok(put_date_line(line, key, column, cell, verdict, windowed, out))
 }
 
 // What is said of a date in six cells.
@@ -605,7 +602,7 @@ pub fn write_six_finding(
     end_day: &[u8],
     verdict: Verdict,
     out: &mut [u8],
-) -> Written
+) -> Result<usize, Refusal>
     ensures value { result ≡ writing.answer false (lines.six_line line key.now year.now month.now day.now end_year.now end_month.now end_day.now verdict) (length out.old) }
     ensures out_after { out.new ≡ writing.afterwards false (lines.six_line line key.now year.now month.now day.now end_year.now end_month.now end_day.now verdict) out.old }
 {
@@ -613,25 +610,21 @@ pub fn write_six_finding(
     let n = put_six_line(
         line, key, year, month, day, end_year, end_month, end_day, verdict, &mut one,
     );
-    match decide(Measured::Length(n), out.len()) {
-        Written::Done(_) => Written::Done(put_six_line(
-            line, key, year, month, day, end_year, end_month, end_day, verdict, out,
-        )),
-        Written::Refused(e) => Written::Refused(e),
-    }
+    decide(Ok(n), out.len())?;
+    Ok(put_six_line(
+        line, key, year, month, day, end_year, end_month, end_day, verdict, out,
+    ))
 }
 
 // What is said of a row that can not be used.
-pub fn write_bad_row(line: u32, fault: RowFault, out: &mut [u8]) -> Written
+pub fn write_bad_row(line: u32, fault: RowFault, out: &mut [u8]) -> Result<usize, Refusal>
     ensures value { result ≡ writing.answer false (lines.bad_row_line line fault) (length out.old) }
     ensures out_after { out.new ≡ writing.afterwards false (lines.bad_row_line line fault) out.old }
 {
     let mut one = [0u8; 1];
     let n = put_bad_row(line, fault, &mut one);
-    match decide(Measured::Length(n), out.len()) {
-        Written::Done(_) => Written::Done(put_bad_row(line, fault, out)),
-        Written::Refused(e) => Written::Refused(e),
-    }
+    decide(Ok(n), out.len())?;
+    Ok(put_bad_row(line, fault, out))
 }
 
 // The two lines at the end: the counts, and whether there is a finding.
@@ -642,27 +635,23 @@ pub fn write_summary(
     refused: u32,
     bad: u32,
     out: &mut [u8],
-) -> Written
+) -> Result<usize, Refusal>
     ensures value { result ≡ writing.answer false (lines.summary rows strict otherwise refused bad) (length out.old) }
     ensures out_after { out.new ≡ writing.afterwards false (lines.summary rows strict otherwise refused bad) out.old }
 {
     let mut one = [0u8; 1];
     let n = put_summary(rows, strict, otherwise, refused, bad, &mut one);
-    match decide(Measured::Length(n), out.len()) {
-        Written::Done(_) => Written::Done(put_summary(rows, strict, otherwise, refused, bad, out)),
-        Written::Refused(e) => Written::Refused(e),
-    }
+    decide(Ok(n), out.len())?;
+    Ok(put_summary(rows, strict, otherwise, refused, bad, out))
 }
 
 // The one line of a file whose header can not be used.
-pub fn write_unread(reason: Unusable, out: &mut [u8]) -> Written
+pub fn write_unread(reason: Unusable, out: &mut [u8]) -> Result<usize, Refusal>
     ensures value { result ≡ writing.answer false (lines.unread_line reason) (length out.old) }
     ensures out_after { out.new ≡ writing.afterwards false (lines.unread_line reason) out.old }
 {
     let mut one = [0u8; 1];
     let n = put_unread(reason, &mut one);
-    match decide(Measured::Length(n), out.len()) {
-        Written::Done(_) => Written::Done(put_unread(reason, out)),
-        Written::Refused(e) => Written::Refused(e),
-    }
+    decide(Ok(n), out.len())?;
+    Ok(put_unread(reason, out))
 }

@@ -11,9 +11,10 @@ use borrow.Author.Tests.{leb-true, leb-false}
 use Rattle.chars.specs.Pick.{pick}
 use Rattle.chars.proofs.Cases.{of_test, by-test}
 use Rattle.chunks.proofs.Fill.{stored-front}
-use Rattle.refusals.specs.declared.ReadDate.{ReadDate}
+use Rattle.dates.specs.declared.Date.{Date}
+use Rattle.refusals.specs.declared.Refusal.{Refusal}
+use Rattle.std.specs.Prelude.{Result}
 use Rattle.hexes.specs.Hex.{is_hex, bytes_of}
-use Rattle.puts.specs.declared.Written.{Written}
 use Rattle.puts.specs.Answers.{measured, decided, answer, left, afterwards, Tried}
 use Rattle.puts.proofs.Puts.{with-room, without-room}
 use Rattle.answers.proofs.Lengths.{answer-some, level-some}
@@ -23,7 +24,7 @@ use Rattle.frames.specs.Frame.{bad_frame, frame_read, line_by, frame_answer, lin
 use Rattle.frames.specs.Room.{operation_of, length_in}
 
 -- what was answered, by its length
-pub answer-tried : (t l : List ℕ) {m : List ℕ} {w : Written} → w ≡ answer false t (length l) → m ≡ afterwards false t l → {n : ℕ} → n ≡ length_in w → Tried t l 0 m n
+pub answer-tried : (t l : List ℕ) {m : List ℕ} {w : Result ℕ Refusal} → w ≡ answer false t (length l) → m ≡ afterwards false t l → {n : ℕ} → n ≡ length_in w → Tried t l 0 m n
 unfolding answer decided measured afterwards left pick length_in
 answer-tried t l {m} {w} ew em {n} en =
     of_test (leb (length t) (length l))
@@ -38,7 +39,7 @@ answer-tried t l {m} {w} ew em {n} en =
     let o : m ≡ l = rw q at em in
     rw (c, o) (without-room t l 0 (omega arith)))
 
-by-some : (op : Operation) (r : ReadDate) → 0 < length (line_by op r)
+by-some : (op : Operation) (r : Result Date Refusal) → 0 < length (line_by op r)
 unfolding line_by
 by-some Ported r = answer-some r
 by-some Strict r = answer-some r

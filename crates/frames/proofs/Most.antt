@@ -12,15 +12,12 @@ use Rattle.chars.specs.Ascii.{ascii}
 use Rattle.chars.proofs.Cases.{by-test}
 use Rattle.refusals.specs.declared.Kind.TheVariants.{BadFrame}
 use Rattle.refusals.specs.Refusal.{file_span, refusal}
-use Rattle.dates.specs.declared.OptionMonth.TheVariants.{NoMonth}
-use Rattle.dates.specs.declared.OptionDay.TheVariants.{NoDay}
-use Rattle.dates.specs.declared.OptionTime.TheVariants.{NoTime}
+use Rattle.refusals.specs.declared.Refusal.{Refusal}
+use Rattle.std.specs.Prelude.{None, Result, Ok}
 use Rattle.dates.specs.declared.Datetime.{Datetime}
 use Rattle.dates.specs.declared.DateValue.TheVariants.{Between}
 use Rattle.dates.specs.declared.Date.{Date}
 use Rattle.dates.specs.Value.{datetime, date}
-use Rattle.refusals.specs.declared.ReadDate.{ReadDate}
-use Rattle.refusals.specs.declared.ReadDate.TheVariants.{Accepted}
 use Rattle.hexes.specs.Hex.{is_digit, digit_of, all_digits, is_hex, bytes_of}
 use Rattle.reading_laws.specs.Field.{parsed_level_one}
 use Rattle.puts.specs.Numbers.{count, digit_count, width, decimal}
@@ -52,7 +49,7 @@ most ThreeFields = 107
 most Unknown = 107
 
 -- what is accepted has a text of at most 24 bytes
-narrow_short : (r : ReadDate) → ((d : Date) → r ≡ Accepted d → NarrowEnds d.value) → length (answer_line r) ≤ 107
+narrow_short : (r : Result Date Refusal) → ((d : Date) → r ≡ Ok d → NarrowEnds d.value) → length (answer_line r) ≤ 107
 narrow_short r h = line-most 24 r λ d e. text-short d (h d e)
 
 -- no frame
@@ -80,7 +77,7 @@ by-operation Unknown f = bad-short
 frame-short : (f : List ℕ) → length (frame_answer f) ≤ most (operation_of f)
 unfolding frame_answer frame_read
 frame-short f =
-    by-test (λ (r : ReadDate). length (line_by (operation_of f) r) ≤ most (operation_of f)) _
+    by-test (λ (r : Result Date Refusal). length (line_by (operation_of f) r) ≤ most (operation_of f)) _
     (λ _. by-operation (operation_of f) f) (λ _. bad-by (operation_of f))
 
 most-any : (op : Operation) → most op ≤ 111
@@ -119,7 +116,7 @@ answer-most line = omega (arith, answer-short line)
 
 -- a long year of nine digits, below 0
 abbrev longest : Datetime
-longest = datetime (negsuc 999999998) NoMonth NoDay NoTime
+longest = datetime (negsuc 999999998) None None None
 
 -- from it to it, uncertain and approximate
 abbrev widest : Date
@@ -140,7 +137,7 @@ written = refl
 in-level : InLevel widest.value
 in-level = (of_long_year {y = negsuc 999999998} (omega arith) (omega arith), of_long_year {y = negsuc 999999998} (omega arith) (omega arith))
 
-accepted : parsed_level_one text (0 ∷ 24 ∷ 0 ∷ 24 ∷ []) ≡ Accepted widest
+accepted : parsed_level_one text (0 ∷ 24 ∷ 0 ∷ 24 ∷ []) ≡ Ok widest
 accepted = rw written at (level-back widest in-level 0 24)
 
 has-text : level_panics widest ≡ false
@@ -148,11 +145,11 @@ unfolding level_panics level_value_panics level_end_panics end_panics too_large 
 has-text = refl
 
 -- its line
-line-is : level_line (Accepted widest) ≡ accepted_line true widest (level_text widest)
+line-is : level_line (Ok widest) ≡ accepted_line true widest (level_text widest)
 unfolding level_line measured_line measured pick
 line-is = rw has-text
 
-line-length : length (level_line (Accepted widest)) ≡ 111
+line-length : length (level_line (Ok widest)) ≡ 111
 unfolding accepted_bytes shape ends_bytes end_length
 line-length = ap length line-is ∙ length_two true (marks true true) longest longest (level_text widest) ∙ rw written
 

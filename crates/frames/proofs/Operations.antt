@@ -9,8 +9,8 @@ use Rattle.chars.specs.Pick.{pick}
 use Rattle.chars.proofs.Cases.{by-test, of_test}
 use Rattle.dates.specs.declared.Date.{Date}
 use Rattle.dates.specs.Value.{any_season}
-use Rattle.refusals.specs.declared.ReadDate.{ReadDate}
-use Rattle.refusals.specs.declared.ReadDate.TheVariants.{Accepted, Refused}
+use Rattle.refusals.specs.declared.Refusal.{Refusal}
+use Rattle.std.specs.Prelude.{Result, Ok, Err}
 use Rattle.hexes.specs.Hex.{is_hex, bytes_of}
 use Rattle.reading_laws.specs.Field.{parsed_level_one}
 use Rattle.roundtrip_laws.proofs.Seasons.{ported-none, strict_none, three-none}
@@ -52,10 +52,10 @@ not-level n h = ap is_level (others-asked n h) ∙ former
         by-test Other (eqb n 1) (λ _. refl) (λ _. by-test Other (eqb n 2) (λ _. refl) (λ _. by-test Other (eqb n 3) (λ _. refl) (λ _. by-test Other (eqb n 4) (λ _. refl) (λ _. refl))))
 
 -- where no season is given the line is the former one
-same_line : (r : ReadDate) → ((d : Date) → r ≡ Accepted d → any_season d.value ≡ false) → answer_line r ≡ former_line r
+same_line : (r : Result Date Refusal) → ((d : Date) → r ≡ Ok d → any_season d.value ≡ false) → answer_line r ≡ former_line r
 unfolding answer_line
-same_line (Accepted d) h = former-line d (h d refl)
-same_line (Refused e) h = refl
+same_line (Ok d) h = former-line d (h d refl)
+same_line (Err e) h = refl
 
 bad-line : answer_line bad_frame ≡ former_line bad_frame
 unfolding answer_line
@@ -80,7 +80,7 @@ bad-by Unknown = refl
 frame-before : (f : List ℕ) → (byte_at f 0 ≡ 5 → ⊥) → frame_answer f ≡ former_line (frame_read f)
 unfolding frame_answer frame_read
 frame-before f h =
-    by-test (λ (r : ReadDate). line_by (operation_of f) r ≡ former_line r) (formed (operation_of f) f)
+    by-test (λ (r : Result Date Refusal). line_by (operation_of f) r ≡ former_line r) (formed (operation_of f) f)
     (λ _. by-operation (operation_of f) f (not-level (byte_at f 0) h)) (λ _. bad-by (operation_of f))
 
 -- the answer to a line, if it is no frame of operation 05: byte for byte the former one

@@ -10,15 +10,15 @@ use lib.ListN.{length, take, drop, length-append}
 use lib.Seq.{take_at, drop_at}
 use Rattle.chars.specs.Pick.{pick}
 use Rattle.chars.proofs.Cases.{by-test, of_test}
-use Rattle.hexes.specs.declared.Hex.{Hex}
-use Rattle.hexes.specs.declared.Hex.TheVariants.{Bytes, Bad}
+use Rattle.dates.specs.declared.Date.{Date}
+use Rattle.refusals.specs.declared.Refusal.{Refusal}
+use Rattle.std.specs.Prelude.{Option, Some, None, Result}
 use Rattle.hexes.specs.Hex.{is_hex, bytes_of, half, decoded, decoded_into}
 use Rattle.hexes.proofs.Laws.{length-bytes}
 use Rattle.puts.specs.Answers.{Put}
 use Rattle.puts.proofs.Puts.{kept, both, at_front}
 use Rattle.chunks.specs.Lent.{lent, optional, three}
 use Rattle.reading_laws.specs.Fields.{three_fields}
-use Rattle.refusals.specs.declared.ReadDate.{ReadDate}
 use Rattle.answers.specs.Answer.{answer_line}
 use Rattle.frames.specs.declared.Operation.{Operation}
 use Rattle.frames.specs.declared.Operation.TheVariants.{Ported, Strict, LevelOne, ThreeFields, Unknown}
@@ -266,7 +266,7 @@ pub op-is : (f : List ℕ) {n : ℕ} {op o : Operation} → n ≡ byte_at f 0 �
 op-is f en eo e = sym (ap asked en) ∙ sym eo ∙ e
 
 -- and the line of what was read by it
-pub answer_is : (f : List ℕ) {n : ℕ} {op : Operation} {r : ReadDate} → n ≡ byte_at f 0 → op ≡ asked n → r ≡ frame_read f → line_by op r ≡ frame_answer f
+pub answer_is : (f : List ℕ) {n : ℕ} {op : Operation} {r : Result Date Refusal} → n ≡ byte_at f 0 → op ≡ asked n → r ≡ frame_read f → line_by op r ≡ frame_answer f
 unfolding frame_answer
 answer_is f en eo er = rw (eo, en, er) refl
 
@@ -317,27 +317,27 @@ unfolding read_of
 nothing_read f = refl
 
 -- a line and the frame that it stands for
-abbrev count_of : Hex → ℕ
-count_of (Bytes n) = n
-count_of Bad = 0
+abbrev count_of : Option ℕ → ℕ
+count_of (Some n) = n
+count_of None = 0
 
-abbrev is_bytes : Hex → Bool
-is_bytes (Bytes n) = true
-is_bytes Bad = false
+abbrev is_bytes : Option ℕ → Bool
+is_bytes (Some n) = true
+is_bytes None = false
 
-module _ (line frame : List ℕ) {frame' : List ℕ} {r : Hex} (same : is_hex line (length frame) ≡ is_hex line 8192) (small : length frame ≤ 8192)
+module _ (line frame : List ℕ) {frame' : List ℕ} {r : Option ℕ} (same : is_hex line (length frame) ≡ is_hex line 8192) (small : length frame ≤ 8192)
     (er : r ≡ decoded line (length frame)) (ef : frame' ≡ decoded_into line frame) where
   bytes-if : is_hex line (length frame) ≡ is_bytes r
   unfolding decoded pick
   bytes-if = rw er (of_test (is_hex line (length frame)) (λ q. rw q) (λ q. rw q))
 
-  module _ {n : ℕ} (e : r ≡ Bytes n) where
+  module _ {n : ℕ} (e : r ≡ Some n) where
     hex : is_hex line (length frame) ≡ true
     hex = bytes-if ∙ ap is_bytes e
 
     count : n ≡ half line
     unfolding decoded pick
-    count = let g : decoded line (length frame) ≡ Bytes (half line) = rw hex in ap count_of (sym e ∙ er ∙ g)
+    count = let g : decoded line (length frame) ≡ Some (half line) = rw hex in ap count_of (sym e ∙ er ∙ g)
 
     fits : half line ≤ length frame
     unfolding is_hex
@@ -361,7 +361,7 @@ module _ (line frame : List ℕ) {frame' : List ℕ} {r : Hex} (same : is_hex li
     unfolding line_answer pick
     line-is = rw (bytes-are, ← same, hex)
 
-  pub line-bad : r ≡ Bad → answer_line bad_frame ≡ line_answer line
+  pub line-bad : r ≡ None → answer_line bad_frame ≡ line_answer line
   unfolding line_answer pick
   line-bad e = rw (← same, bytes-if, e)
 

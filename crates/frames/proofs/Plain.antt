@@ -11,8 +11,8 @@ use Rattle.dates.specs.declared.DateValue.TheVariants.{At, After, Before, Betwee
 use Rattle.dates.specs.declared.Date.{Date}
 use Rattle.dates.specs.Ends.{EachEnd}
 use Rattle.dates.specs.Value.{any_season}
-use Rattle.refusals.specs.declared.ReadDate.{ReadDate}
-use Rattle.refusals.specs.declared.ReadDate.TheVariants.{Accepted}
+use Rattle.refusals.specs.declared.Refusal.{Refusal}
+use Rattle.std.specs.Prelude.{Result, Ok}
 use Rattle.codes.specs.declared.Words.{Words}
 use Rattle.codes.specs.Words.{flag, value_words, words_of}
 use Rattle.codes.specs.Typed.{DatetimeTyped, Typed}
@@ -62,8 +62,8 @@ module _ (w : Words) where
   unfolding says_plain
   second_season h k = rw (lt-ltb w.first_time 72057594037927936 h, le-ltb w.second_time 72057594037927936 k)
 
-date-line : (d : Date) → Typed (Accepted d) → Plainly (words_of (Accepted d))
-    → accepted_line false d (words_text (words_of (Accepted d)).first (words_of (Accepted d)).second (words_of (Accepted d)).last) ≡ answer_line (Accepted d)
+date-line : (d : Date) → Typed (Ok d) → Plainly (words_of (Ok d))
+    → accepted_line false d (words_text (words_of (Ok d)).first (words_of (Ok d)).second (words_of (Ok d)).last) ≡ answer_line (Ok d)
 unfolding pick
 date-line d t h =
     let s = date-said d t h.plain in
@@ -71,12 +71,12 @@ date-line d t h =
     ap (accepted_line false d) s.text ∙ sym (former-line d n ∙ rw s.written)
 
 -- plain words are answered with their text
-pub plain-line : (op : Operation) (w : Words) → by_level op ≡ false → says_plain w ≡ true → w.last < 4294967296 → (x : ReadDate) → w ≡ words_of x → Typed x
+pub plain-line : (op : Operation) (w : Words) → by_level op ≡ false → says_plain w ≡ true → w.last < 4294967296 → (x : Result Date Refusal) → w ≡ words_of x → Typed x
     → words_line w (words_text w.first w.second w.last) ≡ line_by op x
 plain-line op w o p h x e t =
     let a = last-accepted x (rw e at h) in
     let d = a.0 in
-    let f : w ≡ words_of (Accepted d) = e ∙ ap words_of a.1 in
+    let f : w ≡ words_of (Ok d) = e ∙ ap words_of a.1 in
     let u = subst Typed a.1 t in
     accepted-coded d (words_text w.first w.second w.last) f u
     ∙ ap (λ (v : Words). accepted_line false d (words_text v.first v.second v.last)) f

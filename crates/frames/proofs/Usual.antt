@@ -2,7 +2,6 @@
 use mathlib.Core.Path.{◌≡◌, refl, sym, ap, ◌∙◌}
 use mathlib.Core.Bool.{true, false, false≢true}
 use mathlib.Core.List.{List}
-use mathlib.Core.Option.{some}
 use Prim.Native.Nat.{ℕ, ◌-◌, ◌≤◌}
 use native.Mathlib.Omega.{arith}
 use lib.Dec.{eqb, leb}
@@ -12,7 +11,7 @@ use borrow.Author.Tests.{leb-true, eqb-true, eq-eqb}
 use Rattle.chars.specs.Pick.{pick}
 use Rattle.chars.proofs.Cases.{and-true}
 use Rattle.dates.specs.declared.Date.{Date}
-use Rattle.refusals.specs.declared.ReadDate.TheVariants.{Accepted}
+use Rattle.std.specs.Prelude.{Ok, Some}
 use Rattle.reading_laws.specs.Field.{parsed, parsed_strict}
 use Rattle.codes.specs.declared.Words.{Words}
 use Rattle.codes.specs.Words.{nothing, words_of, words_or}
@@ -78,18 +77,18 @@ module _ (f : List ℕ) (u : is_usual f ≡ true) where
       let n : length (only_text f) ≡ length f - 12 = length-take-le (length f - 12) (drop 12 f) (omega arith) in
       rw (eq-eqb (byte_at f 2) 0 w.normal) (eq-eqb (byte_at f 3) (length (only_text f)) (w.whole ∙ sym n))
 
-  module _ {d : Date} (e : written (only_text f) ≡ some (Accepted d)) where
-    at_once : list_written (only_text f) (row_at f 2) ≡ some (Accepted d)
+  module _ {d : Date} (e : written (only_text f) ≡ Some (Ok d)) where
+    at_once : list_written (only_text f) (row_at f 2) ≡ Some (Ok d)
     unfolding list_written pick
     at_once = rw one-normal e
 
-    by-ported : parsed (list_text f 1) (list_table f 1) ≡ Accepted d
+    by-ported : parsed (list_text f 1) (list_table f 1) ≡ Ok d
     by-ported = rw (← there.text_there, ← there.row_there) (written-parsed (only_text f) (row_at f 2) at_once)
 
-    by-strict : parsed_strict (list_text f 1) (list_table f 1) ≡ Accepted d
+    by-strict : parsed_strict (list_text f 1) (list_table f 1) ≡ Ok d
     by-strict = rw (← there.text_there, ← there.row_there) (written-strict (only_text f) (row_at f 2) at_once)
 
-    by-operation : (op : Operation) → operation_of f ≡ op → reads_usual op ≡ true → frame_answer f ≡ answer_line (Accepted d)
+    by-operation : (op : Operation) → operation_of f ≡ op → reads_usual op ≡ true → frame_answer f ≡ answer_line (Ok d)
     unfolding frame_answer line_by frame_read formed read_of reads_usual pick
     by-operation Ported e r = rw (e, fills, by-ported)
     by-operation Strict e r = rw (e, fills, by-strict)
@@ -111,7 +110,7 @@ module _ (f : List ℕ) (u : is_usual f ≡ true) where
       let t = told (written (only_text f)) (λ q. h (ap (λ (v : Words). v.last) e ∙ q)) in
       let a = written-accepted (only_text f) t.1 in
       let d = a.0 in
-      let g : written (only_text f) ≡ some (Accepted d) = t.1 ∙ ap some a.1 in
-      let k : w ≡ words_of (Accepted d) = e ∙ ap words_or g in
+      let g : written (only_text f) ≡ Some (Ok d) = t.1 ∙ ap Some a.1 in
+      let k : w ≡ words_of (Ok d) = e ∙ ap words_or g in
       accepted-coded d (only_text f) k (written-typed (only_text f) g)
       ∙ usual-line g (written-untimed (only_text f) g (sym (ap (λ (v : Words). v.first_time) k) ∙ z))

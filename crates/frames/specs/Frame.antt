@@ -1,10 +1,10 @@
 -- Frames: which reader a frame asks for, whether it is one, and what is read of it.
-use Rattle.std.specs.Prelude.{ℕ, Bool, false, ◌&&◌, List, eqb, length}
+use Rattle.std.specs.Prelude.{ℕ, Bool, false, ◌&&◌, List, eqb, length, Result, Err}
 use Rattle.chars.specs.Pick.{pick}
 use Rattle.refusals.specs.declared.Kind.TheVariants.{BadFrame}
 use Rattle.refusals.specs.Refusal.{file_span, refusal}
-use Rattle.refusals.specs.declared.ReadDate.{ReadDate}
-use Rattle.refusals.specs.declared.ReadDate.TheVariants.{Refused}
+use Rattle.dates.specs.declared.Date.{Date}
+use Rattle.refusals.specs.declared.Refusal.{Refusal}
 use Rattle.hexes.specs.Hex.{is_hex, bytes_of}
 use Rattle.reading_laws.specs.Field.{parsed, parsed_strict, parsed_level_one}
 use Rattle.chunks.specs.Lent.{Optional, lent, optional, three}
@@ -48,11 +48,11 @@ formed ThreeFields f = three_fill f
 formed Unknown f = false
 
 -- no frame
-abbrev pub bad_frame : ReadDate
-bad_frame = Refused (refusal BadFrame (file_span 0 0))
+abbrev pub bad_frame : Result Date Refusal
+bad_frame = Err (refusal BadFrame (file_span 0 0))
 
 -- what the reader says of the lists
-unfoldable pub read_of : Operation → List ℕ → ReadDate
+unfoldable pub read_of : Operation → List ℕ → Result Date Refusal
 read_of Ported f = parsed (list_text f 1) (list_table f 1)
 read_of Strict f = parsed_strict (list_text f 1) (list_table f 1)
 read_of LevelOne f = parsed_level_one (list_text f 1) (list_table f 1)
@@ -61,15 +61,15 @@ read_of ThreeFields f =
 read_of Unknown f = bad_frame
 
 -- the operation of a frame is its first byte; what is no frame is refused before all else
-unfoldable pub frame_read : List ℕ → ReadDate
+unfoldable pub frame_read : List ℕ → Result Date Refusal
 frame_read f = pick (formed (asked (byte_at f 0)) f) (read_of (asked (byte_at f 0)) f) bad_frame
 
 -- a line: two digits a byte, at most 8,192 bytes. An empty line has no operation
-unfoldable pub line_read : List ℕ → ReadDate
+unfoldable pub line_read : List ℕ → Result Date Refusal
 line_read line = pick (is_hex line 8192) (frame_read (bytes_of line)) bad_frame
 
 -- the line of what was read, by the operation: 05 has a line of its own
-unfoldable pub line_by : Operation → ReadDate → List ℕ
+unfoldable pub line_by : Operation → Result Date Refusal → List ℕ
 line_by Ported r = answer_line r
 line_by Strict r = answer_line r
 line_by LevelOne r = level_line r

@@ -1,10 +1,9 @@
 -- The buffers that the lists of a frame are taken apart in, and the frames that need none. No public contract rests on it.
-use Rattle.std.specs.Prelude.{ℕ, ◌+◌, ◌*◌, ◌-◌, ◌≤◌, ◌≡◌, Bool, true, false, ◌&&◌, List, eqb, ltb, leb, length, take, drop}
+use Rattle.std.specs.Prelude.{ℕ, ◌+◌, ◌*◌, ◌-◌, ◌≤◌, ◌≡◌, Bool, true, false, ◌&&◌, List, eqb, ltb, leb, length, take, drop, Result, Ok, Err}
 use Rattle.chars.specs.Pick.{pick}
-use Rattle.refusals.specs.declared.ReadDate.{ReadDate}
+use Rattle.dates.specs.declared.Date.{Date}
+use Rattle.refusals.specs.declared.Refusal.{Refusal}
 use Rattle.codes.specs.declared.Words.{Words}
-use Rattle.puts.specs.declared.Written.{Written}
-use Rattle.puts.specs.declared.Written.TheVariants.{Done, Refused}
 use Rattle.codes.specs.Back.{is_plain}
 use Rattle.reading_laws.specs.Field.{parsed, parsed_strict, parsed_level_one}
 use Rattle.chunks.specs.Lent.{lent, optional, three}
@@ -37,7 +36,7 @@ reads_list ThreeFields = false
 reads_list Unknown = false
 
 -- a list by the reader that an operation asks for; no other operation reads a list alone
-unfoldable pub read_by : Operation → List ℕ → List ℕ → ReadDate
+unfoldable pub read_by : Operation → List ℕ → List ℕ → Result Date Refusal
 read_by Ported b table = parsed b table
 read_by Strict b table = parsed_strict b table
 read_by LevelOne b table = parsed_level_one b table
@@ -45,11 +44,11 @@ read_by ThreeFields b table = bad_frame
 read_by Unknown b table = bad_frame
 
 -- the same of the only list of a frame
-abbrev pub list_by : Operation → List ℕ → ReadDate
+abbrev pub list_by : Operation → List ℕ → Result Date Refusal
 list_by op f = read_by op (list_text f 1) (list_table f 1)
 
 -- three lists that stand one behind the other in two buffers, by the places behind each
-unfoldable pub read_lists : List ℕ → List ℕ → Bool → Bool → Unpacked → Unpacked → Unpacked → ReadDate
+unfoldable pub read_lists : List ℕ → List ℕ → Bool → Bool → Unpacked → Unpacked → Unpacked → Result Date Refusal
 read_lists text table has_month has_day y m d =
     three_fields
     (three
@@ -115,6 +114,6 @@ says_plain w =
     && (ltb w.second_time 72057594037927936 && is_plain w.first w.second w.last)
 
 -- how many bytes an answer has; 0 where there is no room for it
-unfoldable pub length_in : Written → ℕ
-length_in (Done n) = n
-length_in (Refused e) = 0
+unfoldable pub length_in : Result ℕ Refusal → ℕ
+length_in (Ok n) = n
+length_in (Err e) = 0

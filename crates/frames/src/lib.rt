@@ -1,11 +1,12 @@
 // Frames: one line of hexadecimal digits is one question to a reader.
 #![tactic(auto)]
 
-ghost use Rattle.std.specs.Prelude.{◌≡◌, true, false, ◌+◌, ◌*◌, ◌≤◌, ◌<◌, length};
+ghost use Rattle.std.specs.Prelude.{◌≡◌, true, false, ◌+◌, ◌*◌, ◌≤◌, ◌<◌, length, Result};
 ghost use Rattle.hexes.specs.Hex.{is_hex};
 ghost use Rattle.puts.specs.Answers as writing;
 ghost use Rattle.puts.specs.Answers.{Put, Tried};
-ghost use Rattle.refusals.specs.declared.ReadDate.{ReadDate};
+ghost use Rattle.dates.specs.declared.Date.{Date};
+ghost use Rattle.refusals.specs.declared.Refusal.{Refusal};
 ghost use Rattle.codes.specs.Words.{words_of};
 ghost use Rattle.codes.specs.Typed.{Typed};
 ghost use Rattle.codes.specs.Back.{is_plain, words_text};
@@ -16,10 +17,9 @@ ghost use Rattle.frames.specs.Room.{Room, operation_of, reads_list, read_by, lis
 ghost use Rattle.frames.specs.declared.Operation.TheVariants.{ThreeFields};
 ghost use Rattle.frames.specs.Frame as spec;
 
+use chunks::ChunksRef;
 use codes::{NOTHING, Words};
-use hexes::Hex;
-use puts::Written;
-use refusals::{Kind, ReadDate};
+use refusals::{Kind, Refusal};
 
 // What a frame asks for.
 #[derive(Clone, Copy)]
@@ -49,11 +49,9 @@ fn chunks_end(f: &[u8], at: usize, n: usize) -> usize
     ensures { (result ≡ list.end_of f.now at n) × (result ≤ at + 265 * n) }
 {
     let mut p = at;
-    let mut k = n;
-    while 0 < k {
+    for _i in 0..n {
         let len = byte_at(f, p + 1);
         p += 10 + len as usize;
-        k -= 1;
     }
     p
 }
@@ -172,12 +170,10 @@ fn put_rows(f: &[u8], at: usize, n: usize, table: &mut [u64], k: usize) -> usize
     ensures { Put (list.table_of f.now at n) table.old k table.new result }
 {
     let mut p = at;
-    let mut left = n;
     let mut j = k;
-    while 0 < left {
+    for _i in 0..n {
         j = put_row(f, p, table, j);
         p += 10 + byte_at(f, p + 1) as usize;
-        left -= 1;
     }
     j
 }
@@ -187,11 +183,7 @@ fn put_part(f: &[u8], from: usize, n: usize, text: &mut [u8], m: usize) -> usize
     requires { (from + n ≤ length f.now) × (m + n ≤ length text.old) }
     ensures { Put (list.part_at f.now from n) text.old m text.new result }
 {
-    let mut i = 0;
-    while i < n {
-        text[m + i] = f[from + i];
-        i += 1;
-    }
+    text[m..m + n].copy_from_slice(&f[from..from + n]);
     m + n
 }
 
@@ -201,13 +193,11 @@ fn put_texts(f: &[u8], at: usize, n: usize, text: &mut [u8], m: usize) -> usize
     ensures { Put (list.text_of f.now at n) text.old m text.new result }
 {
     let mut p = at;
-    let mut left = n;
     let mut j = m;
-    while 0 < left {
+    for _i in 0..n {
         let len = byte_at(f, p + 1) as usize;
         j = put_part(f, p + 10, len, text, j);
         p += 10 + len;
-        left -= 1;
     }
     j
 }
@@ -268,18 +258,18 @@ fn bad_frame() -> Words
     ensures value { result ≡ words_of spec.bad_frame }
     ensures typed { Typed spec.bad_frame }
 {
-    codes::pack(ReadDate::Refused(refusals::nowhere(Kind::BadFrame)))
+    codes::pack(Err(refusals::nowhere(Kind::BadFrame)))
 }
 
 // A list, by the reader that an operation asks for.
-fn read_by(op: Operation, bytes: &[u8], table: &[u64]) -> Words
-    ensures value { result ≡ words_of (read_by op bytes.now table.now) }
-    ensures typed { Typed (read_by op bytes.now table.now) }
+fn read_by(op: Operation, list: ChunksRef<'_>) -> Words
+    ensures value { result ≡ words_of (read_by op list.entry.bytes.now list.entry.table.now) }
+    ensures typed { Typed (read_by op list.entry.bytes.now list.entry.table.now) }
 {
     match op {
-        Operation::Ported => reader::parse_words(bytes, table),
-        Operation::Strict => reader::parse_strict_words(bytes, table),
-        Operation::LevelOne => reader::level_words(bytes, table),
+        Operation::Ported => reader::parse_words(list),
+        Operation::Strict => reader::parse_strict_words(list),
+        Operation::LevelOne => reader::level_words(list),
         Operation::ThreeFields => bad_frame(),
         Operation::Unknown => bad_frame(),
     }
@@ -292,7 +282,11 @@ fn list_in(op: Operation, f: &[u8], text: &mut [u8], table: &mut [u64]) -> Words
     ensures typed { Typed (list_by op f.now) }
 {
     let u = unpack_list(f, 1, text, 0, table, 0);
-    read_by(op, &text[..u.text], &table[..u.table])
+    let list = ChunksRef {
+        bytes: &text[..u.text],
+        table: &table[..u.table],
+    };
+    read_by(op, list)
 }
 
 // Three lists that stand one behind the other in the two buffers: the places behind each are given.
@@ -316,16 +310,23 @@ fn read_lists(
     let i = y.table;
     let j = m.table;
     let k = d.table;
-    reader::three_words(
-        &text[..a],
-        &table[..i],
-        has_month,
-        &text[a..b],
-        &table[i..j],
-        has_day,
-        &text[b..c],
-        &table[j..k],
-    )
+    let year = ChunksRef {
+        bytes: &text[..a],
+        table: &table[..i],
+    };
+    let month = ChunksRef {
+        bytes: &text[a..b],
+        table: &table[i..j],
+    };
+    let day = ChunksRef {
+        bytes: &text[b..c],
+        table: &table[j..k],
+    };
+    reader::three_words(reader::ThreeFields {
+        year,
+        month: has_month.then_some(month),
+        day: has_day.then_some(day),
+    })
 }
 
 // Three fields, copied into buffers.
@@ -372,7 +373,11 @@ fn read_list(op: Operation, f: &[u8]) -> Words
 {
     if byte_at(f, 1) == 1 {
         let row = row_at(f, 2);
-        return read_by(op, &f[12..], &row);
+        let list = ChunksRef {
+            bytes: &f[12..],
+            table: &row,
+        };
+        return read_by(op, list);
     }
     if f.len() <= 256 {
         let mut text = [0u8; 256];
@@ -422,23 +427,28 @@ fn three_there(f: &[u8], month_at: usize, day_at: usize) -> Words
 {
     let has_month = has_list(f, month_at);
     let has_day = has_list(f, day_at);
-    let year = row_at(f, 2);
-    let month = row_at(f, month_at + 2);
-    let day = row_at(f, day_at + 2);
-    let m = text_start(has_month, month_at);
-    let d = text_start(has_day, day_at);
-    let i = row_length(has_month);
-    let j = row_length(has_day);
-    reader::three_words(
-        &f[12..month_at],
-        &year,
-        has_month,
-        &f[m..day_at],
-        &month[..i],
-        has_day,
-        &f[d..],
-        &day[..j],
-    )
+    let y = row_at(f, 2);
+    let m = row_at(f, month_at + 2);
+    let d = row_at(f, day_at + 2);
+    let i = text_start(has_month, month_at);
+    let j = text_start(has_day, day_at);
+    let year = ChunksRef {
+        bytes: &f[12..month_at],
+        table: &y,
+    };
+    let month = ChunksRef {
+        bytes: &f[i..day_at],
+        table: &m[..row_length(has_month)],
+    };
+    let day = ChunksRef {
+        bytes: &f[j..],
+        table: &d[..row_length(has_day)],
+    };
+    reader::three_words(reader::ThreeFields {
+        year,
+        month: has_month.then_some(month),
+        day: has_day.then_some(day),
+    })
 }
 
 // Three fields that fill a frame, by the places of the second and of the third.
@@ -565,7 +575,7 @@ fn says_plain(w: Words) -> bool
 }
 
 // The line of plain words, with the text that is put from them.
-fn write_plain(w: Words, out: &mut [u8]) -> Written
+fn write_plain(w: Words, out: &mut [u8]) -> Result<usize, Refusal>
     requires { is_plain w.first w.second w.last ≡ true }
     ensures value { result ≡ writing.answer false (words_line w (words_text w.first w.second w.last)) (length out.old) }
     ensures out_after { out.new ≡ writing.afterwards false (words_line w (words_text w.first w.second w.last)) out.old }
@@ -576,9 +586,9 @@ fn write_plain(w: Words, out: &mut [u8]) -> Written
 }
 
 // The line of words, by the operation; a refusal has the same by each.
-fn write_said(op: Operation, w: Words, out: &mut [u8]) -> Written
-    ensures value { (x : ReadDate) → w ≡ words_of x → Typed x → result ≡ writing.answer false (spec.line_by op x) (length out.old) }
-    ensures out_after { (x : ReadDate) → w ≡ words_of x → Typed x → out.new ≡ writing.afterwards false (spec.line_by op x) out.old }
+fn write_said(op: Operation, w: Words, out: &mut [u8]) -> Result<usize, Refusal>
+    ensures value { (x : Result Date Refusal) → w ≡ words_of x → Typed x → result ≡ writing.answer false (spec.line_by op x) (length out.old) }
+    ensures out_after { (x : Result Date Refusal) → w ≡ words_of x → Typed x → out.new ≡ writing.afterwards false (spec.line_by op x) out.old }
 {
     if 4294967296 <= w.last {
         return answers::write_refused_words(w, out);
@@ -593,12 +603,13 @@ fn write_said(op: Operation, w: Words, out: &mut [u8]) -> Written
 }
 
 // How many bytes an answer has; 0 where there is no room for it. From here on this number is handed on, which goes in a register.
-fn length_of(w: Written) -> usize
+#[tactic(auto, unfolding(crate::specs::Room::length_in))]
+fn length_of(w: Result<usize, Refusal>) -> usize
     ensures { result ≡ length_in w }
 {
     match w {
-        Written::Done(n) => n,
-        Written::Refused(_) => 0,
+        Ok(n) => n,
+        Err(_) => 0,
     }
 }
 
@@ -634,13 +645,13 @@ fn answer_line(line: &[u8], frame: &mut [u8], out: &mut [u8]) -> usize
     ensures { Tried (spec.line_answer line.now) out.old 0 out.new result }
 {
     match hexes::decode(line, frame) {
-        Hex::Bytes(n) => answer_frame(&frame[..n], out),
-        Hex::Bad => length_of(answer_long(out)),
+        Some(n) => answer_frame(&frame[..n], out),
+        None => length_of(answer_long(out)),
     }
 }
 
 // The answer to a line, as a line at the front of the lent buffer; without room for it nothing is stored. It has at most 147 bytes.
-pub fn answer(line: &[u8], out: &mut [u8]) -> Written
+pub fn answer(line: &[u8], out: &mut [u8]) -> Result<usize, Refusal>
     ensures value { result ≡ writing.answer false (spec.line_answer line.now) (length out.old) }
     ensures out_after { out.new ≡ writing.afterwards false (spec.line_answer line.now) out.old }
 {
@@ -653,7 +664,7 @@ pub fn answer(line: &[u8], out: &mut [u8]) -> Written
 }
 
 // The answer to a line of more than 16,384 bytes, which need not be at hand: it is no frame, whatever it holds.
-pub fn answer_long(out: &mut [u8]) -> Written
+pub fn answer_long(out: &mut [u8]) -> Result<usize, Refusal>
     ensures value { result ≡ writing.answer false (answer_line spec.bad_frame) (length out.old) }
     ensures out_after { out.new ≡ writing.afterwards false (answer_line spec.bad_frame) out.old }
 {

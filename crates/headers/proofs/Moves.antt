@@ -19,8 +19,7 @@ use Rattle.csv_rows.specs.declared.RowRead.TheVariants.{Row, Faulty, Endless, Mo
 use Rattle.csv_rows.specs.declared.Separator.{Separator}
 use Rattle.csv_rows.specs.declared.Separator.TheVariants.{Comma, Semicolon, Tab}
 use Rattle.headers.specs.declared.Columns.{Columns}
-use Rattle.headers.specs.declared.Names.{Names}
-use Rattle.headers.specs.declared.Names.TheVariants.{Undecided, Many}
+use Rattle.std.specs.Prelude.{Option, Some, None}
 use Rattle.headers.specs.declared.Header.{Header}
 use Rattle.headers.specs.declared.Header.TheVariants.{Wait, Without, With}
 use Rattle.headers.specs.declared.Unusable.{Unusable}
@@ -50,10 +49,10 @@ module _ (n size : ℕ) (sep : Separator) where
   in-moving last s More e h = it_waits
   in-moving last s Nothing e h = has_none
 
-names-moving : (size : ℕ) (m : Names) (go : ℕ → Header) → ((k : ℕ) → Moving size (go k)) → Moving size (on_names m go)
+names-moving : (size : ℕ) (m : Option ℕ) (go : ℕ → Header) → ((k : ℕ) → Moving size (go k)) → Moving size (on_names m go)
 unfolding on_names
-names-moving size (Many k) go h = h k
-names-moving size Undecided go h = it_waits
+names-moving size (Some k) go h = h k
+names-moving size None go h = it_waits
 
 row-header-moving : (n size : ℕ) (last : Bool) (s : List ℕ) → n + length s ≤ size → Moving size (header_row n last s)
 unfolding header_row header_by

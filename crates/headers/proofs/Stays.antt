@@ -23,8 +23,7 @@ use Rattle.csv_rows.proofs.Stable.{stays}
 use Rattle.csv_rows.proofs.Moves.{row-advances, more-short, cells-inside}
 use Rattle.headers.specs.declared.Unusable.{Unusable}
 use Rattle.headers.specs.declared.Columns.{Columns}
-use Rattle.headers.specs.declared.Names.{Names}
-use Rattle.headers.specs.declared.Names.TheVariants.{Undecided, Many}
+use Rattle.std.specs.Prelude.{Option, Some, None}
 use Rattle.headers.specs.declared.Header.{Header}
 use Rattle.headers.specs.declared.Header.TheVariants.{Wait, Without, With}
 use Rattle.headers.specs.Columns.{checked, chosen, columns_of, twice}
@@ -49,11 +48,11 @@ unfolding row_cells
 cells_stay sep s n last t = rw (stays (byte_of sep) s n last t).same_line (cells-append s t (line_of (byte_of sep) false s).cells (cells-inside (byte_of sep) false s))
 
 -- the names by a separator
-names_more : (sep : Separator) (s : List ℕ) → answer (byte_of sep) false s ≡ More → names_by sep false s ≡ Undecided
+names_more : (sep : Separator) (s : List ℕ) → answer (byte_of sep) false s ≡ More → names_by sep false s ≡ None
 unfolding names_by names_in
 names_more sep s e = rw e
 
-names-stay : (sep : Separator) (s : List ℕ) (last : Bool) (t : List ℕ) → (names_by sep false s ≡ Undecided → ⊥) → names_by sep last (s ++ t) ≡ names_by sep false s
+names-stay : (sep : Separator) (s : List ℕ) (last : Bool) (t : List ℕ) → (names_by sep false s ≡ None → ⊥) → names_by sep last (s ++ t) ≡ names_by sep false s
 unfolding names_by
 names-stay sep s last t h =
     let n : answer (byte_of sep) false s ≡ More → ⊥ = λ e. h (names_more sep s e) in
@@ -79,14 +78,14 @@ module _ (n : ℕ) (sep : Separator) (s : List ℕ) where
       let m : answer (byte_of sep) false s ≡ More → ⊥ = λ e. h (by_more e) in
       rw ((stays (byte_of sep) s m last t).same_answer, cells_stay sep s m last t) (in-stays t (answer (byte_of sep) false s) (row_cells sep false s) refl)
 
-many-told : {k : ℕ} → Many k ≡ Undecided → ⊥
+many-told : {k : ℕ} → Some k ≡ None → ⊥
 many-told e = let z : ◌≡◌ {A = ℕ} 0 1 = cc in omega arith
 
-names-on : (m m' : Names) (go go' : ℕ → Header) → ((m ≡ Undecided → ⊥) → m' ≡ m) → ((k : ℕ) → (go k ≡ Wait → ⊥) → go' k ≡ go k)
+names-on : (m m' : Option ℕ) (go go' : ℕ → Header) → ((m ≡ None → ⊥) → m' ≡ m) → ((k : ℕ) → (go k ≡ Wait → ⊥) → go' k ≡ go k)
     → (on_names m go ≡ Wait → ⊥) → on_names m' go' ≡ on_names m go
 unfolding on_names
-names-on (Many k) m' go go' f g h = rw (f many-told) (g k h)
-names-on Undecided m' go go' f g h = absurd (h refl)
+names-on (Some k) m' go go' f g h = rw (f many-told) (g k h)
+names-on None m' go go' f g h = absurd (h refl)
 
 row_stays : (n : ℕ) (s : List ℕ) (last : Bool) (t : List ℕ) → (header_row n false s ≡ Wait → ⊥) → header_row n last (s ++ t) ≡ header_row n false s
 unfolding header_row
@@ -156,7 +155,7 @@ in_told n sep s Nothing cs h = none-waits
 no_more : (sep : ℕ) (s : List ℕ) → answer sep true s ≡ More → ⊥
 no_more sep s e = false≢true (sym (more-short sep true s e).0)
 
-names-in-told : (r : RowRead) (cs : List (List ℕ)) → (r ≡ More → ⊥) → names_in r cs ≡ Undecided → ⊥
+names-in-told : (r : RowRead) (cs : List (List ℕ)) → (r ≡ More → ⊥) → names_in r cs ≡ None → ⊥
 unfolding names_in
 names-in-told (Row end count) cs h = many-told
 names-in-told (Faulty end f) cs h = many-told
@@ -164,14 +163,14 @@ names-in-told (Endless f) cs h = many-told
 names-in-told More cs h = absurd (h refl)
 names-in-told Nothing cs h = many-told
 
-names-told : (sep : Separator) (last : Bool) (s : List ℕ) → (answer (byte_of sep) last s ≡ More → ⊥) → names_by sep last s ≡ Undecided → ⊥
+names-told : (sep : Separator) (last : Bool) (s : List ℕ) → (answer (byte_of sep) last s ≡ More → ⊥) → names_by sep last s ≡ None → ⊥
 unfolding names_by
 names-told sep last s = names-in-told (answer (byte_of sep) last s) (row_cells sep last s)
 
-on-told : (m : Names) (go : ℕ → Header) → (m ≡ Undecided → ⊥) → ((k : ℕ) → Told (go k)) → Told (on_names m go)
+on-told : (m : Option ℕ) (go : ℕ → Header) → (m ≡ None → ⊥) → ((k : ℕ) → Told (go k)) → Told (on_names m go)
 unfolding on_names
-on-told (Many k) go h g = g k
-on-told Undecided go h g = absurd (h refl)
+on-told (Some k) go h g = g k
+on-told None go h g = absurd (h refl)
 
 -- a header is told where by each separator a row is
 row_told : (n : ℕ) (last : Bool) (s : List ℕ) → ((sep : ℕ) → answer sep last s ≡ More → ⊥) → Told (header_row n last s)

@@ -1,5 +1,5 @@
 -- The header of a file: the separator, the columns, and how many cells each row is to have; or why the file can not be read.
-use Rattle.std.specs.Prelude.{ℕ, ◌+◌, Bool, true, false, List, [], ◌∷◌, eqb, leb, ltb, length, get_or, take, drop}
+use Rattle.std.specs.Prelude.{ℕ, ◌+◌, Bool, true, false, List, [], ◌∷◌, eqb, leb, ltb, length, get_or, take, drop, Option, Some, None}
 use Rattle.chars.specs.Pick.{pick}
 use Rattle.csv_rows.specs.declared.Separator.{Separator}
 use Rattle.csv_rows.specs.declared.Separator.TheVariants.{Comma, Semicolon, Tab}
@@ -14,8 +14,6 @@ use Rattle.csv_rows.specs.Texts.{own_bytes}
 use Rattle.headers.specs.declared.RowFault.TheVariants.{Broken, BadUtf8}
 use Rattle.headers.specs.declared.Unusable.{Unusable}
 use Rattle.headers.specs.declared.Unusable.TheVariants.{Empty, NoColumn, Twice, Returns, NoRow}
-use Rattle.headers.specs.declared.Names.{Names}
-use Rattle.headers.specs.declared.Names.TheVariants.{Undecided, Many}
 use Rattle.headers.specs.declared.Header.{Header}
 use Rattle.headers.specs.declared.Header.TheVariants.{Wait, Without, With}
 use Rattle.headers.specs.Columns.{columns_of, checked, known, twice, chosen}
@@ -30,15 +28,15 @@ unfoldable pub row_cells : Separator → Bool → List ℕ → List (List ℕ)
 row_cells sep last s = own_of s (line_of (byte_of sep) last s).cells
 
 -- how many known names a row has; what is no row has none
-unfoldable pub names_in : RowRead → List (List ℕ) → Names
-names_in (Row end count) cs = Many (known (columns_of cs))
-names_in (Faulty end f) cs = Many 0
-names_in (Endless f) cs = Many 0
-names_in More cs = Undecided
-names_in Nothing cs = Many 0
+unfoldable pub names_in : RowRead → List (List ℕ) → Option ℕ
+names_in (Row end count) cs = Some (known (columns_of cs))
+names_in (Faulty end f) cs = Some 0
+names_in (Endless f) cs = Some 0
+names_in More cs = None
+names_in Nothing cs = Some 0
 
 -- how many the first row has by a separator
-unfoldable pub names_by : Separator → Bool → List ℕ → Names
+unfoldable pub names_by : Separator → Bool → List ℕ → Option ℕ
 names_by sep last s = names_in (answer (byte_of sep) last s) (row_cells sep last s)
 
 -- what is no row is no header
@@ -73,9 +71,9 @@ unfoldable pub header_by : ℕ → Separator → Bool → List ℕ → Header
 header_by n sep last s = header_in n sep s (answer (byte_of sep) last s) (row_cells sep last s)
 
 -- where it is told how many names there are it goes on
-unfoldable pub on_names : Names → (ℕ → Header) → Header
-on_names (Many n) go = go n
-on_names Undecided go = Wait
+unfoldable pub on_names : Option ℕ → (ℕ → Header) → Header
+on_names (Some n) go = go n
+on_names None go = Wait
 
 -- the header by the separator that gives most names
 unfoldable pub header_row : ℕ → Bool → List ℕ → Header

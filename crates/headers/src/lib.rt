@@ -26,13 +26,6 @@ pub struct Columns {
     pub id: usize,
 }
 
-// How many known names the first row has by a separator; not told yet.
-#[derive(Clone, Copy)]
-enum Names {
-    Many(usize),
-    Undecided,
-}
-
 // Why a row can not be used.
 #[derive(Clone, Copy)]
 pub enum RowFault {
@@ -87,15 +80,12 @@ fn behind_spaces(s: &[u8], at: usize) -> usize
     requires { at ≤ length s.now }
     ensures { (result ≡ at + names.spaces (drop at s.now)) × (result ≤ length s.now) }
 {
-    let mut i = at;
-    while i < s.len() {
-        if is_space(s[i]) {
-            i += 1;
-        } else {
+    for i in at..s.len() {
+        if !is_space(s[i]) {
             return i;
         }
     }
-    i
+    s.len()
 }
 
 // Whether a cell has a name, which is given in lower case.
@@ -103,17 +93,15 @@ fn is_name(s: &[u8], name: &[u8]) -> bool
     ensures { result ≡ names.is_name name.now s.now }
 {
     let mut i = behind_spaces(s, 0);
-    let mut k = 0;
-    while k < name.len() {
+    for c in name {
         if i == s.len() {
             return false;
         }
         let b = fields::lower(s[i]);
-        if name[k] != b {
+        if *c != b {
             return false;
         }
         i += 1;
-        k += 1;
     }
     behind_spaces(s, i) == s.len()
 }
@@ -150,12 +138,10 @@ pub fn cell<'a, 'b>(s: &'a [u8], table: &'b [usize; 512], i: usize) -> &'a [u8]
 fn column_from(s: &[u8], table: &[usize; 512], from: usize, count: usize, name: &[u8]) -> usize
     ensures { result ≡ columns.column_from name.now from (tables.cells_from s.now table.now from (count - from)) }
 {
-    let mut i = from;
-    while i < count {
+    for i in from..count {
         if is_name(cell(s, table, i), name) {
             return i;
         }
-        i += 1;
     }
     256
 }
@@ -291,16 +277,16 @@ fn choose(comma: usize, semicolon: usize, tab: usize) -> Separator
 // ---- the header
 
 // How many known names the first row has by a separator.
-fn names_by(s: &[u8], separator: Separator, last: bool) -> Names
+fn names_by(s: &[u8], separator: Separator, last: bool) -> Option<usize>
     ensures { result ≡ spec.names_by separator last s.now }
 {
     let mut table = [0usize; 512];
     match csv_rows::next_row(s, separator, last, &mut table) {
-        RowRead::Row { end: _, count } => Names::Many(known(columns_in(s, &table, count))),
-        RowRead::Faulty { end: _, fault: _ } => Names::Many(0),
-        RowRead::Endless { fault: _ } => Names::Many(0),
-        RowRead::More => Names::Undecided,
-        RowRead::Nothing => Names::Many(0),
+        RowRead::Row { end: _, count } => Some(known(columns_in(s, &table, count))),
+        RowRead::Faulty { end: _, fault: _ } => Some(0),
+        RowRead::Endless { fault: _ } => Some(0),
+        RowRead::More => None,
+        RowRead::Nothing => Some(0),
     }
 }
 
@@ -383,19 +369,20 @@ fn header_by(s: &[u8], n: usize, separator: Separator, last: bool) -> Header
 }
 
 // The header by the separator that gives most names.
+#[tactic(auto, unfolding(crate::specs::Header::header_row, crate::specs::Header::on_names))]
 fn header_row(s: &[u8], n: usize, last: bool) -> Header
     requires { n ≤ 3 }
     ensures { result ≡ spec.header_row n last s.now }
 {
     match names_by(s, Separator::Comma, last) {
-        Names::Many(comma) => match names_by(s, Separator::Semicolon, last) {
-            Names::Many(semicolon) => match names_by(s, Separator::Tab, last) {
-                Names::Many(tab) => header_by(s, n, choose(comma, semicolon, tab), last),
-                Names::Undecided => Header::Wait,
+        Some(comma) => match names_by(s, Separator::Semicolon, last) {
+            Some(semicolon) => match names_by(s, Separator::Tab, last) {
+                Some(tab) => header_by(s, n, choose(comma, semicolon, tab), last),
+                None => Header::Wait,
             },
-            Names::Undecided => Header::Wait,
+            None => Header::Wait,
         },
-        Names::Undecided => Header::Wait,
+        None => Header::Wait,
     }
 }
 

@@ -8,10 +8,12 @@ use native.Mathlib.Decide.{dec_lt}
 use borrow.Author.Tests.{lt-leb, le-leb, leb-true, ne_eqb, eq-eqb}
 use lib.Dec.{leb}
 use lib.ListN.{length, get_or, drop, set, length-set, length-drop, drop_of_length-le}
-use lib.Seq.{sets, drop-cons, drop-drop, sets-eq, get_or-set_same, get_or-set_other, set-get_or, length-sets}
+use lib.Seq.{take_all, sets, drop-cons, drop-drop, sets-eq, get_or-set_same, get_or-set_other, set-get_or, length-sets}
+use Rattle.std.proofs.lemmas.Slice.{put_mid-paste}
+use borrow.Rule.Slice.PartMut.{put_mid}
 use Rattle.chars.specs.Pick.{pick}
 use Rattle.chars.proofs.Cases.{of_test}
-use Rattle.hexes.specs.declared.Hex.TheVariants.{Bytes, Bad}
+use Rattle.std.specs.Prelude.{Some, None}
 use Rattle.hexes.specs.Hex.{within, is_digit, digit_of, all_digits, bytes_of, half, is_hex, decoded, decoded_into}
 
 and_left : (a b : Bool) → a && b ≡ true → a ≡ true
@@ -60,12 +62,7 @@ rest-digits l zero e = e
 rest-digits [] (suc k) e = e
 rest-digits (b ∷ l) (suc k) e = rest-digits l k (and_right (is_digit b) _ e)
 
--- by thirty-two at a time: a block of them
-pub all-looked : (line : List ℕ) (at i : ℕ) (all : Bool) → i ≤ 32 → 32 ≤ i → (all && all_digits (drop (at + i) line)) ≡ all_digits (drop at line)
-    → (all && all_digits (drop (at + 32) line)) ≡ all_digits (drop at line)
-all-looked line at i all h g e = let q : i ≡ 32 = omega arith in rw q at e
-
--- the last one
+-- the last block
 pub last_block : (line : List ℕ) (at : ℕ) → length line ≤ at + 32 → {r : Bool} → (r && all_digits (drop (at + 32) line)) ≡ all_digits (drop at line) → r ≡ all_digits (drop at line)
 last_block line at h {r} e = sym (and-true r) ∙ (rw (none_left line (at + 32) h) at e)
 
@@ -120,12 +117,32 @@ pub next-byte : (line frame : List ℕ) (i : ℕ) → 2 * i + 1 < length line
     ≡ sets frame i (bytes_of (drop (2 * i) line))
 next-byte line frame i h = let e : i + 1 ≡ suc i = omega arith in rw (pair_is line i h, e)
 
+-- a part of a frame that is stored at once
+pub put-part : (frame ys bytes : List ℕ) (at k : ℕ) → ys ≡ bytes → k ≡ length bytes → at + k ≤ length frame → put_mid at k frame ys ≡ sets frame at bytes
+put-part frame ys bytes at k e h g =
+    put_mid-paste at k frame ys bytes k e refl h ∙ rw (take_all k bytes (omega arith), h) (sym (sets-eq bytes frame at (omega arith)))
+
 -- the byte at a place of a line, and a frame with those from a place on
 abbrev pub byte_at : List ℕ → ℕ → ℕ
 byte_at line i = digit_of (get_or line (2 * i) 0) * 16 + digit_of (get_or line (2 * i + 1) 0)
 
 abbrev pub rest : List ℕ → List ℕ → ℕ → List ℕ
 rest line frame i = sets frame i (bytes_of (drop (2 * i) line))
+
+-- the store of some bytes, and those still to come
+pub puts : (line bytes frame : List ℕ) (at : ℕ) → at + length bytes ≤ half line → ((i : ℕ) → i < length bytes → get_or bytes i 0 ≡ byte_at line (at + i))
+    → rest line (sets frame at bytes) (at + length bytes) ≡ rest line frame at
+puts line [] frame at h f = let e : at + 0 ≡ at = omega arith in rw e refl
+puts line (b ∷ bytes) frame at h f =
+    let e : at + suc (length bytes) ≡ suc at + length bytes = omega arith in
+    let n : at + 1 ≡ suc at = omega arith in
+    let z : at + 0 ≡ at = omega arith in
+    let is : b ≡ byte_at line at = rw z at (f 0 (omega arith)) in
+    let p : rest line (sets (set frame at b) (suc at) bytes) (suc at + length bytes) ≡ rest line (set frame at b) (suc at) =
+    puts line bytes (set frame at b) (suc at) (omega arith) (λ i l. let m : at + suc i ≡ suc at + i = omega arith in rw m at (f (suc i) (omega arith)))
+    in
+    let q : rest line (set frame at b) (suc at) ≡ rest line frame at = rw is (rw n at (next-byte line frame at (omega arith))) in
+    rw e (p ∙ q)
 
 -- one byte more of those before a place
 pub one_more : (line bytes : List ℕ) (at i b : ℕ) → i < length bytes → b ≡ byte_at line (at + i) → ((k : ℕ) → k < i → get_or bytes k 0 ≡ byte_at line (at + k))
@@ -186,21 +203,21 @@ bytes-front line frame h =
 
 -- what is said of a line, and what the frame then is
 module _ (line frame : List ℕ) where
-  refused : is_hex line (length frame) ≡ false → (Bad ≡ decoded line (length frame)) × (frame ≡ decoded_into line frame)
+  refused : is_hex line (length frame) ≡ false → (None ≡ decoded line (length frame)) × (frame ≡ decoded_into line frame)
   unfolding decoded decoded_into pick
   refused e = rw e (refl, refl)
 
-  pub odd : (length line % 2 ≡ 0 → ⊥) → (Bad ≡ decoded line (length frame)) × (frame ≡ decoded_into line frame)
+  pub odd : (length line % 2 ≡ 0 → ⊥) → (None ≡ decoded line (length frame)) × (frame ≡ decoded_into line frame)
   unfolding is_hex
   odd h = refused (rw (ne_eqb (length line % 2) 0 h))
 
   module _ (even : length line % 2 ≡ 0) where
-    pub long : length frame < half line → (Bad ≡ decoded line (length frame)) × (frame ≡ decoded_into line frame)
+    pub long : length frame < half line → (None ≡ decoded line (length frame)) × (frame ≡ decoded_into line frame)
     unfolding is_hex
     long h = refused (rw (eq-eqb (length line % 2) 0 even, lt-leb (half line) (length frame) h))
 
     module _ (fits : half line ≤ length frame) where
-      pub foreign : all_digits line ≡ false → (Bad ≡ decoded line (length frame)) × (frame ≡ decoded_into line frame)
+      pub foreign : all_digits line ≡ false → (None ≡ decoded line (length frame)) × (frame ≡ decoded_into line frame)
       unfolding is_hex
       foreign e = refused (rw (eq-eqb (length line % 2) 0 even, le-leb (half line) (length frame) fits, e))
 
@@ -208,6 +225,6 @@ module _ (line frame : List ℕ) where
       unfolding is_hex
       is-hex e = rw (eq-eqb (length line % 2) 0 even, le-leb (half line) (length frame) fits, e)
 
-      pub good : all_digits line ≡ true → (Bytes (half line) ≡ decoded line (length frame)) × (sets frame 0 (bytes_of line) ≡ decoded_into line frame)
+      pub good : all_digits line ≡ true → (Some (half line) ≡ decoded line (length frame)) × (sets frame 0 (bytes_of line) ≡ decoded_into line frame)
       unfolding decoded decoded_into pick
       good e = rw (is-hex e) (refl, bytes-front line frame fits)

@@ -1,9 +1,7 @@
 -- Hexadecimal lines: the bytes that a line of digits stands for.
 use Prim.Native.Char.{code}
-use Rattle.std.specs.Prelude.{ℕ, ◌+◌, ◌-◌, ◌*◌, ◌/◌, ◌%◌, Bool, true, ◌&&◌, ◌||◌, List, [], ◌∷◌, ◌++◌, eqb, leb, length, drop}
+use Rattle.std.specs.Prelude.{ℕ, ◌+◌, ◌-◌, ◌*◌, ◌/◌, ◌%◌, Bool, true, ◌&&◌, ◌||◌, List, [], ◌∷◌, ◌++◌, eqb, leb, length, drop, Option, Some, None}
 use Rattle.chars.specs.Pick.{pick}
-use Rattle.hexes.specs.declared.Hex.{Hex}
-use Rattle.hexes.specs.declared.Hex.TheVariants.{Bytes, Bad}
 
 -- from a byte to another
 abbrev pub within : ℕ → ℕ → ℕ → Bool
@@ -37,8 +35,8 @@ unfoldable pub is_hex : List ℕ → ℕ → Bool
 is_hex line room = eqb (length line % 2) 0 && (leb (half line) room && all_digits line)
 
 -- what is said of a line
-unfoldable pub decoded : List ℕ → ℕ → Hex
-decoded line room = pick (is_hex line room) (Bytes (half line)) Bad
+unfoldable pub decoded : List ℕ → ℕ → Option ℕ
+decoded line room = pick (is_hex line room) (Some (half line)) None
 
 -- the buffer afterwards: the bytes at its front, or, if the line is none, all as it was
 unfoldable pub decoded_into : List ℕ → List ℕ → List ℕ

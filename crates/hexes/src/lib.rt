@@ -5,13 +5,6 @@ ghost use Rattle.std.specs.Prelude.{◌≡◌, true, ◌&&◌, ℕ, ◌+◌, ◌
 ghost use Rattle.std.proofs.lemmas.List.Edits.{sets};
 ghost use Rattle.hexes.specs.Hex as spec;
 
-// How many bytes a line stands for, or that it is none of digits.
-#[derive(Clone, Copy)]
-pub enum Hex {
-    Bytes(usize),
-    Bad,
-}
-
 // Whether a byte is a digit. No test here, and none below, decides where to go on: the compiler then takes many bytes at once.
 fn is_digit(b: u8) -> bool
     ensures { result ≡ spec.is_digit b }
@@ -31,11 +24,9 @@ fn digit(b: u8) -> u8
 fn few_digits(line: &[u8]) -> bool
     ensures { result ≡ spec.all_digits line.now }
 {
-    let mut i = 0;
     let mut all = true;
-    while i < line.len() {
-        all = all & is_digit(line[i]);
-        i += 1;
+    for b in line {
+        all = all & is_digit(*b);
     }
     all
 }
@@ -45,11 +36,9 @@ fn are_digits(line: &[u8], at: usize) -> bool
     requires { at + 32 ≤ length line.now }
     ensures { (result && spec.all_digits (drop (at + 32) line.now)) ≡ spec.all_digits (drop at line.now) }
 {
-    let mut i = 0;
     let mut all = true;
-    while i < 32 {
+    for i in 0..32 {
         all = all & is_digit(line[at + i]);
-        i += 1;
     }
     all
 }
@@ -63,11 +52,8 @@ fn all_digits(line: &[u8]) -> bool
     if n < 32 {
         return few_digits(line);
     }
-    let mut i = 0;
-    while 32 < n - i {
-        if are_digits(line, i) {
-            i += 32;
-        } else {
+    for i in (0..n - 32).step_by(32) {
+        if !are_digits(line, i) {
             return false;
         }
     }
@@ -87,11 +73,8 @@ fn put_few(line: &[u8], frame: &mut [u8])
     requires { (spec.all_digits line.now ≡ true) × (spec.half line.now ≤ length frame.old) }
     ensures { frame.new ≡ sets frame.old 0 (spec.bytes_of line.now) }
 {
-    let half = line.len() / 2;
-    let mut i = 0;
-    while i < half {
+    for i in 0..line.len() / 2 {
         frame[i] = byte_of(line, i);
-        i += 1;
     }
 }
 
@@ -101,10 +84,8 @@ fn sixteen(line: &[u8], at: usize) -> [u8; 16]
     ensures { (i : ℕ) → i < 16 → get_or result i 0 ≡ spec.digit_of (get_or line.now (2 * (at + i)) 0) * 16 + spec.digit_of (get_or line.now (2 * (at + i) + 1) 0) }
 {
     let mut bytes = [0u8; 16];
-    let mut i = 0;
-    while i < 16 {
+    for i in 0..16 {
         bytes[i] = byte_of(line, at + i);
-        i += 1;
     }
     bytes
 }
@@ -116,11 +97,7 @@ fn put_sixteen(line: &[u8], frame: &mut [u8], at: usize)
     ensures { sets frame.new (at + 16) (spec.bytes_of (drop (2 * (at + 16)) line.now)) ≡ sets frame.old at (spec.bytes_of (drop (2 * at) line.now)) }
 {
     let bytes = sixteen(line, at);
-    let mut i = 0;
-    while i < 16 {
-        frame[at + i] = bytes[i];
-        i += 1;
-    }
+    frame[at..at + 16].copy_from_slice(&bytes);
 }
 
 // The bytes that digits stand for, at the front of a frame with room for them. The last sixteen are put last, and some of them perhaps again:
@@ -134,33 +111,31 @@ fn put_bytes(line: &[u8], frame: &mut [u8])
         put_few(line, frame);
         return;
     }
-    let mut i = 0;
-    while 16 < half - i {
+    for i in (0..half - 16).step_by(16) {
         put_sixteen(line, frame, i);
         if line[2 * i] == b'\n' {
             // never: it is a digit
             return;
         }
-        i += 16;
     }
     put_sixteen(line, frame, half - 16);
 }
 
 // The bytes that a line stands for, at the front of the frame. If it is none of digits, or of more bytes than the frame has room for,
 // nothing is stored.
-pub fn decode(line: &[u8], frame: &mut [u8]) -> Hex
+pub fn decode(line: &[u8], frame: &mut [u8]) -> Option<usize>
     ensures value { result ≡ spec.decoded line.now (length frame.old) }
     ensures frame_after { frame.new ≡ spec.decoded_into line.now frame.old }
 {
     if line.len() % 2 != 0 {
-        return Hex::Bad;
+        return None;
     }
     if frame.len() < line.len() / 2 {
-        return Hex::Bad;
+        return None;
     }
     if all_digits(line) {
         put_bytes(line, frame);
-        return Hex::Bytes(line.len() / 2);
+        return Some(line.len() / 2);
     }
-    Hex::Bad
+    None
 }

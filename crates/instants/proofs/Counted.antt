@@ -13,8 +13,9 @@ use Rattle.days.specs.declared.Period.{Period}
 use Rattle.days.specs.Covered.{period}
 use Rattle.days.specs.Counts.{numbered}
 use Rattle.days.proofs.Numbers.{numbered-less, numbered-le}
-use Rattle.order.specs.declared.Order.{Order}
-use Rattle.order.specs.declared.Order.TheVariants.{Less, Equal, Greater, None}
+use Rattle.std.specs.Prelude.{Option, Some, None}
+use Rattle.std.specs.declared.cmp.Ordering.{Ordering}
+use Rattle.std.specs.declared.cmp.Ordering.TheVariants.{Equal, Greater, Less}
 use Rattle.instants.specs.Stands.{Inside, Stands}
 
 -- the period of k days from a day on
@@ -26,10 +27,10 @@ abbrev pub Within : ℕ → ℕ → ℕ → ℕ → Type 0
 Within b k c l = (c ≤ b) × (b + k ≤ c + l) × (k < l)
 
 -- what an answer means of k days from b on, and l days from c on
-abbrev pub Counted : Order → ℕ → ℕ → ℕ → ℕ → Type 0
-Counted Less b k c l = b + k ≤ c
-Counted Equal b k c l = (b ≡ c) × (k ≡ l)
-Counted Greater b k c l = c + l ≤ b
+abbrev pub Counted : Option Ordering → ℕ → ℕ → ℕ → ℕ → Type 0
+Counted (Some Less) b k c l = b + k ≤ c
+Counted (Some Equal) b k c l = (b ≡ c) × (k ≡ l)
+Counted (Some Greater) b k c l = c + l ≤ b
 Counted None b k c l = Within b k c l ⊎ Within c l b k
 
 -- ---- days and their numbers
@@ -78,40 +79,40 @@ module _ (b k c l : ℕ) (p : 0 < k) (q : 0 < l) where
   apart : (k ≡ l → ⊥) → from b k ≡ from c l → ⊥
   apart n e = n (same_from b k c l p q e).1
 
-  pub counted-on : (o : Order) → Counted o b k c l → Stands o (from b k) (from c l)
-  counted-on Less h = less-on (b + (k - 1)) c (omega arith)
-  counted-on Equal h = rw (h.0, h.1)
-  counted-on Greater h = less-on (c + (l - 1)) b (omega arith)
+  pub counted-on : (o : Option Ordering) → Counted o b k c l → Stands o (from b k) (from c l)
+  counted-on (Some Less) h = less-on (b + (k - 1)) c (omega arith)
+  counted-on (Some Equal) h = rw (h.0, h.1)
+  counted-on (Some Greater) h = less-on (c + (l - 1)) b (omega arith)
   counted-on None (inl w) = (inl (inside_on b k c l p q w), apart (λ (e : k ≡ l). omega (arith, w.2)))
   counted-on None (inr w) = (inr (inside_on c l b k q p w), apart (λ (e : k ≡ l). omega (arith, w.2)))
 
-  pub counted_back : (o : Order) → Stands o (from b k) (from c l) → Counted o b k c l
-  counted_back Less s = omega (arith, less-back (b + (k - 1)) c s)
-  counted_back Equal s = same_from b k c l p q s
-  counted_back Greater s = omega (arith, less-back (c + (l - 1)) b s)
+  pub counted_back : (o : Option Ordering) → Stands o (from b k) (from c l) → Counted o b k c l
+  counted_back (Some Less) s = omega (arith, less-back (b + (k - 1)) c s)
+  counted_back (Some Equal) s = same_from b k c l p q s
+  counted_back (Some Greater) s = omega (arith, less-back (c + (l - 1)) b s)
   counted_back None s = ⊎_elim (λ (i : Inside (from b k) (from c l)). inl (inside_back b k c l p q i s.1)) (λ (i : Inside (from c l) (from b k)). inr (inside_back c l b k q p i (λ e. s.1 (sym e)))) s.0
 
   -- no two answers hold
-  pub one_answer : (o r : Order) → Counted o b k c l → Counted r b k c l → o ≡ r
-  one_answer Less Less h g = refl
-  one_answer Less Equal h g = absurd (omega (arith, g.0))
-  one_answer Less Greater h g = absurd (omega arith)
-  one_answer Less None h (inl w) = absurd (omega (arith, w.0))
-  one_answer Less None h (inr w) = absurd (omega (arith, w.1))
-  one_answer Equal Less h g = absurd (omega (arith, h.0))
-  one_answer Equal Equal h g = refl
-  one_answer Equal Greater h g = absurd (omega (arith, h.0))
-  one_answer Equal None h (inl w) = absurd (omega (arith, h.1, w.2))
-  one_answer Equal None h (inr w) = absurd (omega (arith, h.1, w.2))
-  one_answer Greater Less h g = absurd (omega arith)
-  one_answer Greater Equal h g = absurd (omega (arith, g.0))
-  one_answer Greater Greater h g = refl
-  one_answer Greater None h (inl w) = absurd (omega (arith, w.1))
-  one_answer Greater None h (inr w) = absurd (omega (arith, w.0))
-  one_answer None Less (inl w) g = absurd (omega (arith, w.0))
-  one_answer None Less (inr w) g = absurd (omega (arith, w.1))
-  one_answer None Equal (inl w) g = absurd (omega (arith, g.1, w.2))
-  one_answer None Equal (inr w) g = absurd (omega (arith, g.1, w.2))
-  one_answer None Greater (inl w) g = absurd (omega (arith, w.1))
-  one_answer None Greater (inr w) g = absurd (omega (arith, w.0))
+  pub one_answer : (o r : Option Ordering) → Counted o b k c l → Counted r b k c l → o ≡ r
+  one_answer (Some Less) (Some Less) h g = refl
+  one_answer (Some Less) (Some Equal) h g = absurd (omega (arith, g.0))
+  one_answer (Some Less) (Some Greater) h g = absurd (omega arith)
+  one_answer (Some Less) None h (inl w) = absurd (omega (arith, w.0))
+  one_answer (Some Less) None h (inr w) = absurd (omega (arith, w.1))
+  one_answer (Some Equal) (Some Less) h g = absurd (omega (arith, h.0))
+  one_answer (Some Equal) (Some Equal) h g = refl
+  one_answer (Some Equal) (Some Greater) h g = absurd (omega (arith, h.0))
+  one_answer (Some Equal) None h (inl w) = absurd (omega (arith, h.1, w.2))
+  one_answer (Some Equal) None h (inr w) = absurd (omega (arith, h.1, w.2))
+  one_answer (Some Greater) (Some Less) h g = absurd (omega arith)
+  one_answer (Some Greater) (Some Equal) h g = absurd (omega (arith, g.0))
+  one_answer (Some Greater) (Some Greater) h g = refl
+  one_answer (Some Greater) None h (inl w) = absurd (omega (arith, w.1))
+  one_answer (Some Greater) None h (inr w) = absurd (omega (arith, w.0))
+  one_answer None (Some Less) (inl w) g = absurd (omega (arith, w.0))
+  one_answer None (Some Less) (inr w) g = absurd (omega (arith, w.1))
+  one_answer None (Some Equal) (inl w) g = absurd (omega (arith, g.1, w.2))
+  one_answer None (Some Equal) (inr w) g = absurd (omega (arith, g.1, w.2))
+  one_answer None (Some Greater) (inl w) g = absurd (omega (arith, w.1))
+  one_answer None (Some Greater) (inr w) g = absurd (omega (arith, w.0))
   one_answer None None h g = refl

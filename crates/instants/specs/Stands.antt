@@ -1,8 +1,8 @@
 -- How the days of two Datetimes stand to each other, in the words of the calendar, for each answer of the order.
-use Rattle.std.specs.Prelude.{◌≡◌, ◌⊎◌, ◌≤ℤ◌, ◌<ℤ◌}
+use Rattle.std.specs.Prelude.{◌≡◌, ◌⊎◌, ◌≤ℤ◌, ◌<ℤ◌, Option, Some, None}
+use Rattle.std.specs.declared.cmp.Ordering.{Ordering}
+use Rattle.std.specs.declared.cmp.Ordering.TheVariants.{Equal, Greater, Less}
 use Rattle.days.specs.declared.Period.{Period}
-use Rattle.order.specs.declared.Order.{Order}
-use Rattle.order.specs.declared.Order.TheVariants.{Less, Equal, Greater, None}
 
 -- the last day of the first is before the first day of the second
 abbrev pub Before : Period → Period → Type 0
@@ -17,8 +17,8 @@ abbrev pub Nested : Period → Period → Type 0
 Nested p q = (Inside p q ⊎ Inside q p) × (p ≡ q → ⊥)
 
 -- what each answer means
-abbrev pub Stands : Order → Period → Period → Type 0
-Stands Less p q = Before p q
-Stands Equal p q = p ≡ q
-Stands Greater p q = Before q p
+abbrev pub Stands : Option Ordering → Period → Period → Type 0
+Stands (Some Less) p q = Before p q
+Stands (Some Equal) p q = p ≡ q
+Stands (Some Greater) p q = Before q p
 Stands None p q = Nested p q

@@ -5,23 +5,16 @@
 ghost use Rattle.std.specs.Prelude.{◌≡◌};
 ghost use Rattle.instants.specs.Instants as spec;
 
-use dates::{Datetime, OptionDay, OptionOffset, OptionTime, Time, has_bad_time};
-use days::{Covered, days_by_formula};
-use order::Compared;
+use dates::{Datetime, Day, Time, has_bad_time};
+use days::days_by_formula;
 use refusals::{Kind, Refusal};
-
-// The instant of a Datetime, or why it has none.
-#[derive(Clone, Copy)]
-pub enum Instant {
-    Seconds(i64),
-    NoSeconds(Refusal),
-}
+use std::cmp::Ordering;
 
 // A refusal has no place here.
-fn refuse(kind: Kind) -> Instant
+fn refuse(kind: Kind) -> Result<i64, Refusal>
     ensures { result ≡ spec.refused_instant kind }
 {
-    Instant::NoSeconds(refusals::nowhere(kind))
+    Err(refusals::nowhere(kind))
 }
 
 // The seconds of a time on a day.
@@ -32,55 +25,45 @@ fn seconds_at(day: i32, t: Time) -> i64
 }
 
 // A time on a day: an instant if it has an offset.
-fn on_time(day: i32, t: Time) -> Instant
+#[tactic(auto, unfolding(crate::specs::Instants::on_time))]
+fn on_time(day: i32, t: Time) -> Result<i64, Refusal>
     ensures { result ≡ spec.on_time day t t.offset }
 {
-    let offset = t.offset;
-    match offset {
-        OptionOffset::NoOffset => refuse(Kind::NoInstant),
-        OptionOffset::SomeOffset(_) => Instant::Seconds(seconds_at(day, t)),
+    if t.offset.is_none() {
+        return refuse(Kind::NoInstant);
     }
+    Ok(seconds_at(day, t))
 }
 
 // What is stored of a Datetime whose first day is given: an instant if there are a day and a time.
-fn on_day(first: i32, day: OptionDay, time: OptionTime) -> Instant
+#[tactic(auto, unfolding(crate::specs::Instants::on_day_and_time))]
+fn on_day(first: i32, day: Option<Day>, time: Option<Time>) -> Result<i64, Refusal>
     ensures { result ≡ spec.on_day_and_time first day time }
 {
-    match day {
-        OptionDay::NoDay => refuse(Kind::NoInstant),
-        OptionDay::SomeDay(_) => match time {
-            OptionTime::NoTime => refuse(Kind::NoInstant),
-            OptionTime::SomeTime(t) => on_time(first, t),
-        },
+    match (day, time) {
+        (Some(_), Some(t)) => on_time(first, t),
+        _ => refuse(Kind::NoInstant),
     }
 }
 
 // The instant of a Datetime.
-pub fn instant_of(d: Datetime) -> Instant
+#[tactic(auto, unfolding(crate::specs::Instants::instant_of, crate::specs::Instants::on_covered, chars::specs::Pick::pick))]
+pub fn instant_of(d: Datetime) -> Result<i64, Refusal>
     ensures { result ≡ spec.instant_of d }
 {
-    match days_by_formula(d) {
-        Covered::Days(p) => {
-            if has_bad_time(d) {
-                return refuse(Kind::BadTime);
-            }
-            let day = d.day;
-            let time = d.time;
-            on_day(p.first, day, time)
-        }
-        Covered::Refused(e) => Instant::NoSeconds(e),
+    let p = days_by_formula(d)?;
+    if has_bad_time(d) {
+        return refuse(Kind::BadTime);
     }
+    on_day(p.first, d.day, d.time)
 }
 
 // How the first instant stands to the second. All about the first is refused before the second is looked at.
-pub fn compare(a: Datetime, b: Datetime) -> Compared
+#[tactic(auto, unfolding(crate::specs::Instants::compared, crate::specs::Instants::both))]
+pub fn compare(a: Datetime, b: Datetime) -> Result<Option<Ordering>, Refusal>
     ensures { result ≡ spec.compared a b }
 {
-    match instant_of(a) {
-        Instant::Seconds(x) => match instant_of(b) {
-            Instant::Seconds(y) => Compared::Stands(order::cmp(x, y)),
-            Instant::NoSeconds(e) => Compared::Refused(e),
-        },
-        Instant::NoSeconds(e) => Compared::Refused(e),
-    }
+    let x = instant_of(a)?;
+    let y = instant_of(b)?;
+    Ok(order::cmp(x, y))
 }

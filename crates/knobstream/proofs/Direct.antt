@@ -9,8 +9,9 @@ use lib.ListN.{length, drop}
 use borrow.Author.Tests.{eq-eqb}
 use Rattle.chars.specs.Pick.{pick}
 use Rattle.chars.proofs.Cases.{of_test, and-true}
-use Rattle.dates.specs.declared.OptionMonth.{OptionMonth}
-use Rattle.dates.specs.declared.OptionDay.{OptionDay}
+use Rattle.dates.specs.declared.Day.{Day}
+use Rattle.dates.specs.declared.Month.{Month}
+use Rattle.std.specs.Prelude.{Option}
 use Rattle.dates.specs.declared.Datetime.{Datetime}
 use Rattle.dates.specs.declared.Date.{Date}
 use Rattle.dates.specs.Value.{has_season, any_season}
@@ -38,7 +39,7 @@ unfolding word_day day_of is_set pick
 same-day has n = of_test (eqb has 0) (λ x. rw x) (λ x. rw x)
 
 module _ (p : PlainDatetime) where
-  abbrev with-parts : OptionMonth → OptionDay → Datetime
+  abbrev with-parts : Option Month → Option Day → Datetime
   with-parts m d = record { year = p.year; month = m; day = d; time = time_of p; season = season_of p.season }
 
   point : DatetimeFits p → is_plain_word (day_word p) ≡ true → Said (day_word p) (datetime_of p)
@@ -46,8 +47,8 @@ module _ (p : PlainDatetime) where
   point h e =
       let s =
       point-said p.year p.has_month p.month p.has_day p.day h.year_fits h.bytes_fit.0 h.bytes_fit.1.0 h.bytes_fit.1.1.0 h.bytes_fit.1.1.1.0 e (time_of p) (season_of p.season) in
-      subst (λ (m : OptionMonth). Said (day_word p) (with-parts m (day_of p.has_day p.day))) (same-month p.has_month p.month)
-      (subst (λ (d : OptionDay). Said (day_word p) (with-parts (word_month p.has_month p.month) d)) (same-day p.has_day p.day) s)
+      subst (λ (m : Option Month). Said (day_word p) (with-parts m (day_of p.has_day p.day))) (same-month p.has_month p.month)
+      (subst (λ (d : Option Day). Said (day_word p) (with-parts (word_month p.has_month p.month) d)) (same-day p.has_day p.day) s)
 
   season-none : p.season ≡ 0 → has_season (datetime_of p) ≡ false
   unfolding datetime_of is_set

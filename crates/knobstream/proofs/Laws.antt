@@ -5,12 +5,10 @@ use Prim.Native.Nat.{ℕ}
 use lib.Dec.{eqb}
 use Rattle.chars.specs.Pick.{pick}
 use Rattle.chars.proofs.Cases.{of_test}
-use Rattle.dates.specs.declared.OptionMonth.{OptionMonth}
-use Rattle.dates.specs.declared.OptionMonth.TheVariants.{NoMonth, SomeMonth}
-use Rattle.dates.specs.declared.OptionDay.{OptionDay}
-use Rattle.dates.specs.declared.OptionDay.TheVariants.{NoDay, SomeDay}
-use Rattle.dates.specs.declared.OptionTime.{OptionTime}
-use Rattle.dates.specs.declared.OptionTime.TheVariants.{NoTime, SomeTime}
+use Rattle.dates.specs.declared.Day.{Day}
+use Rattle.dates.specs.declared.Month.{Month}
+use Rattle.dates.specs.declared.Time.{Time}
+use Rattle.std.specs.Prelude.{Option, Some, None}
 use Rattle.dates.specs.declared.Datetime.{Datetime}
 use Rattle.dates.specs.declared.DateValue.{DateValue}
 use Rattle.dates.specs.declared.DateValue.TheVariants.{At, After, Before, Between}
@@ -27,20 +25,20 @@ unfolding is_set
 flag-back true = refl
 flag-back false = refl
 
-month-back : (m : OptionMonth) → month_of (has_month m) (month_number m) ≡ m
+month-back : (m : Option Month) → month_of (has_month m) (month_number m) ≡ m
 unfolding month_of is_set pick
-month-back NoMonth = refl
-month-back (SomeMonth m) = refl
+month-back None = refl
+month-back (Some m) = refl
 
-day-back : (d : OptionDay) → day_of (has_day d) (day_number d) ≡ d
+day-back : (d : Option Day) → day_of (has_day d) (day_number d) ≡ d
 unfolding day_of is_set pick
-day-back NoDay = refl
-day-back (SomeDay d) = refl
+day-back None = refl
+day-back (Some d) = refl
 
-time-back : (d : Datetime) (t : OptionTime) → d.time ≡ t → time_of (datetime d) ≡ t
+time-back : (d : Datetime) (t : Option Time) → d.time ≡ t → time_of (datetime d) ≡ t
 unfolding time_of is_set pick
-time-back d NoTime e = rw e
-time-back d (SomeTime t) e = rw (e, offset-back t.offset)
+time-back d None e = rw e
+time-back d (Some t) e = rw (e, offset-back t.offset)
 
 -- a season is there exactly if its number is not 0
 pub season-set : (n : ℕ) → is_season (season_of n) ≡ is_set n

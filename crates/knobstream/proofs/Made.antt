@@ -22,13 +22,10 @@ use Rattle.dates.specs.Value.{has_season, any_season}
 use Rattle.days.specs.declared.Period.{Period}
 use Rattle.days.specs.Covered.{period}
 use Rattle.instants.specs.Instants.{compared}
-use Rattle.order.specs.declared.Order.{Order}
-use Rattle.order.specs.declared.Order.TheVariants.{Less, Equal, Greater, None}
-use Rattle.order.specs.declared.Compared.{Compared}
-use Rattle.order.specs.declared.Compared.TheVariants.{Stands, Refused}
+use Rattle.std.specs.Prelude.{Option, Some, None, Result, Ok, Err}
+use Rattle.std.specs.declared.cmp.Ordering.{Ordering}
+use Rattle.std.specs.declared.cmp.Ordering.TheVariants.{Equal, Greater, Less}
 use Rattle.order.specs.Order.{order, seasoned, partial_cmp}
-use Rattle.puts.specs.declared.Written.{Written}
-use Rattle.puts.specs.declared.Measured.{Measured}
 use Rattle.puts.specs.Answers.{measured, answer, afterwards}
 use Rattle.writer.specs.Answers.{date_measured, date_answer, date_afterwards}
 use Rattle.writer.specs.Texts.{parts_of, datetime_text, value_text, date_text, end_panics, value_panics, panics}
@@ -41,10 +38,10 @@ use Rattle.knobstream.specs.Plain.{written, measure, order_number, compared_numb
 use Rattle.knobstream.specs.Back.{is_set, datetime_of, day_only, date_value, date_by, date_of}
 
 -- the number of an order has 32 bits
-pub order-fits : (o : Order) → to_z w32 (of_z w32 (order_number o)) ≡ order_number o
-order-fits Less = refl
-order-fits Equal = refl
-order-fits Greater = refl
+pub order-fits : (o : Option Ordering) → to_z w32 (of_z w32 (order_number o)) ≡ order_number o
+order-fits (Some Less) = refl
+order-fits (Some Equal) = refl
+order-fits (Some Greater) = refl
 order-fits None = refl
 
 -- so has what the comparison answers
@@ -52,39 +49,39 @@ compared-fits : (a b : Datetime) → to_z w32 (of_z w32 (compared_number (partia
 unfolding partial_cmp seasoned refusal pick
 compared-fits a b = of_test (has_season a || has_season b) (λ x. rw x) (λ x. rw x (order-fits (order a b)))
 
-pub made-stands : {c : Compared} {o : Order} {r : ℤ} → c ≡ Stands o → r ≡ order_number o → to_z w32 (of_z w32 r) ≡ compared_number c
+pub made-stands : {c : Result (Option Ordering) Refusal} {o : Option Ordering} {r : ℤ} → c ≡ Ok o → r ≡ order_number o → to_z w32 (of_z w32 r) ≡ compared_number c
 made-stands {o = o} e er = rw (e, er) (order-fits o)
 
-pub made-refused : {c : Compared} {e : Refusal} {n : ℕ} → n < 256 → c ≡ Refused e → n ≡ number e.kind → to_z w32 n ≡ compared_number c
+pub made-refused : {c : Result (Option Ordering) Refusal} {e : Refusal} {n : ℕ} → n < 256 → c ≡ Err e → n ≡ number e.kind → to_z w32 n ≡ compared_number c
 made-refused {n = n} h ec en = rw ec (to_z_pos w32 n (omega arith) ∙ ap pos en)
 
-pub made-compared : {a b x y : Datetime} {o : Compared} {r : ℤ} → x ≡ a → y ≡ b → o ≡ partial_cmp x y → r ≡ compared_number o → to_z w32 (of_z w32 r) ≡ compared_number (partial_cmp a b)
+pub made-compared : {a b x y : Datetime} {o : Result (Option Ordering) Refusal} {r : ℤ} → x ≡ a → y ≡ b → o ≡ partial_cmp x y → r ≡ compared_number o → to_z w32 (of_z w32 r) ≡ compared_number (partial_cmp a b)
 made-compared {a} {b} ex ey eo er = rw (er, eo, ex, ey) (compared-fits a b)
 
 -- what the comparison of instants said
-pub made-instants : {a b x y : Datetime} {o : Compared} → x ≡ a → y ≡ b → o ≡ compared x y → o ≡ compared a b
+pub made-instants : {a b x y : Datetime} {o : Result (Option Ordering) Refusal} → x ≡ a → y ≡ b → o ≡ compared x y → o ≡ compared a b
 made-instants ex ey eo = rw (eo, ex, ey)
 
 -- what a writer said of a Date without its times, as a struct, and what it left in the buffer: the same as with its times
-pub made-written : {d e : Date} (t : Date → List ℕ) (l : List ℕ) {m : List ℕ} {w : Written} {r : PlainWritten}
+pub made-written : {d e : Date} (t : Date → List ℕ) (l : List ℕ) {m : List ℕ} {w : Result ℕ Refusal} {r : PlainWritten}
     → any_season d.value ≡ any_season e.value → panics d ≡ panics e → t d ≡ t e → (w ≡ date_answer d (t d) (length l)) × (m ≡ date_afterwards d (t d) l) → r ≡ written w
     → (r ≡ written (date_answer e (t e) (length l))) × (m ≡ date_afterwards e (t e) l)
 unfolding date_measured date_answer date_afterwards
 made-written t l es ep et h er = (rw (er, h.0, es, ep, et), rw (h.1, es, ep, et))
 
 -- what measuring said of it
-pub made-measure : (d e : Date) {m : Measured} {r : PlainWritten} → any_season d.value ≡ any_season e.value → panics d ≡ panics e → date_text d ≡ date_text e → m ≡ date_measured d (date_text d) → r ≡ measure m
+pub made-measure : (d e : Date) {m : Result ℕ Refusal} {r : PlainWritten} → any_season d.value ≡ any_season e.value → panics d ≡ panics e → date_text d ≡ date_text e → m ≡ date_measured d (date_text d) → r ≡ measure m
     → r ≡ measure (date_measured e (date_text e))
 unfolding date_measured
 made-measure d e es ep et em er = rw (er, em, es, ep, et)
 
 -- the same of the writer of level one
-pub level-written : (d e : Date) (l : List ℕ) {m : List ℕ} {w : Written} {r : PlainWritten}
+pub level-written : (d e : Date) (l : List ℕ) {m : List ℕ} {w : Result ℕ Refusal} {r : PlainWritten}
     → level_panics d ≡ level_panics e → level_text d ≡ level_text e → (w ≡ answer (level_panics d) (level_text d) (length l)) × (m ≡ afterwards (level_panics d) (level_text d) l) → r ≡ written w
     → (r ≡ written (answer (level_panics e) (level_text e) (length l))) × (m ≡ afterwards (level_panics e) (level_text e) l)
 level-written d e l ep et h er = (rw (er, h.0, ep, et), rw (h.1, ep, et))
 
-pub level-measure : (d e : Date) {m : Measured} {r : PlainWritten} → level_panics d ≡ level_panics e → level_text d ≡ level_text e → m ≡ measured (level_panics d) (level_text d) → r ≡ measure m
+pub level-measure : (d e : Date) {m : Result ℕ Refusal} {r : PlainWritten} → level_panics d ≡ level_panics e → level_text d ≡ level_text e → m ≡ measured (level_panics d) (level_text d) → r ≡ measure m
     → r ≡ measure (measured (level_panics e) (level_text e))
 level-measure d e ep et em er = rw (er, em, ep, et)
 

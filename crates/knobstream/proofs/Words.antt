@@ -13,8 +13,8 @@ use Rattle.dates.specs.declared.DateValue.{DateValue}
 use Rattle.dates.specs.declared.DateValue.TheVariants.{At, After, Before, Between}
 use Rattle.dates.specs.declared.Date.{Date}
 use Rattle.dates.specs.Ends.{EachEnd}
-use Rattle.refusals.specs.declared.ReadDate.{ReadDate}
-use Rattle.refusals.specs.declared.ReadDate.TheVariants.{Accepted, Refused}
+use Rattle.refusals.specs.declared.Refusal.{Refusal}
+use Rattle.std.specs.Prelude.{Result, Ok, Err}
 use Rattle.refusals.specs.Refusal.{number}
 use Rattle.refusals.proofs.Told.{number_in}
 use Rattle.codes.specs.Words.{twos, flag, clock_of, four_bytes, last_word, words_of}
@@ -128,7 +128,7 @@ accepted-fits d (After a) e t = rw e (both-fit d.uncertain d.approximate (omega 
 accepted-fits d (Before a) e t = rw e (both-fit d.uncertain d.approximate (omega arith) (datetime-fits a t) none-fits)
 accepted-fits d (Between a b) e t = rw e (both-fit d.uncertain d.approximate (omega arith) (datetime-fits a t.0) (datetime-fits b t.1))
 
-accepted-words : (d : Date) (v : DateValue) → d.value ≡ v → listed (words_of (Accepted d)) ≡ words (accepted (date d))
+accepted-words : (d : Date) (v : DateValue) → d.value ≡ v → listed (words_of (Ok d)) ≡ words (accepted (date d))
 unfolding twos
 accepted-words d (At a) e = rw e
 accepted-words d (After a) e = rw e
@@ -136,10 +136,10 @@ accepted-words d (Before a) e = rw e
 accepted-words d (Between a b) e = rw e
 
 -- what a reader answers, in its words
-pub read-answered : (r : ReadDate) → Typed r → {ws : List ℕ} → ws ≡ listed (words_of r) → Answered ws (read r)
+pub read-answered : (r : Result Date Refusal) → Typed r → {ws : List ℕ} → ws ≡ listed (words_of r) → Answered ws (read r)
 unfolding twos
-read-answered (Accepted d) t e = answered (accepted (date d)) (accepted-fits d d.value refl t) (e ∙ accepted-words d d.value refl)
-read-answered (Refused q) t e = answered _ (refused-fits q.place.0 q.place.1 (number q.kind) t.0 t.1 (number_in q.kind).1) e
+read-answered (Ok d) t e = answered (accepted (date d)) (accepted-fits d d.value refl t) (e ∙ accepted-words d d.value refl)
+read-answered (Err q) t e = answered _ (refused-fits q.place.0 q.place.1 (number q.kind) t.0 t.1 (number_in q.kind).1) e
 
 -- the struct has 56 bytes
 pub size : (r : PlainRead) → length (answer_struct r) ≡ 56

@@ -1,12 +1,9 @@
 -- What plain structs mean: every struct, whatever numbers it holds, is a Datetime or a Date.
-use Rattle.std.specs.Prelude.{ℕ, Bool, not, eqb}
+use Rattle.std.specs.Prelude.{ℕ, Bool, not, eqb, Option, Some, None}
 use Rattle.chars.specs.Pick.{pick}
-use Rattle.dates.specs.declared.OptionMonth.{OptionMonth}
-use Rattle.dates.specs.declared.OptionMonth.TheVariants.{NoMonth}
-use Rattle.dates.specs.declared.OptionDay.{OptionDay}
-use Rattle.dates.specs.declared.OptionDay.TheVariants.{NoDay}
-use Rattle.dates.specs.declared.OptionTime.{OptionTime}
-use Rattle.dates.specs.declared.OptionTime.TheVariants.{NoTime, SomeTime}
+use Rattle.dates.specs.declared.Day.{Day}
+use Rattle.dates.specs.declared.Month.{Month}
+use Rattle.dates.specs.declared.Time.{Time}
 use Rattle.dates.specs.declared.Datetime.{Datetime}
 use Rattle.dates.specs.declared.DateValue.{DateValue}
 use Rattle.dates.specs.declared.DateValue.TheVariants.{At, After, Before, Between}
@@ -22,22 +19,22 @@ unfoldable pub is_set : ℕ → Bool
 is_set n = not (eqb n 0)
 
 -- the month, if there is one
-unfoldable pub month_of : ℕ → ℕ → OptionMonth
-month_of has n = pick (is_set has) (month n) NoMonth
+unfoldable pub month_of : ℕ → ℕ → Option Month
+month_of has n = pick (is_set has) (month n) None
 
 -- the day, if there is one
-unfoldable pub day_of : ℕ → ℕ → OptionDay
-day_of has n = pick (is_set has) (day n) NoDay
+unfoldable pub day_of : ℕ → ℕ → Option Day
+day_of has n = pick (is_set has) (day n) None
 
 -- the time, if there is one
-unfoldable pub time_of : PlainDatetime → OptionTime
+unfoldable pub time_of : PlainDatetime → Option Time
 time_of p =
     pick (is_set p.has_time)
-    (SomeTime (time p.hour p.minute p.second (offset_of p.offset p.offset_hours p.offset_minutes)))
-    NoTime
+    (Some (time p.hour p.minute p.second (offset_of p.offset p.offset_hours p.offset_minutes)))
+    None
 
 -- the Datetime, with a time that is given
-abbrev pub datetime_at : PlainDatetime → OptionTime → Datetime
+abbrev pub datetime_at : PlainDatetime → Option Time → Datetime
 datetime_at p t =
     record {
       year = p.year;
@@ -68,4 +65,4 @@ date_of p = date_by datetime_of p
 
 -- a Datetime without its time. No public contract rests on it: the writers look at no time
 unfoldable pub day_only : PlainDatetime → Datetime
-day_only p = datetime_at p NoTime
+day_only p = datetime_at p None

@@ -1,22 +1,15 @@
 -- Dates and answers as plain structs: what a caller that is not Rattle gets.
-use Rattle.std.specs.Prelude.{ℕ, Bool, List, [], ◌∷◌, ℤ, pos, negsuc}
+use Rattle.std.specs.Prelude.{ℕ, Bool, List, [], ◌∷◌, ℤ, pos, negsuc, Option, Some, None, Result, Ok, Err}
+use Rattle.std.specs.declared.cmp.Ordering.{Ordering}
+use Rattle.std.specs.declared.cmp.Ordering.TheVariants.{Equal, Greater, Less}
 use Rattle.refusals.specs.Refusal.{number}
 use Rattle.dates.specs.declared.Datetime.{Datetime}
 use Rattle.dates.specs.declared.DateValue.{DateValue}
 use Rattle.dates.specs.declared.DateValue.TheVariants.{At, After, Before, Between}
 use Rattle.dates.specs.declared.Date.{Date}
 use Rattle.dates.specs.Value.{season_number}
-use Rattle.refusals.specs.declared.ReadDate.{ReadDate}
-use Rattle.refusals.specs.declared.ReadDate.TheVariants.{Accepted, Refused}
+use Rattle.refusals.specs.declared.Refusal.{Refusal}
 use Rattle.codes.specs.Words.{flag, has_month, month_number, has_day, day_number, has_time, clock_of, offset_sort, shift_of, hours_of, minutes_of, shape_of, day_word_of, time_word_of, last_word}
-use Rattle.puts.specs.declared.Measured.{Measured}
-use Rattle.puts.specs.declared.Measured.TheVariants.{Length, NoLength}
-use Rattle.puts.specs.declared.Written.{Written}
-use Rattle.puts.specs.declared.Written.TheVariants.{Done, Refused as NotWritten}
-use Rattle.order.specs.declared.Order.{Order}
-use Rattle.order.specs.declared.Order.TheVariants.{Less, Equal, Greater, None}
-use Rattle.order.specs.declared.Compared.{Compared}
-use Rattle.order.specs.declared.Compared.TheVariants.{Stands, Refused as NotCompared}
 use Rattle.knobstream.specs.declared.PlainDatetime.{PlainDatetime}
 use Rattle.knobstream.specs.declared.PlainDate.{PlainDate}
 use Rattle.knobstream.specs.declared.PlainRead.{PlainRead}
@@ -95,9 +88,9 @@ abbrev pub accepted : PlainDate → PlainRead
 accepted p = record { start = 0; end = 0; date = p; refusal = 0 }
 
 -- what a reader answers: the Date, or no Date with the refusal's number and place
-abbrev pub read : ReadDate → PlainRead
-read (Accepted d) = accepted (date d)
-read (Refused e) = record { start = e.place.0; end = e.place.1; date = no_date; refusal = number e.kind }
+abbrev pub read : Result Date Refusal → PlainRead
+read (Ok d) = accepted (date d)
+read (Err e) = record { start = e.place.0; end = e.place.1; date = no_date; refusal = number e.kind }
 
 -- the eight bytes of a Datetime from its year to its day, as a word
 abbrev pub day_word : PlainDatetime → ℕ
@@ -115,23 +108,23 @@ words r =
     ∷ last_word r.date.shape r.date.uncertain r.date.approximate r.refusal ∷ []
 
 -- what a writer answers: how many bytes were stored with refusal 0, or 0 with the refusal's number
-abbrev pub written : Written → PlainWritten
-written (Done n) = record { length = n; refusal = 0 }
-written (NotWritten e) = record { length = 0; refusal = number e.kind }
+abbrev pub written : Result ℕ Refusal → PlainWritten
+written (Ok n) = record { length = n; refusal = 0 }
+written (Err e) = record { length = 0; refusal = number e.kind }
 
 -- what measuring answers, likewise: how many bytes the text has
-abbrev pub measure : Measured → PlainWritten
-measure (Length n) = record { length = n; refusal = 0 }
-measure (NoLength e) = record { length = 0; refusal = number e.kind }
+abbrev pub measure : Result ℕ Refusal → PlainWritten
+measure (Ok n) = record { length = n; refusal = 0 }
+measure (Err e) = record { length = 0; refusal = number e.kind }
 
 -- how the first stands to the second
-abbrev pub order_number : Order → ℤ
-order_number Less = negsuc 0
-order_number Equal = pos 0
-order_number Greater = pos 1
+abbrev pub order_number : Option Ordering → ℤ
+order_number (Some Less) = negsuc 0
+order_number (Some Equal) = pos 0
+order_number (Some Greater) = pos 1
 order_number None = pos 2
 
 -- what the comparison answers: that, or the refusal's number
-abbrev pub compared_number : Compared → ℤ
-compared_number (Stands o) = order_number o
-compared_number (NotCompared e) = pos (number e.kind)
+abbrev pub compared_number : Result (Option Ordering) Refusal → ℤ
+compared_number (Ok o) = order_number o
+compared_number (Err e) = pos (number e.kind)

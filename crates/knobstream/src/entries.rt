@@ -6,8 +6,8 @@ ghost use Rattle.chronology.specs.Calls.{add_answer, after_add, remove_answer, a
 ghost use Rattle.chronology.specs.Asked.{reply};
 ghost use Rattle.knobstream.specs.Entries.{counted, told};
 
-use chronology::{Answer, Reply};
 use days::Period;
+use refusals::Refusal;
 
 // What a call answers: how many entries there are now, or were listed, with the refusal 0; or the number of a refusal and 0.
 #[repr(C)]
@@ -27,15 +27,15 @@ pub struct PlainReply {
     pub refusal: u8,
 }
 
-fn plain_entries(a: Answer) -> PlainEntries
+fn plain_entries(a: Result<usize, Refusal>) -> PlainEntries
     ensures { result ≡ counted a }
 {
     match a {
-        Answer::Entries(n) => PlainEntries {
+        Ok(n) => PlainEntries {
             entries: n,
             refusal: 0,
         },
-        Answer::Refused(e) => {
+        Err(e) => {
             let kind = e.kind;
             PlainEntries {
                 entries: 0,
@@ -45,16 +45,16 @@ fn plain_entries(a: Answer) -> PlainEntries
     }
 }
 
-fn plain_reply(a: Reply) -> PlainReply
+fn plain_reply(a: Result<(bool, usize), Refusal>) -> PlainReply
     ensures { result ≡ told a }
 {
     match a {
-        Reply::Told { found, read } => PlainReply {
+        Ok((found, read)) => PlainReply {
             read,
             found: crate::flag(found),
             refusal: 0,
         },
-        Reply::Untold(e) => {
+        Err(e) => {
             let kind = e.kind;
             PlainReply {
                 read: 0,

@@ -4,7 +4,8 @@
 
 ghost use Rattle.std.specs.Prelude.{◌≡◌, false, ◌≤◌, ◌<◌, length};
 ghost use Rattle.reading_laws.specs.Field.{parsed, parsed_strict, parsed_level_one};
-ghost use Rattle.chunks.specs.Lent.{lent, optional, three};
+ghost use Rattle.chunks.specs.Lent.{lent, lent_of, optional, three};
+ghost use Rattle.reader.specs.Fields.{three_of};
 ghost use Rattle.reading_laws.specs.Fields.{three_fields};
 ghost use Rattle.order.specs.Order.{partial_cmp};
 ghost use Rattle.writer.specs.Texts.{date_text};
@@ -19,10 +20,12 @@ ghost use Rattle.knobstream.specs.Layout as layout;
 ghost use Rattle.knobstream.specs.Layout.{Answered};
 ghost use Rattle.knobstream.specs.Back as back;
 
+use chunks::ChunksRef;
 use codes::{Words, offset_of, season_of};
-use dates::{Date, DateValue, Datetime, Day, Month, OptionDay, OptionMonth, OptionTime, Time};
-use order::{Compared, Order};
-use puts::{Measured, Written};
+use dates::{Date, DateValue, Datetime, Day, Month, Time};
+use reader::ThreeFields;
+use refusals::Refusal;
+use std::cmp::Ordering;
 
 // The calls on a chronology.
 pub mod entries;
@@ -93,15 +96,15 @@ fn flag(b: bool) -> u8
     if b { 1 } else { 0 }
 }
 
-fn plain_written(w: Written) -> PlainWritten
+fn plain_written(w: Result<usize, Refusal>) -> PlainWritten
     ensures { result ≡ plain.written w }
 {
     match w {
-        Written::Done(n) => PlainWritten {
+        Ok(n) => PlainWritten {
             length: n,
             refusal: 0,
         },
-        Written::Refused(e) => {
+        Err(e) => {
             let kind = e.kind;
             PlainWritten {
                 length: 0,
@@ -111,15 +114,15 @@ fn plain_written(w: Written) -> PlainWritten
     }
 }
 
-fn plain_measured(m: Measured) -> PlainWritten
+fn plain_measured(m: Result<usize, Refusal>) -> PlainWritten
     ensures { result ≡ plain.measure m }
 {
     match m {
-        Measured::Length(size) => PlainWritten {
+        Ok(size) => PlainWritten {
             length: size,
             refusal: 0,
         },
-        Measured::NoLength(e) => {
+        Err(e) => {
             let kind = e.kind;
             PlainWritten {
                 length: 0,
@@ -129,23 +132,23 @@ fn plain_measured(m: Measured) -> PlainWritten
     }
 }
 
-fn plain_order(o: Order) -> i32
+fn plain_order(o: Option<Ordering>) -> i32
     ensures { result ≡ plain.order_number o }
 {
     match o {
-        Order::Less => -1,
-        Order::Equal => 0,
-        Order::Greater => 1,
-        Order::None => 2,
+        Some(Ordering::Less) => -1,
+        Some(Ordering::Equal) => 0,
+        Some(Ordering::Greater) => 1,
+        None => 2,
     }
 }
 
-fn plain_compared(c: Compared) -> i32
+fn plain_compared(c: Result<Option<Ordering>, Refusal>) -> i32
     ensures { result ≡ plain.compared_number c }
 {
     match c {
-        Compared::Stands(o) => plain_order(o),
-        Compared::Refused(e) => {
+        Ok(o) => plain_order(o),
+        Err(e) => {
             let kind = e.kind;
             refusals::number(kind) as i32
         }
@@ -177,36 +180,36 @@ fn is_set(n: u8) -> bool
     n != 0
 }
 
-fn month_of(has: u8, n: u8) -> OptionMonth
+fn month_of(has: u8, n: u8) -> Option<Month>
     ensures { result ≡ back.month_of has n }
 {
     if is_set(has) {
-        return OptionMonth::SomeMonth(Month(n));
+        return Some(Month(n));
     }
-    OptionMonth::NoMonth
+    None
 }
 
-fn day_of(has: u8, n: u8) -> OptionDay
+fn day_of(has: u8, n: u8) -> Option<Day>
     ensures { result ≡ back.day_of has n }
 {
     if is_set(has) {
-        return OptionDay::SomeDay(Day(n));
+        return Some(Day(n));
     }
-    OptionDay::NoDay
+    None
 }
 
-fn time_of(p: PlainDatetime) -> OptionTime
+fn time_of(p: PlainDatetime) -> Option<Time>
     ensures { result ≡ back.time_of p }
 {
     if is_set(p.has_time) {
-        return OptionTime::SomeTime(Time {
+        return Some(Time {
             hour: p.hour,
             minute: p.minute,
             second: p.second,
             offset: offset_of(p.offset, p.offset_hours, p.offset_minutes),
         });
     }
-    OptionTime::NoTime
+    None
 }
 
 fn datetime_of(p: PlainDatetime) -> Datetime
@@ -233,7 +236,7 @@ fn day_only(p: PlainDatetime) -> Datetime
         year: p.year,
         month: month_of(p.has_month, p.month),
         day: day_of(p.has_day, p.day),
-        time: OptionTime::NoTime,
+        time: None,
         season: season_of(p.season),
     }
 }
@@ -267,6 +270,31 @@ fn date_of(p: PlainDate) -> Date
         value,
         uncertain,
         approximate,
+    }
+}
+
+// A list that is lent.
+fn list<'a>(bytes: &'a [u8], table: &'a [u64]) -> ChunksRef<'a>
+    ensures { result ≡ record { bytes = bytes.entry; table = table.entry } }
+{
+    ChunksRef { bytes, table }
+}
+
+// The lists of three fields; a list is absent if the number before it is 0.
+fn fields_of<'a>(
+    year: ChunksRef<'a>,
+    has_month: u8,
+    month: ChunksRef<'a>,
+    has_day: u8,
+    day: ChunksRef<'a>,
+) -> ThreeFields<'a>
+    ensures year_list { lent_of result.year ≡ lent_of year.entry }
+    ensures lists { three_fields (three_of result) ≡ three_fields (three (lent_of year.entry) (optional (back.is_set has_month) month.entry.bytes.now month.entry.table.now) (optional (back.is_set has_day) day.entry.bytes.now day.entry.table.now)) }
+{
+    ThreeFields {
+        year,
+        month: is_set(has_month).then_some(month),
+        day: is_set(has_day).then_some(day),
     }
 }
 
@@ -351,21 +379,24 @@ pub fn knobstream_version() -> u32
 pub fn knobstream_parse(bytes: &[u8], table: &[u64], answer: &mut [u64; 7])
     ensures { Answered answer.new (plain.read (parsed bytes.now table.now)) }
 {
-    put(reader::parse_words(bytes, table), answer);
+    put(reader::parse_words(ChunksRef { bytes, table }), answer);
 }
 
 // A date field, read by the strict grammar alone.
 pub fn knobstream_parse_strict(bytes: &[u8], table: &[u64], answer: &mut [u64; 7])
     ensures { Answered answer.new (plain.read (parsed_strict bytes.now table.now)) }
 {
-    put(reader::parse_strict_words(bytes, table), answer);
+    put(
+        reader::parse_strict_words(ChunksRef { bytes, table }),
+        answer,
+    );
 }
 
 // A date field, read by the grammar of level one: strict texts, seasons and long years.
 pub fn knobstream_parse_level_one(bytes: &[u8], table: &[u64], answer: &mut [u64; 7])
     ensures { Answered answer.new (plain.read (parsed_level_one bytes.now table.now)) }
 {
-    put(reader::level_words(bytes, table), answer);
+    put(reader::level_words(ChunksRef { bytes, table }), answer);
 }
 
 // The fields year, month and day; a list is absent if the number before it is 0, and then is not looked at.
@@ -382,17 +413,14 @@ pub fn knobstream_parse_three_fields(
 )
     ensures { Answered answer.new (plain.read (three_fields (three (lent year.now year_table.now) (optional (back.is_set has_month) month.now month_table.now) (optional (back.is_set has_day) day.now day_table.now)))) }
 {
-    let words = reader::three_words(
-        year,
-        year_table,
-        is_set(has_month),
-        month,
-        month_table,
-        is_set(has_day),
-        day,
-        day_table,
+    let fields = fields_of(
+        list(year, year_table),
+        has_month,
+        list(month, month_table),
+        has_day,
+        list(day, day_table),
     );
-    put(words, answer);
+    put(reader::three_words(fields), answer);
 }
 
 // How long the text of a Date is, for whoever must reserve room before it is written; it refuses what the writer refuses, apart from NoRoom. The

@@ -7,8 +7,8 @@ ghost use Rattle.knobstream.specs.Moments.{plain_days, plain_instant};
 ghost use Rattle.knobstream.specs.Back.{datetime_of};
 
 use crate::PlainDatetime;
-use days::Covered;
-use instants::Instant;
+use days::Period;
+use refusals::Refusal;
 
 // The first and the last day with the refusal 0, or zeros and the number of a refusal.
 #[repr(C)]
@@ -27,16 +27,16 @@ pub struct PlainInstant {
     pub refusal: u8,
 }
 
-fn plain_days(c: Covered) -> PlainDays
+fn plain_days(c: Result<Period, Refusal>) -> PlainDays
     ensures { result ≡ plain_days c }
 {
     match c {
-        Covered::Days(p) => PlainDays {
+        Ok(p) => PlainDays {
             first: p.first,
             last: p.last,
             refusal: 0,
         },
-        Covered::Refused(e) => {
+        Err(e) => {
             let kind = e.kind;
             PlainDays {
                 first: 0,
@@ -47,15 +47,15 @@ fn plain_days(c: Covered) -> PlainDays
     }
 }
 
-fn plain_instant(i: Instant) -> PlainInstant
+fn plain_instant(i: Result<i64, Refusal>) -> PlainInstant
     ensures { result ≡ plain_instant i }
 {
     match i {
-        Instant::Seconds(n) => PlainInstant {
+        Ok(n) => PlainInstant {
             seconds: n,
             refusal: 0,
         },
-        Instant::NoSeconds(e) => {
+        Err(e) => {
             let kind = e.kind;
             PlainInstant {
                 seconds: 0,

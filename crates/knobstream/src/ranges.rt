@@ -7,17 +7,18 @@ ghost use Rattle.knobstream.specs.Plain as plain;
 ghost use Rattle.knobstream.specs.Ranges.{page_words};
 
 use crate::PlainWritten;
-use pages::Answer;
+use chunks::ChunksRef;
+use refusals::Refusal;
 
 // Stores what reading answers into the words that a caller lends: how many ranges, the place, the number of the refusal.
-fn put_answer(a: Answer, words: &mut [u64; 4])
+fn put_answer(a: Result<usize, Refusal>, words: &mut [u64; 4])
     ensures { words.new ≡ page_words a }
 {
     match a {
-        Answer::Ranges(n) => {
+        Ok(n) => {
             *words = [n as u64, 0, 0, 0];
         }
-        Answer::Refused(e) => {
+        Err(e) => {
             let kind = e.kind;
             let start = e.place.0;
             let end = e.place.1;
@@ -38,7 +39,8 @@ pub fn knobstream_parse_pages(
     ensures answer_after { answer.new ≡ page_words (pages_answer bytes.now table.now counts.now (length out.old)) }
     ensures out_after { out.new ≡ pages_afterwards bytes.now table.now counts.now out.old }
 {
-    put_answer(pages::parse_pages(bytes, table, counts, out), answer);
+    let list = ChunksRef { bytes, table };
+    put_answer(pages::parse_pages(list, counts, out), answer);
 }
 
 // The text of a page range, at the front of the lent buffer; without room for it nothing is stored.

@@ -1,9 +1,14 @@
 // The fields of a start and of an end.
+ghost use Rattle.std.specs.Prelude.{is_some};
 ghost use Rattle.chunks.specs.Lent.{lent, optional, three};
+ghost use Rattle.reader.specs.Fields.{three_of};
+ghost use Rattle.sixfields.specs.Ends.{end_of};
 ghost use Rattle.sixfields.specs.Six.{six_fields};
 ghost use Rattle.knobstream.specs.Plain as plain;
 ghost use Rattle.knobstream.specs.Layout.{Answered};
 ghost use Rattle.knobstream.specs.Back.{is_set};
+
+use reader::ThreeFields;
 
 // The fields year, month, day, endyear, endmonth and endday; a list is absent if the number before it is 0, and then is not looked at.
 pub fn knobstream_parse_six_fields(
@@ -28,24 +33,27 @@ pub fn knobstream_parse_six_fields(
 )
     ensures { Answered answer.new (plain.read (six_fields (three (lent year.now year_table.now) (optional (is_set has_month) month.now month_table.now) (optional (is_set has_day) day.now day_table.now)) (is_set has_end_year) (three (lent end_year.now end_year_table.now) (optional (is_set has_end_month) end_month.now end_month_table.now) (optional (is_set has_end_day) end_day.now end_day_table.now)))) }
 {
-    let read = sixfields::parse_six_fields(
-        year,
-        year_table,
-        crate::is_set(has_month),
-        month,
-        month_table,
-        crate::is_set(has_day),
-        day,
-        day_table,
-        crate::is_set(has_end_year),
-        end_year,
-        end_year_table,
-        crate::is_set(has_end_month),
-        end_month,
-        end_month_table,
-        crate::is_set(has_end_day),
-        end_day,
-        end_day_table,
+    let start = crate::fields_of(
+        crate::list(year, year_table),
+        has_month,
+        crate::list(month, month_table),
+        has_day,
+        crate::list(day, day_table),
     );
+    let end = crate::fields_of(
+        crate::list(end_year, end_year_table),
+        has_end_month,
+        crate::list(end_month, end_month_table),
+        has_end_day,
+        crate::list(end_day, end_day_table),
+    );
+    read_into(start, crate::is_set(has_end_year).then_some(end), answer);
+}
+
+// What is read of them, as words.
+fn read_into(start: ThreeFields<'_>, end: Option<ThreeFields<'_>>, answer: &mut [u64; 7])
+    ensures { Answered answer.new (plain.read (six_fields (three_of start.entry) (is_some end.entry) (end_of end.entry))) }
+{
+    let read = sixfields::parse_six_fields(start, end);
     crate::put(codes::pack(read), answer);
 }

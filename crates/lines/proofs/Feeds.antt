@@ -1,8 +1,8 @@
 -- The place of the next line feed. Assumes nothing.
 use mathlib.Core.Path.{◌≡◌, refl, sym, ◌∙◌}
-use mathlib.Core.Bool.{false}
+use mathlib.Core.Bool.{true, false}
 use mathlib.Core.List.{List, [], ◌∷◌}
-use Prim.Native.Nat.{ℕ, ◌+◌, ◌≤◌, ◌<◌}
+use Prim.Native.Nat.{ℕ, zero, suc, ◌+◌, ◌≤◌, ◌<◌}
 use native.Mathlib.Nat.{add-zero}
 use native.Mathlib.Numerals.{add-one}
 use native.Mathlib.Omega.{arith}
@@ -13,7 +13,8 @@ use lib.Seq.{drop-cons, drop-drop}
 use Rattle.chars.specs.Pick.{pick}
 use Rattle.chars.proofs.Cases.{of_test}
 use Rattle.lines.specs.Lines.{line_length}
-use Rattle.lines.specs.Blocks.{Found}
+use Rattle.std.specs.Prelude.{Option, Some, None, unwrap_or, slice_index}
+use Rattle.memchr.specs.Find.{IsFirstByte, is_byte}
 
 -- no line feed here
 pub on : (s : List ℕ) (i : ℕ) → i < length s → eqb (get_or s i 0) 10 ≡ false → line_length (drop i s) ≡ 1 + line_length (drop (i + 1) s)
@@ -45,53 +46,22 @@ behind (x ∷ s) = of_test (eqb x 10) (λ q. rw (q, q)) (λ q. rw q (behind s))
 pub found_here : (s : List ℕ) (at k : ℕ) → line_length (drop at s) ≡ k → line_length (drop (at + k) s) ≡ 0
 found_here s at k e = rw (← drop-drop k at s, ← e) (behind (drop at s))
 
--- a block of bytes by one at a time: before the first
-pub not-begun : (s : List ℕ) (at : ℕ) → Found s at 0 64
-not-begun s at =
-    record { bounded = omega arith; there = λ h. absurd (omega arith); not_there = λ _. rw (add-zero at) (omega arith) }
+-- by a search for the first line feed: there is none
+none-feed : (s : List ℕ) → ((k : ℕ) → k < length s → is_byte 10 (slice_index s k) ≡ true → ⊥) → length s ≡ line_length s
+unfolding line_length pick
+none-feed [] h = refl
+none-feed (b ∷ s) h =
+    of_test (eqb b 10) (λ q. absurd (h 0 (omega arith) q)) (λ q. rw q (let e = none-feed s (λ k l. h (suc k) (omega arith)) in omega arith))
 
--- and one more
-pub one_more : (s : List ℕ) (at i first : ℕ) → at + i < length s → i < 64 → Found s at i first
-    → {p r : ℕ} → p ≡ pick (eqb (get_or s (at + i) 0) 10) i 64 → r ≡ pick (ltb p first) p first → Found s at (i + 1) r
-unfolding pick
-one_more s at i first h l f {p} {r} ep er =
-    of_test (eqb (get_or s (at + i) 0) 10)
-    (λ q.
-    let e : p ≡ i = rw q at ep in
-    of_test (ltb p first)
-    (λ t.
-    let g : r ≡ p = rw t at er in
-    let k = ltb-true p first t in
-    let b = f.bounded in
-    let n : first ≡ 64 = of_test (ltb first 64) (λ u. absurd (let v = (f.there (ltb-true first 64 u)).0 in omega arith)) (λ u. let v = ltb-false first 64 u in omega arith) in
-    let z = here s (at + i) h (eqb-true _ _ q) in
-    let y = f.not_there n in
-    record { bounded = omega arith; there = λ _. (omega arith, omega arith); not_there = λ u. absurd (omega arith) })
-    (λ t.
-    let g : r ≡ first = rw t at er in
-    let k = ltb-false p first t in
-    let y = f.there (omega arith) in
-    record { bounded = omega arith; there = λ _. (omega (arith, y.0), y.1 ∙ sym g); not_there = λ u. absurd (omega arith) }))
-    (λ q.
-    let e : p ≡ 64 = rw q at ep in
-    let b = f.bounded in
-    let g : r ≡ first = of_test (ltb p first) (λ t. absurd (let k = ltb-true p first t in omega arith)) (λ t. rw t at er) in
-    let n : (at + i) + 1 ≡ at + (i + 1) = omega arith in
-    let o = rw n at (on s (at + i) h q) in
-    record {
-      bounded = omega arith;
-      there = λ u. let y = f.there (omega arith) in (omega (arith, y.0), y.1 ∙ sym g);
-      not_there = λ u. let y = f.not_there (sym g ∙ u) in omega (arith, y, o);
-    })
+-- or it stands at a place, and none before it
+some-feed : (s : List ℕ) (n : ℕ) → n < length s → ((k : ℕ) → k < n → is_byte 10 (slice_index s k) ≡ true → ⊥) → is_byte 10 (slice_index s n) ≡ true → n ≡ line_length s
+unfolding line_length pick
+some-feed [] n l h e = absurd (omega arith)
+some-feed (b ∷ s) zero l h e = rw e refl
+some-feed (b ∷ s) (suc n) l h e =
+    of_test (eqb b 10) (λ q. absurd (h 0 (omega arith) q)) (λ q. rw q (let f = some-feed s n (omega arith) (λ k m. h (suc k) (omega arith)) e in omega arith))
 
--- until all were looked at
-pub all-looked : (s : List ℕ) (at i first : ℕ) → i ≤ 64 → 64 ≤ i → Found s at i first → Found s at 64 first
-all-looked s at i first h g f = let q : i ≡ 64 = omega arith in rw q at f
-
--- by one at a time, from a place on
-pub stop : (s : List ℕ) (at i : ℕ) → i + line_length (drop i s) ≡ at + line_length (drop at s) → line_length (drop i s) ≡ 0 → i ≡ at + line_length (drop at s)
-stop s at i h e = omega arith
-
-pub go : (s : List ℕ) (at i : ℕ) → i + line_length (drop i s) ≡ at + line_length (drop at s) → i < length s → eqb (get_or s i 0) 10 ≡ false
-    → (i + 1) + line_length (drop (i + 1) s) ≡ at + line_length (drop at s)
-go s at i h l e = let n = on s i l e in omega arith
+-- so the search gives the length of the line
+pub first-feed : (s : List ℕ) (r : Option ℕ) → IsFirstByte (is_byte 10) s r → unwrap_or r (length s) ≡ line_length s
+first-feed s None h = none-feed s (λ k l. h k (omega arith) l)
+first-feed s (Some n) h = some-feed s n h.0.high (λ k l. h.0.before k (omega arith) l) h.1

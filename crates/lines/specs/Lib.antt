@@ -1,5 +1,4 @@
 pub mod Lines
-pub mod Blocks
 pub mod Steps
 pub mod Runs
 pub mod Frames

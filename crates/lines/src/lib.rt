@@ -5,12 +5,11 @@ ghost use Rattle.std.specs.Prelude.{◌≡◌, false, ◌+◌, ◌≤◌, eqb, l
 ghost use Rattle.chars.specs.Pick.{pick};
 ghost use Rattle.puts.specs.Answers as writing;
 ghost use Rattle.lines.specs.Lines as spec;
-ghost use Rattle.lines.specs.Blocks.{Found};
 ghost use Rattle.lines.specs.Steps.{Replied, next_answer, taken_at, Stepped, Finished};
 ghost use Rattle.frames.specs.Frame.{line_answer};
 ghost use Rattle.lines.specs.Frames.{long_answer};
 
-use puts::Written;
+use refusals::Refusal;
 
 // A line of more bytes is no frame: it is dropped as it is read, and refused.
 const LIMIT: usize = 16384;
@@ -27,76 +26,19 @@ pub struct Taken {
 
 // ---- the next line feed
 
-// The place of a byte in a block of sixty-four, if it is a line feed; else 64.
-fn feed_place(b: u8, i: u8) -> u8
-    ensures { result ≡ pick (eqb b 10) i 64 }
-{
-    if b == 10 {
-        return i;
-    }
-    64
-}
-
-// The smaller of two.
-fn sooner(a: u8, b: u8) -> u8
-    ensures { result ≡ pick (ltb a b) a b }
-{
-    if a < b {
-        return a;
-    }
-    b
-}
-
-// The place of the first line feed among sixty-four bytes; 64 if there is none. No byte decides where the loop goes on: the compiler then takes
-// many at once.
-fn feed_in(s: &[u8], at: usize) -> usize
-    requires { at + 64 ≤ length s.now }
-    ensures { Found s.now at 64 result }
-{
-    let mut first: u8 = 64;
-    let mut i: u8 = 0;
-    while i < 64 {
-        first = sooner(feed_place(s[at + i as usize], i), first);
-        i += 1;
-    }
-    first as usize
-}
-
-// A place with no line feed before it, by sixty-four bytes at a time.
-fn skip_blocks(s: &[u8], at: usize) -> usize
-    requires { at ≤ length s.now }
-    ensures { (result + spec.line_length (drop result s.now) ≡ at + spec.line_length (drop at s.now)) × (result ≤ length s.now) }
-{
-    let mut i = at;
-    while 64 <= s.len() - i {
-        let k = feed_in(s, i);
-        if k < 64 {
-            return i + k;
-        }
-        i += 64;
-    }
-    i
-}
-
 // The place of the next line feed, or the length.
 fn line_end(s: &[u8], at: usize) -> usize
     requires { at ≤ length s.now }
     ensures { result ≡ at + spec.line_length (drop at s.now) }
 {
-    let mut i = skip_blocks(s, at);
-    while i < s.len() {
-        if s[i] == 10 {
-            return i;
-        }
-        i += 1;
-    }
-    i
+    let rest = &s[at..];
+    at + memchr::memchr(b'\n', rest).unwrap_or(rest.len())
 }
 
 // ---- the answers
 
 // The answer to a line, or to one that is too long already, at the front of the lent buffer.
-fn reply(line: &[u8], long: bool, out: &mut [u8]) -> Written
+fn reply(line: &[u8], long: bool, out: &mut [u8]) -> Result<usize, Refusal>
     ensures value { result ≡ writing.answer false (next_answer line_answer long_answer long line.now) (length out.old) }
     ensures out_after { out.new ≡ writing.afterwards false (next_answer line_answer long_answer long line.now) out.old }
 {
@@ -112,8 +54,8 @@ fn put_line(line: &[u8], long: bool, out: &mut [u8], p: usize) -> usize
     ensures { Replied (next_answer line_answer long_answer long line.now) out.old p out.new result }
 {
     match reply(line, long, &mut out[p..]) {
-        Written::Done(n) => p + n,
-        Written::Refused(_) => p,
+        Ok(n) => p + n,
+        Err(_) => p,
     }
 }
 
@@ -154,6 +96,7 @@ pub fn step(block: &[u8], long: bool, out: &mut [u8]) -> Taken
     let mut at = 0;
     let mut l = long;
     let mut p = 0;
+    // Kept as a loop: a line begins behind the feed of the one before it, and a `for` goes on by the same step each time.
     loop {
         let e = line_end(block, at);
         if e == block.len() {

@@ -13,12 +13,10 @@ use Rattle.scanner.specs.Class.{in_class}
 use Rattle.scanner.specs.Scan.{len_in, match_len, walk, eat_while, eat_if, stands_at, part, run_at as scanned_at, next_run}
 use Rattle.numbers.specs.declared.Digits.{Digits}
 use Rattle.numbers.specs.declared.Digits.TheVariants.{OneOrTwo, Two, Four}
-use Rattle.numbers.specs.declared.Parsed.{Parsed}
-use Rattle.numbers.specs.declared.Parsed.TheVariants.{Number, Wrong, Panics}
-use Rattle.numbers.specs.declared.ReadInt.{ReadInt}
-use Rattle.numbers.specs.declared.ReadInt.TheVariants.{Int, NoInt, IntPanics}
-use Rattle.numbers.specs.declared.ParsedNumber.{ParsedNumber}
-use Rattle.numbers.specs.declared.ParsedNumber.TheVariants.{Value, NoValue}
+use Rattle.numbers.specs.declared.NoNumber.{NoNumber}
+use Rattle.numbers.specs.declared.NoNumber.TheVariants.{Panics, Wrong}
+use Rattle.scanner.specs.declared.Cursor.{Cursor}
+use Rattle.std.specs.Prelude.{Option, Some, None, Result, Ok, Err, ℤ}
 use Rattle.numbers.specs.Number.{admits, run_value, run_of, run_at, parse_unsigned_int, or_kept, behind_sign, with_sign, signed_at, signed_run, int_of, parse_int}
 use Rattle.numbers.specs.Parse.{whole_value, digits_from, parse}
 use Rattle.numbers.specs.Trim.{step_by, step_over, trim_step, trim_from, trim_end, trim}
@@ -28,30 +26,30 @@ pub record RunExample : Type 0 where
   pub text : List ℕ
   pub at : ℕ
   pub digits : Digits
-  pub says : Parsed
+  pub says : Result (ℕ × Cursor) NoNumber
 
 abbrev pub runs : List RunExample
 runs =
-    record { text = ascii "7"; at = 0; digits = OneOrTwo; says = Number 7 (record { 0 = 1 }) }
-    ∷ record { text = ascii "07"; at = 0; digits = OneOrTwo; says = Number 7 (record { 0 = 2 }) }
-    ∷ record { text = ascii "99-"; at = 0; digits = OneOrTwo; says = Number 99 (record { 0 = 2 }) }
-    ∷ record { text = ascii "007"; at = 0; digits = OneOrTwo; says = Wrong (record { 0 = 3 }) }
-    ∷ record { text = ascii "-"; at = 0; digits = OneOrTwo; says = Wrong (record { 0 = 0 }) }
-    ∷ record { text = []; at = 0; digits = OneOrTwo; says = Wrong (record { 0 = 0 }) }
-    ∷ record { text = ascii "7"; at = 0; digits = Two; says = Wrong (record { 0 = 1 }) }
-    ∷ record { text = ascii "12"; at = 0; digits = Two; says = Number 12 (record { 0 = 2 }) }
-    ∷ record { text = ascii "123"; at = 0; digits = Two; says = Wrong (record { 0 = 3 }) }
-    ∷ record { text = ascii "999"; at = 0; digits = Four; says = Wrong (record { 0 = 3 }) }
-    ∷ record { text = ascii "0000"; at = 0; digits = Four; says = Number 0 (record { 0 = 4 }) }
-    ∷ record { text = ascii "9999"; at = 0; digits = Four; says = Number 9999 (record { 0 = 4 }) }
-    ∷ record { text = ascii "10000"; at = 0; digits = Four; says = Wrong (record { 0 = 5 }) }
+    record { text = ascii "7"; at = 0; digits = OneOrTwo; says = Ok (7, record { 0 = 1 }) }
+    ∷ record { text = ascii "07"; at = 0; digits = OneOrTwo; says = Ok (7, record { 0 = 2 }) }
+    ∷ record { text = ascii "99-"; at = 0; digits = OneOrTwo; says = Ok (99, record { 0 = 2 }) }
+    ∷ record { text = ascii "007"; at = 0; digits = OneOrTwo; says = Err (Wrong (record { 0 = 3 })) }
+    ∷ record { text = ascii "-"; at = 0; digits = OneOrTwo; says = Err (Wrong (record { 0 = 0 })) }
+    ∷ record { text = []; at = 0; digits = OneOrTwo; says = Err (Wrong (record { 0 = 0 })) }
+    ∷ record { text = ascii "7"; at = 0; digits = Two; says = Err (Wrong (record { 0 = 1 })) }
+    ∷ record { text = ascii "12"; at = 0; digits = Two; says = Ok (12, record { 0 = 2 }) }
+    ∷ record { text = ascii "123"; at = 0; digits = Two; says = Err (Wrong (record { 0 = 3 })) }
+    ∷ record { text = ascii "999"; at = 0; digits = Four; says = Err (Wrong (record { 0 = 3 })) }
+    ∷ record { text = ascii "0000"; at = 0; digits = Four; says = Ok (0, record { 0 = 4 }) }
+    ∷ record { text = ascii "9999"; at = 0; digits = Four; says = Ok (9999, record { 0 = 4 }) }
+    ∷ record { text = ascii "10000"; at = 0; digits = Four; says = Err (Wrong (record { 0 = 5 })) }
     -- white space before it, and the place behind it
-    ∷ record { text = ascii "x  12 "; at = 1; digits = Two; says = Number 12 (record { 0 = 5 }) }
-    ∷ record { text = 0xC2 ∷ 0xA0 ∷ ascii "12"; at = 0; digits = Two; says = Number 12 (record { 0 = 4 }) }
+    ∷ record { text = ascii "x  12 "; at = 1; digits = Two; says = Ok (12, record { 0 = 5 }) }
+    ∷ record { text = 0xC2 ∷ 0xA0 ∷ ascii "12"; at = 0; digits = Two; says = Ok (12, record { 0 = 4 }) }
     -- the length is counted in bytes and decides before the characters do: ½ has two
-    ∷ record { text = 0xC2 ∷ 0xBD ∷ []; at = 0; digits = Two; says = Panics }
-    ∷ record { text = ascii "1" ++ (0xC2 ∷ 0xBD ∷ []); at = 0; digits = OneOrTwo; says = Wrong (record { 0 = 3 }) }
-    ∷ record { text = ascii "12" ++ (0xC2 ∷ 0xBD ∷ []); at = 0; digits = Four; says = Panics }
+    ∷ record { text = 0xC2 ∷ 0xBD ∷ []; at = 0; digits = Two; says = (Err Panics) }
+    ∷ record { text = ascii "1" ++ (0xC2 ∷ 0xBD ∷ []); at = 0; digits = OneOrTwo; says = Err (Wrong (record { 0 = 3 })) }
+    ∷ record { text = ascii "12" ++ (0xC2 ∷ 0xBD ∷ []); at = 0; digits = Four; says = (Err Panics) }
     ∷ []
 
 pub run-examples : map (λ (e : RunExample). parse_unsigned_int e.text e.at e.digits) runs ≡ map (λ (e : RunExample). e.says) runs
@@ -63,24 +61,24 @@ pub record IntExample : Type 0 where
   pub text : List ℕ
   pub at : ℕ
   pub digits : Digits
-  pub says : ReadInt
+  pub says : Result (ℤ × Cursor) NoNumber
 
 abbrev pub ints : List IntExample
 ints =
-    record { text = ascii "2020"; at = 0; digits = Four; says = Int (pos 2020) (record { 0 = 4 }) }
-    ∷ record { text = ascii "+2020"; at = 0; digits = Four; says = Int (pos 2020) (record { 0 = 5 }) }
-    ∷ record { text = ascii "-2020"; at = 0; digits = Four; says = Int (negsuc 2019) (record { 0 = 5 }) }
-    ∷ record { text = ascii "-12"; at = 0; digits = Two; says = Int (negsuc 11) (record { 0 = 3 }) }
-    ∷ record { text = ascii "-0000"; at = 0; digits = Four; says = Int (pos 0) (record { 0 = 5 }) }
-    ∷ record { text = ascii "-9999"; at = 0; digits = Four; says = Int (negsuc 9998) (record { 0 = 5 }) }
+    record { text = ascii "2020"; at = 0; digits = Four; says = Ok (pos 2020, record { 0 = 4 }) }
+    ∷ record { text = ascii "+2020"; at = 0; digits = Four; says = Ok (pos 2020, record { 0 = 5 }) }
+    ∷ record { text = ascii "-2020"; at = 0; digits = Four; says = Ok (negsuc 2019, record { 0 = 5 }) }
+    ∷ record { text = ascii "-12"; at = 0; digits = Two; says = Ok (negsuc 11, record { 0 = 3 }) }
+    ∷ record { text = ascii "-0000"; at = 0; digits = Four; says = Ok (pos 0, record { 0 = 5 }) }
+    ∷ record { text = ascii "-9999"; at = 0; digits = Four; says = Ok (negsuc 9998, record { 0 = 5 }) }
     -- white space before the sign and behind it, and one sign alone
-    ∷ record { text = ascii "  - 2020"; at = 0; digits = Four; says = Int (negsuc 2019) (record { 0 = 8 }) }
-    ∷ record { text = ascii "--2020"; at = 0; digits = Four; says = NoInt (record { 0 = 1 }) }
-    ∷ record { text = ascii "-+2020"; at = 0; digits = Four; says = NoInt (record { 0 = 1 }) }
+    ∷ record { text = ascii "  - 2020"; at = 0; digits = Four; says = Ok (negsuc 2019, record { 0 = 8 }) }
+    ∷ record { text = ascii "--2020"; at = 0; digits = Four; says = Err (Wrong (record { 0 = 1 })) }
+    ∷ record { text = ascii "-+2020"; at = 0; digits = Four; says = Err (Wrong (record { 0 = 1 })) }
     -- another length, and what panics
-    ∷ record { text = ascii "-20"; at = 0; digits = Four; says = NoInt (record { 0 = 3 }) }
-    ∷ record { text = ascii "-"; at = 0; digits = Four; says = NoInt (record { 0 = 1 }) }
-    ∷ record { text = ascii "-" ++ (0xC2 ∷ 0xBD ∷ []); at = 0; digits = Two; says = IntPanics }
+    ∷ record { text = ascii "-20"; at = 0; digits = Four; says = Err (Wrong (record { 0 = 3 })) }
+    ∷ record { text = ascii "-"; at = 0; digits = Four; says = Err (Wrong (record { 0 = 1 })) }
+    ∷ record { text = ascii "-" ++ (0xC2 ∷ 0xBD ∷ []); at = 0; digits = Two; says = (Err Panics) }
     ∷ []
 
 pub int-examples : map (λ (e : IntExample). parse_int e.text e.at e.digits) ints ≡ map (λ (e : IntExample). e.says) ints
@@ -91,31 +89,31 @@ int-examples = refl
 pub record WholeExample : Type 0 where
   pub text : List ℕ
   pub top : ℕ
-  pub says : ParsedNumber
+  pub says : Option ℕ
 
 abbrev pub wholes : List WholeExample
 wholes =
-    record { text = ascii "0"; top = 255; says = Value 0 }
-    ∷ record { text = ascii "254"; top = 255; says = Value 254 }
-    ∷ record { text = ascii "255"; top = 255; says = Value 255 }
-    ∷ record { text = ascii "256"; top = 255; says = NoValue }
-    ∷ record { text = ascii "2550"; top = 255; says = NoValue }
-    ∷ record { text = ascii "000255"; top = 255; says = Value 255 }
-    ∷ record { text = ascii "4294967295"; top = 4294967295; says = Value 4294967295 }
-    ∷ record { text = ascii "4294967296"; top = 4294967295; says = NoValue }
+    record { text = ascii "0"; top = 255; says = Some 0 }
+    ∷ record { text = ascii "254"; top = 255; says = Some 254 }
+    ∷ record { text = ascii "255"; top = 255; says = Some 255 }
+    ∷ record { text = ascii "256"; top = 255; says = None }
+    ∷ record { text = ascii "2550"; top = 255; says = None }
+    ∷ record { text = ascii "000255"; top = 255; says = Some 255 }
+    ∷ record { text = ascii "4294967295"; top = 4294967295; says = Some 4294967295 }
+    ∷ record { text = ascii "4294967296"; top = 4294967295; says = None }
     -- a plus, once, and no minus
-    ∷ record { text = ascii "+7"; top = 255; says = Value 7 }
-    ∷ record { text = ascii "++7"; top = 255; says = NoValue }
-    ∷ record { text = ascii "-7"; top = 255; says = NoValue }
-    ∷ record { text = ascii "-0"; top = 255; says = NoValue }
+    ∷ record { text = ascii "+7"; top = 255; says = Some 7 }
+    ∷ record { text = ascii "++7"; top = 255; says = None }
+    ∷ record { text = ascii "-7"; top = 255; says = None }
+    ∷ record { text = ascii "-0"; top = 255; says = None }
     -- one digit at least, and nothing else
-    ∷ record { text = []; top = 255; says = NoValue }
-    ∷ record { text = ascii "+"; top = 255; says = NoValue }
-    ∷ record { text = ascii " 7"; top = 255; says = NoValue }
-    ∷ record { text = ascii "7 "; top = 255; says = NoValue }
-    ∷ record { text = ascii "7/"; top = 255; says = NoValue }
-    ∷ record { text = ascii "7:"; top = 255; says = NoValue }
-    ∷ record { text = 0xC2 ∷ 0xBD ∷ []; top = 255; says = NoValue }
+    ∷ record { text = []; top = 255; says = None }
+    ∷ record { text = ascii "+"; top = 255; says = None }
+    ∷ record { text = ascii " 7"; top = 255; says = None }
+    ∷ record { text = ascii "7 "; top = 255; says = None }
+    ∷ record { text = ascii "7/"; top = 255; says = None }
+    ∷ record { text = ascii "7:"; top = 255; says = None }
+    ∷ record { text = 0xC2 ∷ 0xBD ∷ []; top = 255; says = None }
     ∷ []
 
 pub whole-examples : map (λ (e : WholeExample). parse e.top e.text) wholes ≡ map (λ (e : WholeExample). e.says) wholes

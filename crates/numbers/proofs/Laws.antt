@@ -21,12 +21,9 @@ use Rattle.numbers.specs.Number.{admits, run_value, run_of, run_at, parse_unsign
 use Rattle.chars.specs.Signs.{signed}
 use Rattle.numbers.specs.declared.Digits.{Digits}
 use Rattle.numbers.specs.declared.Digits.TheVariants.{OneOrTwo, Two, Four}
-use Rattle.numbers.specs.declared.Parsed.{Parsed}
-use Rattle.numbers.specs.declared.Parsed.TheVariants.{Number, Wrong, Panics}
-use Rattle.numbers.specs.declared.ParsedNumber.{ParsedNumber}
-use Rattle.numbers.specs.declared.ParsedNumber.TheVariants.{Value, NoValue}
-use Rattle.numbers.specs.declared.ReadInt.{ReadInt}
-use Rattle.numbers.specs.declared.ReadInt.TheVariants.{Int, NoInt, IntPanics}
+use Rattle.numbers.specs.declared.NoNumber.{NoNumber}
+use Rattle.numbers.specs.declared.NoNumber.TheVariants.{Panics, Wrong}
+use Rattle.std.specs.Prelude.{Option, Some, None, Result, Ok, Err}
 use Rattle.numbers.specs.declared.SignedRun.{SignedRun}
 
 -- the largest length that is admitted
@@ -63,15 +60,15 @@ admitted-some Four zero e = absurd (false≢true e)
 admitted-some g (suc n) e = omega arith
 
 -- a number that was read is below n
-pub data Below (n : ℕ) : Parsed → Type 0 where
-  number : {v : ℕ} {c : Cursor} → v < n → Below n (Number v c)
-  wrong : {c : Cursor} → Below n (Wrong c)
-  panics : Below n Panics
+pub data Below (n : ℕ) : Result (ℕ × Cursor) NoNumber → Type 0 where
+  number : {v : ℕ} {c : Cursor} → v < n → Below n (Ok (v, c))
+  wrong : {c : Cursor} → Below n (Err (Wrong c))
+  panics : Below n (Err Panics)
 
-value-below : (n end : ℕ) (r : ParsedNumber) → ((v : ℕ) → r ≡ Value v → v < n) → Below n (run_value r end)
+value-below : (n end : ℕ) (r : Option ℕ) → ((v : ℕ) → r ≡ Some v → v < n) → Below n (run_value r end)
 unfolding run_value
-value-below n end (Value v) h = number (h v refl)
-value-below n end NoValue h = panics
+value-below n end (Some v) h = number (h v refl)
+value-below n end None h = panics
 
 run-below : (s : List ℕ) (start end : ℕ) (g : Digits) → Below (10 ^ most g) (run_of s start end g)
 unfolding run_of
@@ -81,7 +78,7 @@ run-below s start end g =
     (λ t. value-below (10 ^ most g) end (digits_from 9999 num 0) (λ v. digits-below 9999 num 0 (most g) (admitted-most g (length num) t)))
     (λ _. wrong)
 
-of_number : {n v : ℕ} {c : Cursor} → Below n (Number v c) → v < n
+of_number : {n v : ℕ} {c : Cursor} → Below n (Ok (v, c)) → v < n
 of_number (number h) = h
 
 pub unsigned-below : (s : List ℕ) (at : ℕ) (g : Digits) → Below (10 ^ most g) (parse_unsigned_int s at g)
@@ -90,20 +87,20 @@ unsigned-below s at g =
     let a = eat_while Whitespace s at in
     run-below s a (eat_while Numeric s a) g
 
-pub run-value : (s : List ℕ) (start end : ℕ) (g : Digits) {v : ℕ} {c : Cursor} → run_of s start end g ≡ Number v c → v < 10 ^ most g
+pub run-value : (s : List ℕ) (start end : ℕ) (g : Digits) {v : ℕ} {c : Cursor} → run_of s start end g ≡ Ok (v, c) → v < 10 ^ most g
 run-value s start end g e = of_number (subst (Below (10 ^ most g)) e (run-below s start end g))
 
-pub unsigned-value : (s : List ℕ) (at : ℕ) (g : Digits) {v : ℕ} {c : Cursor} → parse_unsigned_int s at g ≡ Number v c → v < 10 ^ most g
+pub unsigned-value : (s : List ℕ) (at : ℕ) (g : Digits) {v : ℕ} {c : Cursor} → parse_unsigned_int s at g ≡ Ok (v, c) → v < 10 ^ most g
 unfolding parse_unsigned_int run_at
 unsigned-value s at g e =
     let a = eat_while Whitespace s at in
     run-value s a (eat_while Numeric s a) g e
 
 -- with a sign: the magnitude is
-pub data IntIn (n : ℕ) : ReadInt → Type 0 where
-  int : {z : ℤ} {c : Cursor} → nat_abs z < n → IntIn n (Int z c)
-  noint : {c : Cursor} → IntIn n (NoInt c)
-  panic : IntIn n IntPanics
+pub data IntIn (n : ℕ) : Result (ℤ × Cursor) NoNumber → Type 0 where
+  int : {z : ℤ} {c : Cursor} → nat_abs z < n → IntIn n (Ok (z, c))
+  noint : {c : Cursor} → IntIn n (Err (Wrong c))
+  panic : IntIn n (Err Panics)
 
 pub abs-signed : (neg : Bool) (v : ℕ) → nat_abs (signed neg v) ≡ v
 unfolding signed
@@ -111,13 +108,13 @@ abs-signed false v = refl
 abs-signed true zero = refl
 abs-signed true (suc v) = refl
 
-signed-in : (n : ℕ) (neg : Bool) {p : Parsed} → Below n p → IntIn n (with_sign neg p)
+signed-in : (n : ℕ) (neg : Bool) {p : Result (ℕ × Cursor) NoNumber} → Below n p → IntIn n (with_sign neg p)
 unfolding with_sign
 signed-in n neg (number {v} h) = int {z = signed neg v} (rw (abs-signed neg v) h)
 signed-in n neg wrong = noint
 signed-in n neg panics = panic
 
-of-int : {n : ℕ} {z : ℤ} {c : Cursor} → IntIn n (Int z c) → nat_abs z < n
+of-int : {n : ℕ} {z : ℤ} {c : Cursor} → IntIn n (Ok (z, c)) → nat_abs z < n
 of-int (int h) = h
 
 pub run-int-in : (s : List ℕ) (r : SignedRun) (g : Digits) → IntIn (10 ^ most g) (int_of s r g)
@@ -128,7 +125,7 @@ pub int-in : (s : List ℕ) (at : ℕ) (g : Digits) → IntIn (10 ^ most g) (par
 unfolding parse_int
 int-in s at g = run-int-in s (signed_run s at) g
 
-pub int-below : (s : List ℕ) (r : SignedRun) (g : Digits) {z : ℤ} {c : Cursor} → int_of s r g ≡ Int z c → nat_abs z < 10 ^ most g
+pub int-below : (s : List ℕ) (r : SignedRun) (g : Digits) {z : ℤ} {c : Cursor} → int_of s r g ≡ Ok (z, c) → nat_abs z < 10 ^ most g
 int-below s r g e = of-int (subst (IntIn (10 ^ most g)) e (run-int-in s r g))
 
 -- a number with a sign before it is the number behind the sign

@@ -14,7 +14,8 @@ use Rattle.chars.specs.Pick.{pick}
 use Rattle.chars.proofs.Laws.{digit-is}
 use Rattle.scanner.specs.declared.Class.{Class}
 use Rattle.scanner.specs.declared.Class.TheVariants.{Whitespace, Numeric, AsciiDigit, Sign, Is}
-use Rattle.scanner.specs.declared.EatIf.TheVariants.{Past, Kept}
+use Rattle.numbers.specs.declared.NoNumber.TheVariants.{Wrong}
+use Rattle.std.specs.Prelude.{Some, None, Ok, Err}
 use Rattle.scanner.specs.Class.{in_class}
 use Rattle.scanner.specs.Scan.{match_len, eat_while, eat_if, stands_at, part}
 use Rattle.scanner.proofs.Front.{From, front-part, front_rest, front-match, front-go, front-stop, front-end}
@@ -23,12 +24,9 @@ use Rattle.scanner.proofs.Laws.{not_white}
 use Rattle.numbers.specs.Number.{admits, cursor, run_value, run_of, run_at, parse_unsigned_int, or_kept, behind_sign, with_sign, parse_int}
 use Rattle.chars.specs.Signs.{signed}
 use Rattle.numbers.specs.declared.Digits.{Digits}
-use Rattle.numbers.specs.declared.Parsed.TheVariants.{Number, Wrong}
-use Rattle.numbers.specs.declared.ParsedNumber.TheVariants.{Value}
 use Rattle.numbers.specs.Parse.{whole_value, digits_from}
 use Rattle.numbers.proofs.Whole.{ten}
 use Rattle.numbers.proofs.Laws.{admitted-most, admitted-some, most-four, int-behind}
-use Rattle.numbers.specs.declared.ReadInt.TheVariants.{Int, NoInt}
 
 -- digits, by what they say: their bytes, and the number that they are
 abbrev pub bytes : List ℕ → List ℕ
@@ -92,7 +90,7 @@ value_grows acc [] = omega arith
 value_grows acc (d ∷ ds) = let g = value_grows (acc * 10 + d) ds in omega arith
 
 -- it is read where it is not above the largest
-pub value-is : (ds : List ℕ) (top acc : ℕ) → AreDigits ds → value acc ds ≤ top → whole_value top acc (bytes ds) ≡ Value (value acc ds)
+pub value-is : (ds : List ℕ) (top acc : ℕ) → AreDigits ds → value acc ds ≤ top → whole_value top acc (bytes ds) ≡ Some (value acc ds)
 unfolding whole_value pick
 value-is [] top acc h l = refl
 value-is (d ∷ ds) top acc h l =
@@ -114,7 +112,7 @@ pub digits-part : (ds t : List ℕ) {s : List ℕ} {i : ℕ} → From s i (bytes
 digits-part ds t {s} {i} f = ap (λ (n : ℕ). part s i (i + n)) (sym (length-bytes ds)) ∙ front-part (bytes ds) t f
 
 module _ (ds : List ℕ) {s t : List ℕ} {i : ℕ} (h : AreDigits ds) (b : Behind t) (f : From s i (bytes ds ++ t)) where
-  digits-read : (g : Digits) → admits g (length ds) ≡ true → digits_from 9999 (bytes ds) 0 ≡ Value (value 0 ds)
+  digits-read : (g : Digits) → admits g (length ds) ≡ true → digits_from 9999 (bytes ds) 0 ≡ Some (value 0 ds)
   unfolding digits_from pick
   digits-read g l =
       let n = length-bytes ds in
@@ -124,22 +122,22 @@ module _ (ds : List ℕ) {s t : List ℕ} {i : ℕ} (h : AreDigits ds) (b : Behi
       rw (lt-leb (length (bytes ds)) 0 (omega (arith, admitted-some g (length ds) l))) (value-is ds 9999 0 h small)
 
   -- as many digits as are admitted
-  pub run-read : (g : Digits) → admits g (length ds) ≡ true → run_at s i g ≡ Number (value 0 ds) (cursor (i + length ds))
+  pub run-read : (g : Digits) → admits g (length ds) ≡ true → run_at s i g ≡ Ok (value 0 ds, cursor (i + length ds))
   unfolding run_at run_of run_value pick
   run-read g l = rw (run-digits ds h b f, digits-part ds t f, length-bytes ds, l, digits-read g l)
 
   -- another number of them
-  pub run_wrong : (g : Digits) → admits g (length ds) ≡ false → run_at s i g ≡ Wrong (cursor (i + length ds))
+  pub run_wrong : (g : Digits) → admits g (length ds) ≡ false → run_at s i g ≡ Err (Wrong (cursor (i + length ds)))
   unfolding run_at run_of pick
   run_wrong g l = rw (run-digits ds h b f, digits-part ds t f, length-bytes ds, l)
 
 -- what eating one character does, by what stands there
 module _ {s t : List ℕ} {i c : ℕ} (f : From s i (c ∷ t)) (k : Class) (l : c < 128) where
-  pub front-ate : in_class k c ≡ true → eat_if k s i ≡ Past (cursor (i + 1))
+  pub front-ate : in_class k c ≡ true → eat_if k s i ≡ Some (cursor (i + 1))
   unfolding eat_if pick
   front-ate y = let m : match_len k s i ≡ 1 = rw y at (front-match f k l) in rw m
 
-  pub front_kept : in_class k c ≡ false → eat_if k s i ≡ Kept
+  pub front_kept : in_class k c ≡ false → eat_if k s i ≡ None
   unfolding eat_if pick
   front_kept y = let m : match_len k s i ≡ 0 = rw y at (front-match f k l) in rw m
 
@@ -173,29 +171,29 @@ module _ {s t : List ℕ} {i : ℕ} (f : From s i (0x2D ∷ t)) where
 
 -- a number of digits, where white space may stand before it
 module _ (d : ℕ) (ds : List ℕ) {s t : List ℕ} {i : ℕ} (h : AreDigits (d ∷ ds)) (b : Behind t) (f : From s i (bytes (d ∷ ds) ++ t)) where
-  pub number_read : (g : Digits) → admits g (suc (length ds)) ≡ true → parse_unsigned_int s i g ≡ Number (value 0 (d ∷ ds)) (cursor (i + suc (length ds)))
+  pub number_read : (g : Digits) → admits g (suc (length ds)) ≡ true → parse_unsigned_int s i g ≡ Ok (value 0 (d ∷ ds), cursor (i + suc (length ds)))
   unfolding parse_unsigned_int
   number_read g l = rw (digit-white h.0 f) (run-read (d ∷ ds) h b f g l)
 
-  pub number-wrong : (g : Digits) → admits g (suc (length ds)) ≡ false → parse_unsigned_int s i g ≡ Wrong (cursor (i + suc (length ds)))
+  pub number-wrong : (g : Digits) → admits g (suc (length ds)) ≡ false → parse_unsigned_int s i g ≡ Err (Wrong (cursor (i + suc (length ds))))
   unfolding parse_unsigned_int
   number-wrong g l = rw (digit-white h.0 f) (run_wrong (d ∷ ds) h b f g l)
 
   -- the same where a sign may stand
-  pub int-read : (g : Digits) → admits g (suc (length ds)) ≡ true → parse_int s i g ≡ Int (pos (value 0 (d ∷ ds))) (cursor (i + suc (length ds)))
+  pub int-read : (g : Digits) → admits g (suc (length ds)) ≡ true → parse_int s i g ≡ Ok (pos (value 0 (d ∷ ds)), cursor (i + suc (length ds)))
   unfolding with_sign signed
   int-read g l = rw (int-behind s i g, digit-white h.0 f, no_minus h.0 f, behind-none h.0 f, number_read g l)
 
-  pub int-wrong : (g : Digits) → admits g (suc (length ds)) ≡ false → parse_int s i g ≡ NoInt (cursor (i + suc (length ds)))
+  pub int-wrong : (g : Digits) → admits g (suc (length ds)) ≡ false → parse_int s i g ≡ Err (Wrong (cursor (i + suc (length ds))))
   unfolding with_sign
   int-wrong g l = rw (int-behind s i g, digit-white h.0 f, no_minus h.0 f, behind-none h.0 f, number-wrong g l)
 
 -- and behind a minus
 module _ (d : ℕ) (ds : List ℕ) {s t : List ℕ} {i : ℕ} (h : AreDigits (d ∷ ds)) (b : Behind t) (f : From s i (0x2D ∷ bytes (d ∷ ds) ++ t)) where
-  pub minus-read : (g : Digits) → admits g (suc (length ds)) ≡ true → parse_int s i g ≡ Int (neg_ℤ (pos (value 0 (d ∷ ds)))) (cursor (i + 1 + suc (length ds)))
+  pub minus-read : (g : Digits) → admits g (suc (length ds)) ≡ true → parse_int s i g ≡ Ok (neg_ℤ (pos (value 0 (d ∷ ds))), cursor (i + 1 + suc (length ds)))
   unfolding with_sign signed
   minus-read g l = rw (int-behind s i g, behind-white hyphen f, a-minus f, behind-minus f, number_read d ds h b (front_rest f) g l)
 
-  pub minus-wrong : (g : Digits) → admits g (suc (length ds)) ≡ false → parse_int s i g ≡ NoInt (cursor (i + 1 + suc (length ds)))
+  pub minus-wrong : (g : Digits) → admits g (suc (length ds)) ≡ false → parse_int s i g ≡ Err (Wrong (cursor (i + 1 + suc (length ds))))
   unfolding with_sign
   minus-wrong g l = rw (int-behind s i g, behind-white hyphen f, a-minus f, behind-minus f, number-wrong d ds h b (front_rest f) g l)

@@ -1,24 +1,22 @@
 -- A whole text as a number, as Rust's `str::parse` reads it for a type of unsigned numbers.
 use Prim.Native.Char.{code}
-use Rattle.std.specs.Prelude.{ℕ, ◌+◌, ◌*◌, ◌^◌, ◌≡◌, true, List, [], ◌∷◌, ltb, leb, eqb, length, get_or, drop}
+use Rattle.std.specs.Prelude.{ℕ, ◌+◌, ◌*◌, ◌^◌, ◌≡◌, true, List, [], ◌∷◌, ltb, leb, eqb, length, get_or, drop, Option, Some, None}
 use Rattle.chars.specs.Ascii.{digit_of}
 use Rattle.chars.specs.Classes.{is_ascii_digit}
 use Rattle.chars.specs.Pick.{pick}
-use Rattle.numbers.specs.declared.ParsedNumber.{ParsedNumber}
-use Rattle.numbers.specs.declared.ParsedNumber.TheVariants.{Value, NoValue}
 
 -- the decimal number that ASCII digits say, behind those read so far; none if another byte stands there, or the number is above top
-unfoldable pub whole_value : ℕ → ℕ → List ℕ → ParsedNumber
-whole_value top acc [] = Value acc
+unfoldable pub whole_value : ℕ → ℕ → List ℕ → Option ℕ
+whole_value top acc [] = Some acc
 whole_value top acc (b ∷ t) =
-    pick (ltb 9 (digit_of b)) NoValue (pick (ltb top (acc * 10 + digit_of b)) NoValue (whole_value top (acc * 10 + digit_of b) t))
+    pick (ltb 9 (digit_of b)) None (pick (ltb top (acc * 10 + digit_of b)) None (whole_value top (acc * 10 + digit_of b) t))
 
 -- the number that the text from a place on is: at least one digit
-unfoldable pub digits_from : ℕ → List ℕ → ℕ → ParsedNumber
-digits_from top s at = pick (leb (length s) at) NoValue (whole_value top 0 (drop at s))
+unfoldable pub digits_from : ℕ → List ℕ → ℕ → Option ℕ
+digits_from top s at = pick (leb (length s) at) None (whole_value top 0 (drop at s))
 
 -- a plus or none, then digits to the end
-unfoldable pub parse : ℕ → List ℕ → ParsedNumber
+unfoldable pub parse : ℕ → List ℕ → Option ℕ
 parse top s = pick (eqb (get_or s 0 0) (code "+")) (digits_from top s 1) (digits_from top s 0)
 
 -- ASCII digits alone

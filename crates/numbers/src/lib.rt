@@ -9,7 +9,7 @@ ghost use Rattle.numbers.specs.Steps.{Steps};
 ghost use Rattle.numbers.specs.Parse as whole;
 
 use chars::{Decoded, digit};
-use scanner::{Class, Cursor, EatIf, Run};
+use scanner::{Class, Cursor, Run};
 
 const HYPHEN: u32 = b'-' as u32;
 
@@ -24,23 +24,11 @@ pub enum Digits {
     Four,
 }
 
-// What reading a number gives.
+// Why no number was read: what stands there is none, up to a place, or the ported code panics.
 #[derive(Clone, Copy)]
-pub enum Parsed {
-    // The number, and the place behind it.
-    Number { value: u32, next: Cursor },
-    // The run has a length that is not admitted, and ends there.
+pub enum NoNumber {
     Wrong { next: Cursor },
-    // The ported code panics: the run has a numeric character that is no ASCII digit.
     Panics,
-}
-
-// The same, of a number with a sign.
-#[derive(Clone, Copy)]
-pub enum ReadInt {
-    Int { value: i32, next: Cursor },
-    NoInt { next: Cursor },
-    IntPanics,
 }
 
 // A run of numeric characters, and whether a minus stands before it.
@@ -62,7 +50,7 @@ fn contains(digits: Digits, n: usize) -> bool
 }
 
 // What a run of numeric characters is. Its length is counted in bytes, before its characters are looked at.
-fn number_of(s: &[u8], run: Run, digits: Digits) -> Parsed
+fn number_of(s: &[u8], run: Run, digits: Digits) -> Result<(u32, Cursor), NoNumber>
     ensures { result ≡ spec.run_of s.now run.start.0 run.end.0 digits }
 {
     let next = run.end;
@@ -70,15 +58,15 @@ fn number_of(s: &[u8], run: Run, digits: Digits) -> Parsed
     if contains(digits, num.len()) {
         // At most four bytes are admitted: no number of theirs is above 9999.
         return match digits_from(num, 0, 9999) {
-            ParsedNumber::Value(value) => Parsed::Number { value, next },
-            ParsedNumber::NoValue => Parsed::Panics,
+            Some(value) => Ok((value, next)),
+            None => Err(NoNumber::Panics),
         };
     }
-    Parsed::Wrong { next }
+    Err(NoNumber::Wrong { next })
 }
 
 // White space, then a run of numeric characters.
-pub fn parse_unsigned_int(s: &[u8], c: Cursor, digits: Digits) -> Parsed
+pub fn parse_unsigned_int(s: &[u8], c: Cursor, digits: Digits) -> Result<(u32, Cursor), NoNumber>
     ensures { result ≡ spec.parse_unsigned_int s.now c.0 digits }
 {
     number_of(s, scanner::next_run(s, c, Class::Numeric), digits)
@@ -89,8 +77,8 @@ pub fn eat_sign(s: &[u8], c: Cursor) -> Cursor
     ensures { result.0 ≡ spec.behind_sign s.now c.0 }
 {
     match scanner::eat_if(s, c, Class::Sign) {
-        EatIf::Past(next) => next,
-        EatIf::Kept => c,
+        Some(next) => next,
+        None => c,
     }
 }
 
@@ -115,34 +103,21 @@ pub fn signed_run(s: &[u8], c: Cursor) -> SignedRun
 }
 
 // What such a run is, with its sign.
-pub fn int_of(s: &[u8], run: SignedRun, digits: Digits) -> ReadInt
+pub fn int_of(s: &[u8], run: SignedRun, digits: Digits) -> Result<(i32, Cursor), NoNumber>
     ensures { result ≡ spec.int_of s.now run digits }
 {
-    match number_of(s, run.numeric, digits) {
-        Parsed::Number { value, next } => ReadInt::Int {
-            value: signed(run.negative, value),
-            next,
-        },
-        Parsed::Wrong { next } => ReadInt::NoInt { next },
-        Parsed::Panics => ReadInt::IntPanics,
-    }
+    let (value, next) = number_of(s, run.numeric, digits)?;
+    Ok((signed(run.negative, value), next))
 }
 
 // The number at a place, with white space and a sign before it.
-pub fn parse_int(s: &[u8], c: Cursor, digits: Digits) -> ReadInt
+pub fn parse_int(s: &[u8], c: Cursor, digits: Digits) -> Result<(i32, Cursor), NoNumber>
     ensures { result ≡ spec.parse_int s.now c.0 digits }
 {
     int_of(s, signed_run(s, c), digits)
 }
 
 // ---- what the ported code uses of Rust's `str`: a text without the white space at its ends, and a whole text as a number
-
-// A whole text as a number: the number, or that it is none.
-#[derive(Clone, Copy)]
-pub enum ParsedNumber {
-    Value(u32),
-    NoValue,
-}
 
 // Past white space and one more character, counted in bytes; 0 where no character is left.
 fn trim_step(s: &[u8], i: usize) -> usize
@@ -163,10 +138,8 @@ fn is_stride(s: &[u8], at: usize) -> bool
     ensures { result ≡ true → trims.trim_from s.now (at + 16) ≡ trims.trim_from s.now at }
 {
     let mut ok = b' ' < s[at + 15];
-    let mut i = 0;
-    while i < 16 {
+    for i in 0..16 {
         ok = ok & (s[at + i] < 0x80);
-        i = i + 1;
     }
     ok
 }
@@ -206,14 +179,12 @@ fn trim_some(s: &[u8], at: usize) -> Reached
     ensures { Steps s.now at result.at result.over }
 {
     let mut i = at;
-    let mut k: usize = 0;
-    while k < 8 {
+    for _ in 0..8usize {
         let n = trim_quick(s, i);
         if n == 0 {
             return Reached { at: i, over: true };
         }
         i = i + n;
-        k = k + 1;
     }
     Reached { at: i, over: false }
 }
@@ -223,6 +194,7 @@ fn trim_strides(s: &[u8]) -> Reached
     ensures { (trims.trim_from s.now result.at ≡ trims.trim_end s.now) × (result.over ≡ true → trims.trim_step s.now result.at ≡ 0) }
 {
     let mut i = 0;
+    // Kept as a while: a turn moves by sixteen bytes or by the steps of `trim_some`, of any lengths, and neither `step_by` nor `chunks_exact` has two strides.
     while 16 <= s.len() - i {
         if is_stride(s, i) {
             i = i + 16;
@@ -243,10 +215,8 @@ fn is_trim(s: &[u8]) -> bool
     ensures { result ≡ true → trims.trim_end s.now ≡ length s.now }
 {
     let mut ok = b' ' < s[s.len() - 1];
-    let mut i = 0;
-    while i < s.len() {
-        ok = ok & (s[i] < 0x80);
-        i = i + 1;
+    for b in s {
+        ok = ok & (*b < 0x80);
     }
     ok
 }
@@ -265,6 +235,7 @@ pub fn trim_end(s: &[u8]) -> Cursor
         return Cursor(e.at);
     }
     let mut i = e.at;
+    // Kept as a loop: it moves by the length that `trim_step` finds, and ends where that is 0; no range or slice has these places.
     loop {
         let n = trim_step(s, i);
         if n == 0 {
@@ -284,31 +255,29 @@ pub fn trim(s: &[u8]) -> &[u8]
 }
 
 // The number that digits from a place on say, unless it is above the largest one.
-fn digits_from(s: &[u8], at: usize, top: u32) -> ParsedNumber
+fn digits_from(s: &[u8], at: usize, top: u32) -> Option<u32>
     ensures { result ≡ whole.digits_from top s.now at }
 {
     if s.len() <= at {
-        return ParsedNumber::NoValue;
+        return None;
     }
     let mut value: u32 = 0;
-    let mut i = at;
-    while i < s.len() {
-        let d = digit(s[i]);
+    for b in &s[at..] {
+        let d = digit(*b);
         if 9 < d {
-            return ParsedNumber::NoValue;
+            return None;
         }
         let more = (value as u64) * 10 + d as u64;
         if (top as u64) < more {
-            return ParsedNumber::NoValue;
+            return None;
         }
         value = more as u32;
-        i = i + 1;
     }
-    ParsedNumber::Value(value)
+    Some(value)
 }
 
 // The number that a whole text is, with a plus before it or not, for a type of number whose largest is `top`.
-pub fn parse(s: &[u8], top: u32) -> ParsedNumber
+pub fn parse(s: &[u8], top: u32) -> Option<u32>
     ensures { result ≡ whole.parse top s.now }
 {
     if chars::byte_at(s, 0) == b'+' {

@@ -1,4 +1,4 @@
--- What an answer says of the pieces and of the lent table; and a number by its run. Assumes nothing.
+-- What an answer says of the pieces and of the lent table. Assumes nothing.
 use mathlib.Core.Path.{◌≡◌, sym, ap, ◌∙◌}
 use mathlib.Core.Bool.{Bool, true, false, false≢true}
 use mathlib.Core.List.{List}
@@ -8,41 +8,17 @@ use lib.Dec.{leb}
 use lib.ListN.{length}
 use Rattle.chars.specs.Pick.{pick}
 use Rattle.chars.proofs.Cases.{of_test}
-use Rattle.scanner.specs.declared.Run.{Run}
-use Rattle.scanner.specs.declared.Class.TheVariants.{AsciiDigit}
-use Rattle.scanner.specs.Scan.{part, next_run}
-use Rattle.numbers.specs.declared.ParsedNumber.{ParsedNumber}
-use Rattle.numbers.specs.declared.ParsedNumber.TheVariants.{Value, NoValue}
-use Rattle.numbers.specs.Parse.{parse}
+use Rattle.std.specs.Prelude.{Result, Ok, Err}
 use Rattle.refusals.specs.declared.Refusal.{Refusal}
-use Rattle.refusals.specs.declared.TextRefusal.{TextRefusal}
-use Rattle.refusals.specs.Offset.{text_refusal, offset_number}
-use Rattle.refusals.specs.declared.Kind.TheVariants.{InvalidNumber, TooLong, BadChunks, NoRoom}
-use Rattle.pages.specs.declared.ReadNumber.TheVariants.{NumberIs, NoNumber}
-use Rattle.pages.specs.declared.Answer.{Answer}
-use Rattle.pages.specs.declared.Answer.TheVariants.{Ranges, Refused}
-use Rattle.pages.specs.Piece.{numbered, number_of, number_at}
+use Rattle.refusals.specs.declared.Kind.TheVariants.{TooLong, BadChunks, NoRoom}
 use Rattle.pages.specs.Pieces.{adds_up, pieces_of, judged, refused_pages, PiecesFit, pages_answer, put, table_after, pages_afterwards}
 
-module _ (s : List ℕ) (start at : ℕ) {run : Run} {t : List ℕ} {p : ParsedNumber} (r : run ≡ next_run AsciiDigit s at) (f : t ≡ part s run.start.0 run.end.0) (q : p ≡ parse 4294967295 t) where
-  by-run : numbered start run p ≡ number_at s start at
-  unfolding number_at number_of
-  by-run = rw (q, f) (ap (λ (x : Run). numbered start x (parse 4294967295 (part s x.start.0 x.end.0))) r)
-
-  pub is_number : {v : ℕ} → p ≡ Value v → NumberIs v run.end ≡ number_at s start at
-  unfolding numbered
-  is_number e = sym (ap (numbered start run) e) ∙ by-run
-
-  pub is_none : {e : TextRefusal} {f : Refusal} → p ≡ NoValue → e ≡ text_refusal InvalidNumber run.start.0 run.end.0 → f ≡ offset_number e start → NoNumber f ≡ number_at s start at
-  unfolding numbered
-  is_none e m g = ap NoNumber (g ∙ ap (λ (x : TextRefusal). offset_number x start) m) ∙ sym (ap (numbered start run) e) ∙ by-run
-
-abbrev pub is_ranges : Answer → Bool
-is_ranges (Ranges n) = true
-is_ranges (Refused e) = false
+abbrev pub is_ranges : Result ℕ Refusal → Bool
+is_ranges (Ok n) = true
+is_ranges (Err e) = false
 
 -- an answer that counts ranges: there are not too many pieces, all adds up, and there is room
-pub fitting : (b t cs : List ℕ) (room : ℕ) {n : ℕ} → pages_answer b t cs room ≡ Ranges n → PiecesFit b t cs room
+pub fitting : (b t cs : List ℕ) (room : ℕ) {n : ℕ} → pages_answer b t cs room ≡ Ok n → PiecesFit b t cs room
 unfolding pages_answer refused_pages pick
 fitting b t cs room e =
     of_test (leb (length cs) 64)
@@ -51,11 +27,11 @@ fitting b t cs room e =
     (λ q. absurd (false≢true (ap is_ranges (rw (p, q) at e)))))
     (λ p. absurd (false≢true (ap is_ranges (rw p at e))))
 
-pub leaves : (b t cs out : List ℕ) {n : ℕ} {new : List ℕ} → pages_answer b t cs (length out) ≡ Ranges n → new ≡ put 0 (pieces_of b t cs) out → new ≡ pages_afterwards b t cs out
+pub leaves : (b t cs out : List ℕ) {n : ℕ} {new : List ℕ} → pages_answer b t cs (length out) ≡ Ok n → new ≡ put 0 (pieces_of b t cs) out → new ≡ pages_afterwards b t cs out
 unfolding pages_afterwards table_after
 leaves b t cs out e g = rw e g
 
-pub keeps : (b t cs out : List ℕ) {e : Refusal} → pages_answer b t cs (length out) ≡ Refused e → out ≡ pages_afterwards b t cs out
+pub keeps : (b t cs out : List ℕ) {e : Refusal} → pages_answer b t cs (length out) ≡ Err e → out ≡ pages_afterwards b t cs out
 unfolding pages_afterwards table_after
 keeps b t cs out e = rw e
 

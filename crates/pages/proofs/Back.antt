@@ -20,8 +20,7 @@ use Rattle.scanner.specs.Scan.{eat_while, done_at, run_at, next_run}
 use Rattle.scanner.proofs.Front.{From, from-behind, front-part, front_rest, front-go, front-stop, front-end, front-past}
 use Rattle.scanner.proofs.Laws.{not_white}
 use Rattle.scanner.proofs.Digits.{digit-ascii, below-digits, is-other}
-use Rattle.numbers.specs.declared.ParsedNumber.{ParsedNumber}
-use Rattle.numbers.specs.declared.ParsedNumber.TheVariants.{Value, NoValue}
+use Rattle.std.specs.Prelude.{Option, Some, None, Ok}
 use Rattle.numbers.specs.Parse.{whole_value, digits_from, parse}
 use Rattle.numbers.proofs.Reading.{front-ate, hyphen-hyphen}
 use Rattle.refusals.specs.declared.FileSpan.{FileSpan}
@@ -33,11 +32,8 @@ use Rattle.chunks.proofs.Answers.{plain-as-is}
 use Rattle.chunks.proofs.Plains.{plainly}
 use Rattle.puts.specs.Numbers.{digits, digit_count, width, decimal}
 use Rattle.puts.proofs.Counts.{length-decimal, few, one_more, no-digits}
-use Rattle.pages.specs.declared.ReadNumber.TheVariants.{NumberIs}
-use Rattle.pages.specs.declared.ReadRange.TheVariants.{Range}
 use Rattle.pages.specs.Piece.{numbered, number_of, number_at, or_else, dash_at, on_number, second_at, behind_dash, on_dash, behind_first, range_text as read_text, on_clean, piece}
 use Rattle.pages.specs.Text.{written_range}
-use Rattle.pages.specs.declared.Answer.TheVariants.{Ranges}
 use Rattle.pages.specs.Pieces.{total, adds_up, size_of, first_of, pieces_of, said, on_range, judged, numbers_of, put, pages_answer, table_after, pages_afterwards}
 
 -- bytes from a low one to the digit nine
@@ -59,31 +55,31 @@ in-digits (suc w) n = in-append 48 (digits w (n / 10)) ((48 + n % 10) ∷ []) (i
 
 -- the number that digits say
 
-some-value : ParsedNumber → Bool
-some-value (Value v) = true
-some-value NoValue = false
+some-value : Option ℕ → Bool
+some-value (Some v) = true
+some-value None = false
 
-value-behind : (top acc v : ℕ) (u t : List ℕ) → whole_value top acc u ≡ Value v → whole_value top acc (u ++ t) ≡ whole_value top v t
+value-behind : (top acc v : ℕ) (u t : List ℕ) → whole_value top acc u ≡ Some v → whole_value top acc (u ++ t) ≡ whole_value top v t
 unfolding whole_value pick some-value
-value-behind top acc v [] t e = ap (λ (p : ParsedNumber). whole_value top (value_in p) t) e
+value-behind top acc v [] t e = ap (λ (p : Option ℕ). whole_value top (value_in p) t) e
   where
-    value_in : ParsedNumber → ℕ
-    value_in (Value x) = x
-    value_in NoValue = 0
+    value_in : Option ℕ → ℕ
+    value_in (Some x) = x
+    value_in None = 0
 value-behind top acc v (c ∷ u) t e =
     of_test (ltb 9 (digit_of c)) (λ q. absurd (false≢true (ap some-value (rw q at e))))
     (λ q. of_test (ltb top (acc * 10 + digit_of c)) (λ r. absurd (false≢true (ap some-value (rw (q, r) at e))))
     (λ r. rw (q, r) (value-behind top (acc * 10 + digit_of c) v u t (rw (q, r) at e))))
 
-value-last : (top n : ℕ) → n ≤ top → whole_value top (n / 10) ((48 + n % 10) ∷ []) ≡ Value n
+value-last : (top n : ℕ) → n ≤ top → whole_value top (n / 10) ((48 + n % 10) ∷ []) ≡ Some n
 unfolding whole_value pick
 value-last top n h =
     let d : digit_of (48 + n % 10) ≡ n % 10 = digit-is (n % 10) (omega arith) in
-    rw (d, le-ltb 9 (n % 10) (omega arith), le-ltb top (n / 10 * 10 + n % 10) (omega arith)) (ap Value (omega arith))
+    rw (d, le-ltb 9 (n % 10) (omega arith), le-ltb top (n / 10 * 10 + n % 10) (omega arith)) (ap Some (omega arith))
 
-value-digits : (top w n : ℕ) → n < 10 ^ w → n ≤ top → whole_value top 0 (digits w n) ≡ Value n
+value-digits : (top w n : ℕ) → n < 10 ^ w → n ≤ top → whole_value top 0 (digits w n) ≡ Some n
 unfolding whole_value
-value-digits top zero n h l = ap Value (omega arith)
+value-digits top zero n h l = ap Some (omega arith)
 value-digits top (suc w) n h l =
     value-behind top 0 (n / 10) (digits w (n / 10)) ((48 + n % 10) ∷ []) (value-digits top w (n / 10) (let p = pow-succ' 10 w in omega arith) (omega arith))
     ∙ value-last top n l
@@ -125,12 +121,12 @@ first-hyphen [] t l p f = absurd (omega arith)
 first-hyphen (c ∷ u) t l p f = front-stop f (Is 0x2D) (omega (arith, p.0.1)) (no-hyphen c p.0.0)
 
 -- digits that are a number, at a place
-number_read : (u t : List ℕ) (n start : ℕ) {s : List ℕ} {i : ℕ} → 0 < length u → In 48 u → parse 4294967295 u ≡ Value n → Stops t → From s i (u ++ t) → number_at s start i ≡ NumberIs n (record { 0 = i + length u })
+number_read : (u t : List ℕ) (n start : ℕ) {s : List ℕ} {i : ℕ} → 0 < length u → In 48 u → parse 4294967295 u ≡ Some n → Stops t → From s i (u ++ t) → number_at s start i ≡ Ok (n, record { 0 = i + length u })
 unfolding number_at number_of numbered next_run run_at
 number_read u t n start l p v b f = rw (first-white u t l p f, run u p b f, front-part u t f, v)
 
 -- the digits of a number
-digits-parse : (u : List ℕ) (top n : ℕ) → 0 < length u → In 48 u → whole_value top 0 u ≡ Value n → parse top u ≡ Value n
+digits-parse : (u : List ℕ) (top n : ℕ) → 0 < length u → In 48 u → whole_value top 0 u ≡ Some n → parse top u ≡ Some n
 unfolding parse digits_from pick
 digits-parse [] top n l p v = absurd (omega arith)
 digits-parse (c ∷ u) top n l p v =
@@ -169,11 +165,11 @@ module _ (n : ℕ) (h : n < 4294967296) where
       let e = rw z at (enough 10 n (omega arith)) in rw q (omega arith))
       (λ q. rw q (enough 10 n (omega arith)))
 
-  is-value : parse 4294967295 text ≡ Value n
+  is-value : parse 4294967295 text ≡ Some n
   unfolding decimal
   is-value = digits-parse text 4294967295 n some-text in-text (value-digits 4294967295 (width 1 n) n below (omega arith))
 
-  number-at : (start : ℕ) {s t : List ℕ} {i : ℕ} → Stops t → From s i (text ++ t) → number_at s start i ≡ NumberIs n (record { 0 = i + length text })
+  number-at : (start : ℕ) {s t : List ℕ} {i : ℕ} → Stops t → From s i (text ++ t) → number_at s start i ≡ Ok (n, record { 0 = i + length text })
   number-at start {s} {t} b f = number_read text t n start some-text in-text is-value b f
 
 -- one Normal chunk of such bytes is clean, and formatted it is its bytes
@@ -218,7 +214,7 @@ module _ (a b : ℕ) (ha : a < 4294967296) (hb : b < 4294967296) where
   from-3 : From s (0 + length (decimal 1 a) + 1 + length (decimal 1 b)) []
   from-3 = from-behind (decimal 1 b) from-2
 
-  text-back : (span : FileSpan) → read_text s span ≡ Range a b
+  text-back : (span : FileSpan) → read_text s span ≡ Ok (a, b)
   unfolding read_text behind_first dash_at or_else on_dash behind_dash second_at on_number done_at pick
   text-back span =
       rw (
@@ -232,7 +228,7 @@ module _ (a b : ℕ) (ha : a < 4294967296) (hb : b < 4294967296) where
       )
 
   -- each written range, read as one piece of one Normal chunk anywhere in a file, gives the range back
-  pub range_back : (start end : ℕ) → piece s (one_chunk s start end) ≡ Range a b
+  pub range_back : (start end : ℕ) → piece s (one_chunk s start end) ≡ Ok (a, b)
   unfolding piece on_clean
   range_back start end =
       let t = one_chunk s start end in
@@ -245,7 +241,7 @@ module _ (a b : ℕ) (ha : a < 4294967296) (hb : b < 4294967296) where
     unfolding size_of lengths chunks_of
     whole-size = add-zero (length s)
 
-    said-back : said (first_of 1 s (one_chunk s start end)) ≡ Range a b
+    said-back : said (first_of 1 s (one_chunk s start end)) ≡ Ok (a, b)
     unfolding said first_of
     said-back = rw (whole-size, take-length s) (range_back start end)
 
@@ -254,7 +250,7 @@ module _ (a b : ℕ) (ha : a < 4294967296) (hb : b < 4294967296) where
     adds = rw (add-zero (length s)) (eq-eqb (length s) (length s) refl)
 
     -- lent as one piece with any span it is answered with one range
-    pub pages-back : (room : ℕ) → 2 ≤ room → pages_answer s (one_chunk s start end) (1 ∷ []) room ≡ Ranges 1
+    pub pages-back : (room : ℕ) → 2 ≤ room → pages_answer s (one_chunk s start end) (1 ∷ []) room ≡ Ok 1
     unfolding pages_answer pieces_of judged on_range pick
     pages-back room h = rw (adds, le-leb 2 room h, said-back) refl
 

@@ -7,10 +7,7 @@ use lib.ListN.{length, replicate}
 use Rattle.chars.specs.Ascii.{ascii}
 use Rattle.refusals.specs.declared.Refusal.{Refusal}
 use Rattle.refusals.specs.Refusal.{number}
-use Rattle.pages.specs.declared.ReadRange.{ReadRange}
-use Rattle.pages.specs.declared.ReadRange.TheVariants.{Range, NoRange}
-use Rattle.pages.specs.declared.Answer.{Answer}
-use Rattle.pages.specs.declared.Answer.TheVariants.{Ranges, Refused}
+use Rattle.std.specs.Prelude.{Result, Ok, Err}
 use Rattle.pages.specs.Piece.{piece}
 use Rattle.pages.specs.Pieces.{pages_answer, pages_afterwards}
 use Rattle.pages.specs.Text.{written_range}
@@ -37,9 +34,9 @@ abbrev pub in_numbers : Refusal → List ℕ
 in_numbers e = number e.kind ∷ e.place.0 ∷ e.place.1 ∷ []
 
 -- what a piece says in numbers: 0 and the range, or the refusal
-abbrev pub shown : ReadRange → List ℕ
-shown (Range a b) = 0 ∷ a ∷ b ∷ []
-shown (NoRange e) = in_numbers e
+abbrev pub shown : Result (ℕ × ℕ) Refusal → List ℕ
+shown (Ok (a, b)) = 0 ∷ a ∷ b ∷ []
+shown (Err e) = in_numbers e
 
 -- a text of one Normal chunk, with its span in the file, and what it says
 pub record Row : Type 0 where
@@ -120,9 +117,9 @@ unfolding chars_ascii.digit_of chars_classes.within chars_classes.is_admitted ch
 refused = refl
 
 -- an answer in numbers: 0 and how many ranges, or the refusal
-abbrev pub told : Answer → List ℕ
-told (Ranges n) = 0 ∷ n ∷ []
-told (Refused e) = in_numbers e
+abbrev pub told : Result ℕ Refusal → List ℕ
+told (Ok n) = 0 ∷ n ∷ []
+told (Err e) = in_numbers e
 
 -- pieces, the room for numbers, and what is answered
 pub record Asked : Type 0 where

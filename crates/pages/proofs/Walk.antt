@@ -12,10 +12,8 @@ use lib.ListN.{length, get_or, take, drop, set, length-drop, drop_of_length-le}
 use lib.Seq.{drop-cons, drop-drop, sets, length-take-le}
 use Rattle.chars.proofs.Cases.{and-true}
 use Rattle.chunks.specs.Chunks.{chunks_of, lengths}
-use Rattle.pages.specs.declared.Answer.TheVariants.{Ranges, Refused}
+use Rattle.std.specs.Prelude.{Result, Ok, Err}
 use Rattle.pages.specs.declared.Taken.{Taken}
-use Rattle.pages.specs.declared.ReadRange.{ReadRange}
-use Rattle.pages.specs.declared.ReadRange.TheVariants.{Range, NoRange}
 use Rattle.refusals.specs.declared.Refusal.{Refusal}
 use Rattle.pages.specs.Piece.{piece}
 use Rattle.pages.specs.Pieces.{total, adds_up, size_of, first_of, pieces_of, said, step_of, on_range, judged, numbers_of, put}
@@ -63,7 +61,7 @@ pub pieces_end : (b t cs : List ℕ) (i : ℕ) → length cs ≤ i → pieces_of
 unfolding pieces_of
 pieces_end b t cs i h = rw (drop_of_length-le cs h)
 
-pub judged-end : (all : ℕ) (b t cs : List ℕ) (i : ℕ) → length cs ≤ i → Ranges all ≡ judged all (pieces_of b t (drop i cs))
+pub judged-end : (all : ℕ) (b t cs : List ℕ) (i : ℕ) → length cs ≤ i → Ok all ≡ judged all (pieces_of b t (drop i cs))
 unfolding judged
 judged-end all b t cs i h = rw (pieces_end b t cs i h)
 
@@ -87,11 +85,11 @@ module _ (b t cs : List ℕ) (at row i : ℕ) (w : At b t cs at row i) (h : i < 
   pub at_next : At b t cs (at + k.len) (row + 4 * get_or cs i 0) (i + 1)
   at_next = rw (step-len (get_or cs i 0) (drop at b) (drop row t) e) (goes_on b t cs at row i w h)
 
-  pub refuses : (all : ℕ) {f : Refusal} → k.read ≡ NoRange f → Refused f ≡ judged all (pieces_of (drop at b) (drop row t) (drop i cs))
+  pub refuses : (all : ℕ) {f : Refusal} → k.read ≡ Err f → Err f ≡ judged all (pieces_of (drop at b) (drop row t) (drop i cs))
   unfolding judged on_range
   refuses all g = let q = sym (step-read (get_or cs i 0) (drop at b) (drop row t) e) ∙ g in rw (pieces-at b t cs at row i w h, q)
 
-  pub judged-next : (all : ℕ) {x y : ℕ} → k.read ≡ Range x y → judged all (pieces_of (drop (at + k.len) b) (drop (row + 4 * get_or cs i 0) t) (drop (i + 1) cs)) ≡ judged all (pieces_of (drop at b) (drop row t) (drop i cs))
+  pub judged-next : (all : ℕ) {x y : ℕ} → k.read ≡ Ok (x, y) → judged all (pieces_of (drop (at + k.len) b) (drop (row + 4 * get_or cs i 0) t) (drop (i + 1) cs)) ≡ judged all (pieces_of (drop at b) (drop row t) (drop i cs))
   unfolding judged on_range
   judged-next all g = let q = sym (step-read (get_or cs i 0) (drop at b) (drop row t) e) ∙ g in rw (step-len (get_or cs i 0) (drop at b) (drop row t) e, pieces-at b t cs at row i w h, q)
 
@@ -107,13 +105,13 @@ rows-size t row n = rw add-sub_cancel_left
 pub rows_four : (t : List ℕ) (row n : ℕ) → row + 4 * n ≤ length t → length (take (row + 4 * n - row) (drop row t)) % 4 ≡ 0
 rows_four t row n h = rw add-sub_cancel_left (omega (arith, length-take-le (4 * n) (drop row t) (omega (arith, length-drop row t))))
 
-pub step_is : (b t : List ℕ) (at row n : ℕ) {len : ℕ} {r : ReadRange} → len ≡ lengths (chunks_of (take (row + 4 * n - row) (drop row t))) → r ≡ piece (take (at + len - at) (drop at b)) (take (row + 4 * n - row) (drop row t)) → ◌≡◌ {A = Taken} (record { read = r; len = len }) (step_of n (drop at b) (drop row t))
+pub step_is : (b t : List ℕ) (at row n : ℕ) {len : ℕ} {r : Result (ℕ × ℕ) Refusal} → len ≡ lengths (chunks_of (take (row + 4 * n - row) (drop row t))) → r ≡ piece (take (at + len - at) (drop at b)) (take (row + 4 * n - row) (drop row t)) → ◌≡◌ {A = Taken} (record { read = r; len = len }) (step_of n (drop at b) (drop row t))
 unfolding step_of said first_of size_of
 step_is b t at row n {len} {r} e f =
     let g : len ≡ lengths (chunks_of (take (4 * n) (drop row t))) = e ∙ rw add-sub_cancel_left in
     rw (f, add-sub_cancel_left, add-sub_cancel_left, g)
 
-pub two-numbers : (out : List ℕ) (at x y : ℕ) {r : ReadRange} → r ≡ Range x y → set (set out at x) (at + 1) y ≡ sets out at (numbers_of r)
+pub two-numbers : (out : List ℕ) (at x y : ℕ) {r : Result (ℕ × ℕ) Refusal} → r ≡ Ok (x, y) → set (set out at x) (at + 1) y ≡ sets out at (numbers_of r)
 unfolding numbers_of
 two-numbers out at x y e = rw (e, add-one at)
 

@@ -10,7 +10,7 @@ use lib.ListN.{length, length-append}
 use Rattle.chars.specs.Pick.{pick}
 use Rattle.refusals.specs.declared.Kind.TheVariants.{NoRoom}
 use Rattle.refusals.specs.Refusal.{file_span, refusal}
-use Rattle.puts.specs.declared.Written.TheVariants.{Done, Refused}
+use Rattle.std.specs.Prelude.{Ok, Err}
 use Rattle.puts.specs.Numbers.{digits, width, decimal}
 use Rattle.puts.specs.Answers.{measured, decided, answer, left, afterwards, Put}
 use Rattle.puts.proofs.Counts.{length_digits, length-decimal}
@@ -37,10 +37,10 @@ module _ (a b : ℕ) {w v : ℕ} (ew : w ≡ width 1 a) (ev : v ≡ width 1 b) (
   joined x y z =
       both (as-text (ap (λ (n : ℕ). digits n a) (sym ew)) x) (both y (as-text (ap (λ (n : ℕ). digits n b) (sym ev)) z))
 
-pub done : (t l : List ℕ) {m : List ℕ} {k : ℕ} → length t ≤ length l → Put t l 0 m k → (Done k ≡ answer false t (length l)) × (m ≡ afterwards false t l)
+pub done : (t l : List ℕ) {m : List ℕ} {k : ℕ} → length t ≤ length l → Put t l 0 m k → (Ok k ≡ answer false t (length l)) × (m ≡ afterwards false t l)
 unfolding answer decided measured afterwards left pick
-done t l h p = rw (le-leb (length t) (length l) h) (ap Done (p.behind ∙ zero-add (length t)), at_front h p)
+done t l h p = rw (le-leb (length t) (length l) h) (ap Ok (p.behind ∙ zero-add (length t)), at_front h p)
 
-pub no_room : (t l : List ℕ) → length l < length t → (Refused (refusal NoRoom (file_span 0 0)) ≡ answer false t (length l)) × (l ≡ afterwards false t l)
+pub no_room : (t l : List ℕ) → length l < length t → (Err (refusal NoRoom (file_span 0 0)) ≡ answer false t (length l)) × (l ≡ afterwards false t l)
 unfolding answer decided measured afterwards left pick
 no_room t l h = rw (lt-leb (length t) (length l) h) (refl, refl)

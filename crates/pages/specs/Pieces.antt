@@ -1,5 +1,5 @@
 -- All pieces: what is answered, and what the lent table of ranges holds then.
-use Rattle.std.specs.Prelude.{ℕ, ◌+◌, ◌*◌, ◌≤◌, ◌≡◌, Bool, true, false, ◌&&◌, List, [], ◌∷◌, leb, eqb, length, get_or, take, drop}
+use Rattle.std.specs.Prelude.{ℕ, ◌+◌, ◌*◌, ◌≤◌, ◌≡◌, Bool, true, false, ◌&&◌, List, [], ◌∷◌, leb, eqb, length, get_or, take, drop, Result, Ok, Err}
 use Rattle.std.proofs.lemmas.List.Edits.{sets}
 use Rattle.chars.specs.Pick.{pick}
 use Rattle.refusals.specs.declared.Kind.{Kind}
@@ -7,10 +7,7 @@ use Rattle.refusals.specs.declared.Kind.TheVariants.{TooLong, BadChunks, NoRoom}
 use Rattle.refusals.specs.Refusal.{nowhere}
 use Rattle.chunks.specs.Lent.{Lent}
 use Rattle.chunks.specs.Chunks.{chunks_of, lengths}
-use Rattle.pages.specs.declared.ReadRange.{ReadRange}
-use Rattle.pages.specs.declared.ReadRange.TheVariants.{Range, NoRange}
-use Rattle.pages.specs.declared.Answer.{Answer}
-use Rattle.pages.specs.declared.Answer.TheVariants.{Ranges, Refused}
+use Rattle.refusals.specs.declared.Refusal.{Refusal}
 use Rattle.pages.specs.declared.Taken.{Taken}
 use Rattle.pages.specs.Piece.{piece}
 
@@ -41,7 +38,7 @@ unfoldable pub piece_at : List ℕ → List ℕ → List ℕ → ℕ → Lent
 piece_at b table counts i = get_or (pieces_of b table counts) i (record { bytes = []; table = [] })
 
 -- what a piece says by itself
-unfoldable pub said : Lent → ReadRange
+unfoldable pub said : Lent → Result (ℕ × ℕ) Refusal
 said p = piece p.bytes p.table
 
 -- what the first piece says, with how many bytes it has
@@ -49,24 +46,24 @@ unfoldable pub step_of : ℕ → List ℕ → List ℕ → Taken
 step_of n b table = record { read = said (first_of n b table); len = size_of n table }
 
 -- whether what a piece says is a range
-unfoldable pub is_range : ReadRange → Bool
-is_range (Range start end) = true
-is_range (NoRange e) = false
+unfoldable pub is_range : Result (ℕ × ℕ) Refusal → Bool
+is_range (Ok (start, end)) = true
+is_range (Err e) = false
 
 -- a piece that is a range goes on; a refused one decides
-unfoldable pub on_range : ReadRange → Answer → Answer
-on_range (Range start end) rest = rest
-on_range (NoRange e) rest = Refused e
+unfoldable pub on_range : Result (ℕ × ℕ) Refusal → Result ℕ Refusal → Result ℕ Refusal
+on_range (Ok (start, end)) rest = rest
+on_range (Err e) rest = Err e
 
 -- so many ranges, or the refusal of the first piece that is refused
-unfoldable pub judged : ℕ → List Lent → Answer
-judged all [] = Ranges all
+unfoldable pub judged : ℕ → List Lent → Result ℕ Refusal
+judged all [] = Ok all
 judged all (p ∷ ps) = on_range (said p) (judged all ps)
 
 -- the two numbers of a range
-unfoldable pub numbers_of : ReadRange → List ℕ
-numbers_of (Range start end) = start ∷ end ∷ []
-numbers_of (NoRange e) = []
+unfoldable pub numbers_of : Result (ℕ × ℕ) Refusal → List ℕ
+numbers_of (Ok (start, end)) = start ∷ end ∷ []
+numbers_of (Err e) = []
 
 -- a table of ranges with the numbers of each piece stored in turn, from a piece's place on
 unfoldable pub put : ℕ → List Lent → List ℕ → List ℕ
@@ -74,15 +71,15 @@ put i [] out = out
 put i (p ∷ ps) out = put (i + 1) ps (sets out (2 * i) (numbers_of (said p)))
 
 -- a refusal that names no place
-unfoldable pub refused_pages : Kind → Answer
-refused_pages k = Refused (nowhere k)
+unfoldable pub refused_pages : Kind → Result ℕ Refusal
+refused_pages k = Err (nowhere k)
 
 -- the limits, the shape and the room, as they must be
 abbrev pub PiecesFit : List ℕ → List ℕ → List ℕ → ℕ → Type 0
 PiecesFit b table counts room = (length counts ≤ 64) × (adds_up b table counts ≡ true) × (2 * length counts ≤ room)
 
 -- the limits, the shape and the room come before the pieces
-unfoldable pub pages_answer : List ℕ → List ℕ → List ℕ → ℕ → Answer
+unfoldable pub pages_answer : List ℕ → List ℕ → List ℕ → ℕ → Result ℕ Refusal
 pages_answer b table counts room =
     pick (leb (length counts) 64)
     (pick (adds_up b table counts)
@@ -91,9 +88,9 @@ pages_answer b table counts room =
     (refused_pages TooLong)
 
 -- the lent table after an answer
-unfoldable pub table_after : Answer → List ℕ → List ℕ → List ℕ
-table_after (Ranges n) new old = new
-table_after (Refused e) new old = old
+unfoldable pub table_after : Result ℕ Refusal → List ℕ → List ℕ → List ℕ
+table_after (Ok n) new old = new
+table_after (Err e) new old = old
 
 -- the lent table afterwards: two numbers a piece at its front; after a refusal nothing has changed
 unfoldable pub pages_afterwards : List ℕ → List ℕ → List ℕ → List ℕ → List ℕ

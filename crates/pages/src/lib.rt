@@ -13,11 +13,10 @@ ghost use Rattle.pages.specs.Piece as spec;
 ghost use Rattle.pages.specs.Pieces as pieces;
 ghost use Rattle.pages.specs.Text as text;
 
-use chunks::Formatted;
-use numbers::ParsedNumber;
-use puts::{Written, put_digits, width};
+use chunks::ChunksRef;
+use puts::{put_digits, width};
 use refusals::{FileSpan, Kind, Refusal, nowhere, refuse, refuse_text};
-use scanner::{Class, Cursor, EatIf};
+use scanner::{Class, Cursor};
 
 const HYPHEN: u32 = b'-' as u32;
 
@@ -25,132 +24,89 @@ const EN_DASH: u32 = 0x2013;
 
 const EM_DASH: u32 = 0x2014;
 
-// What one piece says: a range from a page to another, or why it is none.
-#[derive(Clone, Copy)]
-pub enum ReadRange {
-    Range { start: u32, end: u32 },
-    NoRange(Refusal),
-}
-
-// What a call answers.
-#[derive(Clone, Copy)]
-pub enum Answer {
-    // So many ranges.
-    Ranges(usize),
-    Refused(Refusal),
-}
-
-// A number and the place behind it, or why there is none.
-#[derive(Clone, Copy)]
-enum ReadNumber {
-    NumberIs { value: u32, next: Cursor },
-    NoNumber(Refusal),
-}
-
 // What the piece at a place says, and how many bytes it has.
 #[derive(Clone, Copy)]
 struct Taken {
-    read: ReadRange,
+    read: Result<(u32, u32), Refusal>,
     len: usize,
 }
 
 // ---- one piece
 
 // White space, then a number, in a text whose span has a start.
-fn number_at(s: &[u8], at: Cursor, start: u64) -> ReadNumber
+#[tactic(auto, unfolding(crate::specs::Piece::number_at, crate::specs::Piece::number_of, crate::specs::Piece::numbered))]
+fn number_at(s: &[u8], at: Cursor, start: u64) -> Result<(u32, Cursor), Refusal>
     ensures { result ≡ spec.number_at s.now start at.0 }
 {
     let run = scanner::next_run(s, at, Class::AsciiDigit);
-    let a = run.start;
-    let next = run.end;
-    match numbers::parse(scanner::from(s, a, next), 4294967295) {
-        ParsedNumber::Value(value) => ReadNumber::NumberIs { value, next },
-        ParsedNumber::NoValue => {
-            let e = refuse_text(Kind::InvalidNumber, a, next);
-            ReadNumber::NoNumber(refusals::offset_number(e, start))
-        }
-    }
+    let Some(value) = numbers::parse(scanner::from(s, run.start, run.end), 4294967295) else {
+        let e = refuse_text(Kind::InvalidNumber, run.start, run.end);
+        return Err(refusals::offset_number(e, start));
+    };
+    Ok((value, run.end))
 }
 
 // Past a hyphen, an en dash or an em dash.
-fn dash_at(s: &[u8], at: Cursor) -> EatIf
+#[tactic(auto, unfolding(crate::specs::Piece::dash_at, crate::specs::Piece::or_else))]
+fn dash_at(s: &[u8], at: Cursor) -> Option<Cursor>
     ensures { result ≡ spec.dash_at s.now at.0 }
 {
-    match scanner::eat_if(s, at, Class::Is(HYPHEN)) {
-        EatIf::Past(c) => EatIf::Past(c),
-        EatIf::Kept => match scanner::eat_if(s, at, Class::Is(EN_DASH)) {
-            EatIf::Past(c) => EatIf::Past(c),
-            EatIf::Kept => scanner::eat_if(s, at, Class::Is(EM_DASH)),
-        },
-    }
+    scanner::eat_if(s, at, Class::Is(HYPHEN))
+        .or_else(|| scanner::eat_if(s, at, Class::Is(EN_DASH)))
+        .or_else(|| scanner::eat_if(s, at, Class::Is(EM_DASH)))
 }
 
 // The second number, behind a dash, more hyphens and white space.
-fn behind_dash(s: &[u8], at: Cursor, first: u32, span: FileSpan) -> ReadRange
+#[tactic(auto, unfolding(crate::specs::Piece::behind_dash, crate::specs::Piece::second_at, crate::specs::Piece::on_number, chars::specs::Pick::pick))]
+fn behind_dash(s: &[u8], at: Cursor, first: u32, span: FileSpan) -> Result<(u32, u32), Refusal>
     ensures { result ≡ spec.behind_dash s.now at.0 first span }
 {
     let a = scanner::eat_whitespace(s, scanner::eat_while(s, at, Class::Is(HYPHEN)));
-    match number_at(s, a, span.0) {
-        ReadNumber::NumberIs { value, next } => {
-            if scanner::done(s, next) {
-                return ReadRange::Range {
-                    start: first,
-                    end: value,
-                };
-            }
-            ReadRange::NoRange(refusals::until_span_end(Kind::InvalidNumber, a, span))
-        }
-        ReadNumber::NoNumber(e) => ReadRange::NoRange(e),
+    let (value, next) = number_at(s, a, span.0)?;
+    if !scanner::done(s, next) {
+        return Err(refusals::until_span_end(Kind::InvalidNumber, a, span));
     }
+    Ok((first, value))
 }
 
 // What stands behind the first number and white space: a dash, or the end.
-fn behind_first(s: &[u8], at: Cursor, first: u32, span: FileSpan) -> ReadRange
+#[tactic(auto, unfolding(crate::specs::Piece::behind_first, crate::specs::Piece::on_dash, chars::specs::Pick::pick))]
+fn behind_first(s: &[u8], at: Cursor, first: u32, span: FileSpan) -> Result<(u32, u32), Refusal>
     ensures { result ≡ spec.behind_first s.now at.0 first span }
 {
-    match dash_at(s, at) {
-        EatIf::Past(c) => behind_dash(s, c, first, span),
-        EatIf::Kept => {
-            if scanner::done(s, at) {
-                return ReadRange::Range {
-                    start: first,
-                    end: first,
-                };
-            }
-            ReadRange::NoRange(refuse(Kind::InvalidNumber, span))
-        }
+    if let Some(c) = dash_at(s, at) {
+        return behind_dash(s, c, first, span);
     }
+    if !scanner::done(s, at) {
+        return Err(refuse(Kind::InvalidNumber, span));
+    }
+    Ok((first, first))
 }
 
 // The range that a text is.
-fn range_text(s: &[u8], span: FileSpan) -> ReadRange
+#[tactic(auto, unfolding(crate::specs::Piece::range_text, crate::specs::Piece::on_number))]
+fn range_text(s: &[u8], span: FileSpan) -> Result<(u32, u32), Refusal>
     ensures { result ≡ spec.range_text s.now span }
 {
-    match number_at(s, Cursor(0), span.0) {
-        ReadNumber::NumberIs { value, next } => {
-            behind_first(s, scanner::eat_whitespace(s, next), value, span)
-        }
-        ReadNumber::NoNumber(e) => ReadRange::NoRange(e),
-    }
+    let (first, next) = number_at(s, Cursor(0), span.0)?;
+    behind_first(s, scanner::eat_whitespace(s, next), first, span)
 }
 
 // One piece, formatted into a buffer with room for it.
-fn piece_in(bytes: &[u8], table: &[u64], buf: &mut [u8]) -> ReadRange
-    requires { is_short bytes.now table.now ≡ true → room_of bytes.now table.now ≤ length buf.old }
-    ensures { result ≡ spec.piece bytes.now table.now }
+fn piece_in(list: ChunksRef<'_>, buf: &mut [u8]) -> Result<(u32, u32), Refusal>
+    requires { is_short list.bytes.now list.table.now ≡ true → room_of list.bytes.now list.table.now ≤ length buf.old }
+    ensures { result ≡ spec.piece list.entry.bytes.now list.entry.table.now }
 {
-    match chunks::format_verbatim(bytes, table, buf) {
-        Formatted::Text(n) => range_text(&buf[..n], chunks::span(table)),
-        Formatted::Refused(e) => ReadRange::NoRange(e),
-    }
+    let n = list.format_verbatim(buf)?;
+    range_text(&buf[..n], list.span())
 }
 
 // One piece.
-fn piece(bytes: &[u8], table: &[u64]) -> ReadRange
-    ensures { result ≡ spec.piece bytes.now table.now }
+fn piece(list: ChunksRef<'_>) -> Result<(u32, u32), Refusal>
+    ensures { result ≡ spec.piece list.entry.bytes.now list.entry.table.now }
 {
     let mut buf = [0u8; 4224];
-    piece_in(bytes, table, &mut buf)
+    piece_in(list, &mut buf)
 }
 
 // ---- the shape of all pieces
@@ -160,14 +116,11 @@ fn counts_fit(counts: &[usize], numbers: usize) -> bool
     ensures { result ≡ eqb (4 * pieces.total counts.now) numbers }
 {
     let mut left = numbers;
-    let mut i = 0;
-    while i < counts.len() {
-        let n = counts[i];
+    for &n in counts {
         if left / 4 < n {
             return false;
         }
         left = left - 4 * n;
-        i = i + 1;
     }
     left == 0
 }
@@ -178,24 +131,22 @@ fn lengths_fit(table: &[u64], bytes: usize) -> bool
     ensures { result ≡ eqb (lengths (chunks_of table.now)) bytes }
 {
     let mut left = bytes as u64;
-    let mut k = 0;
-    while k < table.len() {
-        let len = table[k + 1];
+    for k in 0..table.len() / 4 {
+        let len = table[4 * k + 1];
         if left < len {
             return false;
         }
         left = left - len;
-        k = k + 4;
     }
     left == 0
 }
 
 // Whether counts and lengths add up.
-fn adds_up(bytes: &[u8], table: &[u64], counts: &[usize]) -> bool
-    ensures { result ≡ pieces.adds_up bytes.now table.now counts.now }
+fn adds_up(list: ChunksRef<'_>, counts: &[usize]) -> bool
+    ensures { result ≡ pieces.adds_up list.entry.bytes.now list.entry.table.now counts.now }
 {
-    if counts_fit(counts, table.len()) {
-        return lengths_fit(table, bytes.len());
+    if counts_fit(counts, list.table.len()) {
+        return lengths_fit(list.table, list.bytes.len());
     }
     false
 }
@@ -208,122 +159,104 @@ fn size(table: &[u64]) -> usize
     ensures { result ≡ lengths (chunks_of table.now) }
 {
     let mut sum = 0;
-    let mut k = 0;
-    while k < table.len() {
-        let len = table[k + 1] as usize;
-        sum = sum + len;
-        k = k + 4;
+    for k in 0..table.len() / 4 {
+        sum = sum + table[4 * k + 1] as usize;
     }
     sum
 }
 
 // The piece of n chunks whose bytes start at a place, and its numbers of the table at another.
-fn step(bytes: &[u8], table: &[u64], at: usize, row: usize, n: usize) -> Taken
-    requires { (row + 4 * n ≤ length table.now) × (at + pieces.size_of n (drop row table.now) ≤ length bytes.now) }
-    ensures { result ≡ pieces.step_of n (drop at bytes.now) (drop row table.now) }
+fn step(list: ChunksRef<'_>, at: usize, row: usize, n: usize) -> Taken
+    requires { (row + 4 * n ≤ length list.table.now) × (at + pieces.size_of n (drop row list.table.now) ≤ length list.bytes.now) }
+    ensures { result ≡ pieces.step_of n (drop at list.entry.bytes.now) (drop row list.entry.table.now) }
 {
-    let rows = &table[row..row + 4 * n];
+    let rows = &list.table[row..row + 4 * n];
     let len = size(rows);
+    let one = ChunksRef {
+        bytes: &list.bytes[at..at + len],
+        table: rows,
+    };
     Taken {
-        read: piece(&bytes[at..at + len], rows),
+        read: piece(one),
         len,
     }
 }
 
 // The first pass: the first refused piece decides, and nothing is stored.
-fn judge(bytes: &[u8], table: &[u64], counts: &[usize]) -> Answer
-    requires { pieces.adds_up bytes.now table.now counts.now ≡ true }
-    ensures { result ≡ pieces.judged (length counts.now) (pieces.pieces_of bytes.now table.now counts.now) }
+fn judge(list: ChunksRef<'_>, counts: &[usize]) -> Result<usize, Refusal>
+    requires { pieces.adds_up list.bytes.now list.table.now counts.now ≡ true }
+    ensures { result ≡ pieces.judged (length counts.now) (pieces.pieces_of list.entry.bytes.now list.entry.table.now counts.now) }
 {
     let mut at = 0;
     let mut row = 0;
-    let mut i = 0;
-    while i < counts.len() {
-        let n = counts[i];
-        let s = step(bytes, table, at, row, n);
-        let read = s.read;
-        match read {
-            ReadRange::Range { start: _, end: _ } => {}
-            ReadRange::NoRange(e) => {
-                return Answer::Refused(e);
-            }
-        }
+    for &n in counts {
+        let s = step(list, at, row, n);
+        s.read?;
         at = at + s.len;
         row = row + 4 * n;
-        i = i + 1;
     }
-    Answer::Ranges(counts.len())
+    Ok(counts.len())
 }
 
 // Two numbers of a range.
-fn put_range(r: ReadRange, out: &mut [u32], at: usize)
+fn put_range(r: Result<(u32, u32), Refusal>, out: &mut [u32], at: usize)
     requires { at + 2 ≤ length out.old }
     ensures { out.new ≡ sets out.old at (pieces.numbers_of r) }
 {
-    match r {
-        ReadRange::Range { start, end } => {
-            out[at] = start;
-            out[at + 1] = end;
-        }
-        // never: the first pass found no such piece
-        ReadRange::NoRange(_) => {}
+    // always: the first pass found no refused piece
+    if let Ok((start, end)) = r {
+        out[at] = start;
+        out[at + 1] = end;
     }
 }
 
 // The second pass: the numbers of all pieces, at the front of the lent table.
-fn store(bytes: &[u8], table: &[u64], counts: &[usize], out: &mut [u32])
-    requires { (pieces.adds_up bytes.now table.now counts.now ≡ true) × (2 * length counts.now ≤ length out.old) }
-    ensures { out.new ≡ pieces.put 0 (pieces.pieces_of bytes.now table.now counts.now) out.old }
+fn store(list: ChunksRef<'_>, counts: &[usize], out: &mut [u32])
+    requires { (pieces.adds_up list.bytes.now list.table.now counts.now ≡ true) × (2 * length counts.now ≤ length out.old) }
+    ensures { out.new ≡ pieces.put 0 (pieces.pieces_of list.entry.bytes.now list.entry.table.now counts.now) out.old }
 {
     let mut at = 0;
     let mut row = 0;
-    let mut i = 0;
-    while i < counts.len() {
-        let n = counts[i];
-        let s = step(bytes, table, at, row, n);
+    for (i, &n) in counts.iter().enumerate() {
+        let s = step(list, at, row, n);
         let read = s.read;
         put_range(read, out, 2 * i);
         at = at + s.len;
         row = row + 4 * n;
-        i = i + 1;
     }
 }
 
 // A refusal that names no place.
-fn refused(kind: Kind) -> Answer
+fn refused(kind: Kind) -> Result<usize, Refusal>
     ensures { result ≡ pieces.refused_pages kind }
 {
-    Answer::Refused(nowhere(kind))
+    Err(nowhere(kind))
 }
 
 // What is answered to pieces, with room for so many numbers.
-fn decide(bytes: &[u8], table: &[u64], counts: &[usize], room: usize) -> Answer
-    ensures { result ≡ pieces.pages_answer bytes.now table.now counts.now room }
+fn decide(list: ChunksRef<'_>, counts: &[usize], room: usize) -> Result<usize, Refusal>
+    ensures { result ≡ pieces.pages_answer list.entry.bytes.now list.entry.table.now counts.now room }
 {
     if 64 < counts.len() {
         return refused(Kind::TooLong);
     }
-    if !adds_up(bytes, table, counts) {
+    if !adds_up(list, counts) {
         return refused(Kind::BadChunks);
     }
     if room < 2 * counts.len() {
         return refused(Kind::NoRoom);
     }
-    judge(bytes, table, counts)
+    judge(list, counts)
 }
 
 // Page ranges: two numbers a piece, at the front of the lent table, and how many ranges there are. A refusal stores nothing.
-pub fn parse_pages(bytes: &[u8], table: &[u64], counts: &[usize], out: &mut [u32]) -> Answer
-    ensures value { result ≡ pieces.pages_answer bytes.now table.now counts.now (length out.old) }
-    ensures out_after { out.new ≡ pieces.pages_afterwards bytes.now table.now counts.now out.old }
+pub fn parse_pages(list: ChunksRef<'_>, counts: &[usize], out: &mut [u32]) -> Result<usize, Refusal>
+    ensures value { result ≡ pieces.pages_answer list.entry.bytes.now list.entry.table.now counts.now (length out.old) }
+    ensures out_after { out.new ≡ pieces.pages_afterwards list.entry.bytes.now list.entry.table.now counts.now out.old }
 {
-    match decide(bytes, table, counts, out.len()) {
-        Answer::Ranges(n) => {
-            store(bytes, table, counts, out);
-            Answer::Ranges(n)
-        }
-        Answer::Refused(e) => Answer::Refused(e),
-    }
+    let n = decide(list, counts, out.len())?;
+    store(list, counts, out);
+    Ok(n)
 }
 
 // ---- the text of a range
@@ -348,7 +281,7 @@ fn put_text(start: u32, end: u32, first: usize, second: usize, out: &mut [u8]) -
 }
 
 // A range as text: two numbers with a hyphen, at the front of the lent buffer. A refusal stores nothing.
-pub fn write_range(start: u32, end: u32, out: &mut [u8]) -> Written
+pub fn write_range(start: u32, end: u32, out: &mut [u8]) -> Result<usize, Refusal>
     ensures value { result ≡ writing.answer false (text.written_range start end) (length out.old) }
     ensures out_after { out.new ≡ writing.afterwards false (text.written_range start end) out.old }
     ensures end_len_bound { length (text.written_range start end) ≤ 21 }
@@ -356,7 +289,7 @@ pub fn write_range(start: u32, end: u32, out: &mut [u8]) -> Written
     let first = width(1, start);
     let second = width(1, end);
     if out.len() < first + 1 + second {
-        return Written::Refused(nowhere(Kind::NoRoom));
+        return Err(nowhere(Kind::NoRoom));
     }
-    Written::Done(put_text(start, end, first, second, out))
+    Ok(put_text(start, end, first, second, out))
 }

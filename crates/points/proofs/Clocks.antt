@@ -8,8 +8,8 @@ use native.Mathlib.Omega.{arith}
 use borrow.Author.Tests.{le-leb}
 use Rattle.chars.proofs.Cases.{by-test}
 use Rattle.scanner.specs.declared.Class.TheVariants.{Whitespace}
-use Rattle.scanner.specs.declared.Next.{Next}
-use Rattle.scanner.specs.declared.Next.TheVariants.{Ate, Nothing}
+use Rattle.scanner.specs.declared.Cursor.{Cursor}
+use Rattle.std.specs.Prelude.{Option, Some, None, Result, Ok, Err}
 use Rattle.scanner.specs.Scan.{eat_while, eat_at}
 use Rattle.refusals.specs.declared.Kind.TheVariants.{InvalidNumber}
 use Rattle.refusals.specs.declared.TextRefusal.{TextRefusal}
@@ -17,40 +17,32 @@ use Rattle.dates.specs.Clocks.{offset_in, zone_in, clock_in}
 use Rattle.dates.specs.Time.{time, in_range}
 use Rattle.dates.specs.declared.TimeOffset.{TimeOffset}
 use Rattle.dates.specs.declared.TimeOffset.TheVariants.{Offset}
-use Rattle.dates.specs.declared.OptionOffset.TheVariants.{SomeOffset}
 use Rattle.dates.specs.declared.Time.{Time}
 use Rattle.points.specs.Step.{hour_at, sixty_at, colon_at, on_part, on_separator, or_end}
 use Rattle.points.specs.Time.{local, shift_at, offset_by, offset_from, offset_at, with_offset, behind_second, behind_minute, behind_hour, time_at}
-use Rattle.points.specs.declared.ReadTime.{ReadTime}
-use Rattle.points.specs.declared.ReadTime.TheVariants.{Clock, NoClock}
-use Rattle.points.specs.declared.ReadOffset.{ReadOffset}
-use Rattle.points.specs.declared.ReadOffset.TheVariants.{Shift, NoShift}
-use Rattle.points.specs.declared.ReadSeparator.{ReadSeparator}
-use Rattle.points.specs.declared.ReadSeparator.TheVariants.{Passed, Missing}
-use Rattle.points.specs.declared.ReadPart.{ReadPart}
 use Rattle.points.proofs.Ranges.{PartIn, part, nopart, part_in}
 
 -- an offset
-pub data ShiftIn : ReadOffset → Type 0 where
-  shift : {o : TimeOffset} → offset_in o ≡ true → ShiftIn (Shift o)
-  noshift : {e : TextRefusal} → ShiftIn (NoShift e)
+pub data ShiftIn : Result TimeOffset TextRefusal → Type 0 where
+  shift : {o : TimeOffset} → offset_in o ≡ true → ShiftIn (Ok o)
+  noshift : {e : TextRefusal} → ShiftIn (Err e)
 
 -- a time
-pub data TimeIn : ReadTime → Type 0 where
-  clock : {t : Time} → clock_in t ≡ true → TimeIn (Clock t)
-  noclock : {e : TextRefusal} → TimeIn (NoClock e)
+pub data TimeIn : Result Time TextRefusal → Type 0 where
+  clock : {t : Time} → clock_in t ≡ true → TimeIn (Ok t)
+  noclock : {e : TextRefusal} → TimeIn (Err e)
 
 -- each step, and what goes on from it
 module _ {A : Type 0} (P : A → Type 0) (no : TextRefusal → A) (bad : (e : TextRefusal) → P (no e)) where
-  on-part : {high : ℕ} {r : ReadPart} {go : ℕ → ℕ → A} → PartIn 0 high r → ((v a : ℕ) → v ≤ high → P (go v a)) → P (on_part no r go)
+  on-part : {high : ℕ} {r : Result (ℕ × Cursor) TextRefusal} {go : ℕ → ℕ → A} → PartIn 0 high r → ((v a : ℕ) → v ≤ high → P (go v a)) → P (on_part no r go)
   unfolding on_part
   on-part (part {v} {c} h) g = g v c.0 (omega (arith, h))
   on-part (nopart {e}) g = bad e
 
-  on-separator : (r : ReadSeparator) {go : ℕ → A} → ((a : ℕ) → P (go a)) → P (on_separator no r go)
+  on-separator : (r : Result Cursor TextRefusal) {go : ℕ → A} → ((a : ℕ) → P (go a)) → P (on_separator no r go)
   unfolding on_separator
-  on-separator (Passed c) g = g c.0
-  on-separator (Missing e) g = bad e
+  on-separator (Ok c) g = g c.0
+  on-separator (Err e) g = bad e
 
   or-end : (s : List ℕ) (at : ℕ) {x : A} {go : ℕ → A} → P x → ((a : ℕ) → P (go a)) → P (or_end s at x go)
   unfolding or_end
@@ -64,19 +56,19 @@ module _ (s : List ℕ) where
   shift_in : (at : ℕ) (positive : Bool) → ShiftIn (shift_at s at positive)
   unfolding shift_at hour_at sixty_at
   shift_in at positive =
-      on-part ShiftIn NoShift (λ e. noshift) (part_in s at 0 23 InvalidNumber) λ h next l.
-      or-end ShiftIn NoShift (λ e. noshift) s next (shift (offset-in positive h 0 l (omega arith))) λ a.
-      on-separator ShiftIn NoShift (λ e. noshift) (colon_at s a) λ b.
-      on-part ShiftIn NoShift (λ e. noshift) (part_in s b 0 59 InvalidNumber) λ m _ k.
+      on-part ShiftIn Err (λ e. noshift) (part_in s at 0 23 InvalidNumber) λ h next l.
+      or-end ShiftIn Err (λ e. noshift) s next (shift (offset-in positive h 0 l (omega arith))) λ a.
+      on-separator ShiftIn Err (λ e. noshift) (colon_at s a) λ b.
+      on-part ShiftIn Err (λ e. noshift) (part_in s b 0 59 InvalidNumber) λ m _ k.
       shift (offset-in positive h m l k)
 
-  by_in : (a : ℕ) (n : Next) → ShiftIn (offset_by s a n)
+  by_in : (a : ℕ) (n : Option (ℕ × Cursor)) → ShiftIn (offset_by s a n)
   unfolding offset_by offset_in
-  by_in a (Ate x c) =
+  by_in a (Some (x, c)) =
       by-test ShiftIn _ (λ _. shift refl) λ _.
       by-test ShiftIn _ (λ _. shift_in c.0 true) λ _.
       by-test ShiftIn _ (λ _. shift_in c.0 _) (λ _. noshift)
-  by_in a Nothing = noshift
+  by_in a None = noshift
 
   zone_in_lem : (at : ℕ) → ShiftIn (offset_at s at)
   unfolding offset_at offset_from
@@ -87,34 +79,34 @@ module _ (h m sec : ℕ) (lh : h ≤ 23) (lm : m ≤ 59) (ls : sec ≤ 59) where
   unfolding clock_in in_range zone_in
   local-in = rw (le-leb h 23 lh, le-leb m 59 lm, le-leb sec 59 ls)
 
-  with_in : {r : ReadOffset} → ShiftIn r → TimeIn (with_offset h m sec r)
+  with_in : {r : Result TimeOffset TextRefusal} → ShiftIn r → TimeIn (with_offset h m sec r)
   unfolding with_offset clock_in in_range zone_in
-  with_in (shift {o} e) = clock {t = time h m sec (SomeOffset o)} (rw (le-leb h 23 lh, le-leb m 59 lm, le-leb sec 59 ls, e))
+  with_in (shift {o} e) = clock {t = time h m sec (Some o)} (rw (le-leb h 23 lh, le-leb m 59 lm, le-leb sec 59 ls, e))
   with_in noshift = noclock
 
 module _ (s : List ℕ) where
   second_in : (at h m sec : ℕ) → h ≤ 23 → m ≤ 59 → sec ≤ 59 → TimeIn (behind_second s at h m sec)
   unfolding behind_second
   second_in at h m sec lh lm ls =
-      or-end TimeIn NoClock (λ e. noclock) s at (clock (local-in h m sec lh lm ls)) λ a. with_in h m sec lh lm ls (zone_in_lem s a)
+      or-end TimeIn Err (λ e. noclock) s at (clock (local-in h m sec lh lm ls)) λ a. with_in h m sec lh lm ls (zone_in_lem s a)
 
   minute_in : (at h m : ℕ) → h ≤ 23 → m ≤ 59 → TimeIn (behind_minute s at h m)
   unfolding behind_minute sixty_at
   minute_in at h m lh lm =
-      or-end TimeIn NoClock (λ e. noclock) s at (clock (local-in h m 0 lh lm (omega arith))) λ a.
-      on-separator TimeIn NoClock (λ e. noclock) (colon_at s a) λ b.
-      on-part TimeIn NoClock (λ e. noclock) (part_in s b 0 59 InvalidNumber) λ sec next ls.
+      or-end TimeIn Err (λ e. noclock) s at (clock (local-in h m 0 lh lm (omega arith))) λ a.
+      on-separator TimeIn Err (λ e. noclock) (colon_at s a) λ b.
+      on-part TimeIn Err (λ e. noclock) (part_in s b 0 59 InvalidNumber) λ sec next ls.
       second_in next h m sec lh lm ls
 
   hour_in : (at h : ℕ) → h ≤ 23 → TimeIn (behind_hour s at h)
   unfolding behind_hour sixty_at
   hour_in at h lh =
-      or-end TimeIn NoClock (λ e. noclock) s at (clock (local-in h 0 0 lh (omega arith) (omega arith))) λ a.
-      on-separator TimeIn NoClock (λ e. noclock) (colon_at s a) λ b.
-      on-part TimeIn NoClock (λ e. noclock) (part_in s b 0 59 InvalidNumber) λ m next lm.
+      or-end TimeIn Err (λ e. noclock) s at (clock (local-in h 0 0 lh (omega arith) (omega arith))) λ a.
+      on-separator TimeIn Err (λ e. noclock) (colon_at s a) λ b.
+      on-part TimeIn Err (λ e. noclock) (part_in s b 0 59 InvalidNumber) λ m next lm.
       minute_in next h m lh lm
 
   -- every time behind a T is one
   pub time_in : (at : ℕ) → TimeIn (time_at s at)
   unfolding time_at hour_at
-  time_in at = on-part TimeIn NoClock (λ e. noclock) (part_in s at 0 23 InvalidNumber) λ h next lh. hour_in next h lh
+  time_in at = on-part TimeIn Err (λ e. noclock) (part_in s at 0 23 InvalidNumber) λ h next lh. hour_in next h lh

@@ -20,54 +20,51 @@ use Rattle.chars.specs.Signs.{signed}
 use Rattle.dates.specs.Calendar.{multiple, leap_year, february, month_lengths, month_length}
 use Rattle.dates.specs.Value.{month, day, datetime}
 use Rattle.dates.specs.declared.TimeOffset.TheVariants.{Utc, Offset}
-use Rattle.dates.specs.declared.OptionOffset.{OptionOffset}
-use Rattle.dates.specs.declared.OptionOffset.TheVariants.{NoOffset, SomeOffset}
-use Rattle.dates.specs.declared.OptionMonth.{OptionMonth}
-use Rattle.dates.specs.declared.OptionMonth.TheVariants.{NoMonth}
-use Rattle.dates.specs.declared.OptionDay.{OptionDay}
-use Rattle.dates.specs.declared.OptionDay.TheVariants.{NoDay}
-use Rattle.dates.specs.declared.OptionTime.TheVariants.{NoTime, SomeTime}
-use Rattle.points.specs.Step.{stored_part, part_at, month_at, day_at, hour_at, sixty_at, hyphen_or, hyphen_from, hyphen_at, colon_or, colon_from, colon_at, on_part, on_separator, or_end}
+use Rattle.dates.specs.declared.Datetime.{Datetime}
+use Rattle.dates.specs.declared.Day.{Day}
+use Rattle.dates.specs.declared.Month.{Month}
+use Rattle.dates.specs.declared.TimeOffset.{TimeOffset}
+use Rattle.refusals.specs.declared.TextRefusal.{TextRefusal}
+use Rattle.std.specs.Prelude.{Option, Some, None, Result, Ok, Err}
+use Rattle.points.specs.Step.{refuse_number, stored_part, part_at, month_at, day_at, hour_at, sixty_at, hyphen_or, hyphen_from, hyphen_at, colon_or, colon_from, colon_at, on_part, on_separator, or_end}
 use Rattle.dates.specs.Time.{time}
 use Rattle.points.specs.Time.{shift_at, offset_by, offset_from, offset_at, with_offset, behind_second, behind_minute, behind_hour, time_at}
 use Rattle.points.specs.Point.{windowed, windowed_int, short_year, long_of, long_year, short_or, year_at, on_year, with_time, time_or, behind_day, behind_month, behind_year, point}
-use Rattle.points.specs.declared.ReadPoint.{ReadPoint}
-use Rattle.points.specs.declared.ReadPoint.TheVariants.{Point, Refused}
 use Rattle.chars.specs.Ascii.{ascii, digit_of}
 
 -- a text, and what reading it says
 pub record Example : Type 0 where
   pub text : List ℕ
-  pub says : ReadPoint
+  pub says : Result Datetime TextRefusal
 
 -- a date with no time
-abbrev is : String → ℤ → OptionMonth → OptionDay → Example
-is t y m d = record { text = ascii t; says = Point (datetime y m d NoTime) }
+abbrev is : String → ℤ → Option Month → Option Day → Example
+is t y m d = record { text = ascii t; says = Ok (datetime y m d None) }
 
 -- a time on the first of January 2000
-abbrev timed : String → ℕ → ℕ → ℕ → OptionOffset → Example
-timed t h m s o = record { text = ascii t; says = Point (datetime (pos 2000) (month 0) (day 0) (SomeTime (time h m s o))) }
+abbrev timed : String → ℕ → ℕ → ℕ → Option TimeOffset → Example
+timed t h m s o = record { text = ascii t; says = Ok (datetime (pos 2000) (month 0) (day 0) (Some (time h m s o))) }
 
 -- a refusal at a place
 abbrev no : List ℕ → Kind → ℕ → ℕ → Example
-no t k a e = record { text = t; says = Refused (text_refusal k a e) }
+no t k a e = record { text = t; says = Err (text_refusal k a e) }
 
 -- the table; texts with é and ½ have these as their bytes
 abbrev pub table : List Example
 table =
-    is "49" (pos 2049) NoMonth NoDay
-    ∷ is "50" (pos 1950) NoMonth NoDay
-    ∷ is "00" (pos 2000) NoMonth NoDay
-    ∷ is "99" (pos 1999) NoMonth NoDay
-    ∷ is "+12" (pos 2012) NoMonth NoDay
-    ∷ is "-12" (pos 1988) NoMonth NoDay
-    ∷ is "-99" (pos 1901) NoMonth NoDay
-    ∷ is "0049" (pos 49) NoMonth NoDay
-    ∷ is "0000" (pos 0) NoMonth NoDay
-    ∷ is "-0000" (pos 0) NoMonth NoDay
-    ∷ is "9999" (pos 9999) NoMonth NoDay
-    ∷ is "-9999" (negsuc 9998) NoMonth NoDay
-    ∷ is " - 0012 -- 3 " (negsuc 11) (month 2) NoDay
+    is "49" (pos 2049) None None
+    ∷ is "50" (pos 1950) None None
+    ∷ is "00" (pos 2000) None None
+    ∷ is "99" (pos 1999) None None
+    ∷ is "+12" (pos 2012) None None
+    ∷ is "-12" (pos 1988) None None
+    ∷ is "-99" (pos 1901) None None
+    ∷ is "0049" (pos 49) None None
+    ∷ is "0000" (pos 0) None None
+    ∷ is "-0000" (pos 0) None None
+    ∷ is "9999" (pos 9999) None None
+    ∷ is "-9999" (negsuc 9998) None None
+    ∷ is " - 0012 -- 3 " (negsuc 11) (month 2) None
     ∷ is "2000-1-1" (pos 2000) (month 0) (day 0)
     ∷ is "2000-12-31" (pos 2000) (month 11) (day 30)
     ∷ is "2000-02-29" (pos 2000) (month 1) (day 28)
@@ -94,16 +91,16 @@ table =
     ∷ no (ascii "2000-01-") InvalidFormat 8 8
     ∷ no (ascii "2000-01-01q") InvalidFormat 0 10
     ∷ no (ascii "2000-01-01 t10") InvalidFormat 0 11
-    ∷ timed "2000-01-01T1" 1 0 0 NoOffset
-    ∷ timed "2000-01-01T10" 10 0 0 NoOffset
-    ∷ timed "2000-01-01T10:20" 10 20 0 NoOffset
-    ∷ timed "2000-01-01 T 9: 5" 9 5 0 NoOffset
-    ∷ timed "2000-01-01T10:20:30" 10 20 30 NoOffset
-    ∷ timed "2000-01-01T10:20:30Zy" 10 20 30 (SomeOffset Utc)
-    ∷ timed "2000-01-01T10:20:30-02" 10 20 30 (SomeOffset (Offset false 2 0))
-    ∷ timed "2000-01-01T10:20:30 +02:30 any" 10 20 30 (SomeOffset (Offset true 2 30))
-    ∷ timed "2000-01-01T0:0:0-0:0" 0 0 0 (SomeOffset (Offset false 0 0))
-    ∷ timed "2000-01-01T23:59:59+23:59" 23 59 59 (SomeOffset (Offset true 23 59))
+    ∷ timed "2000-01-01T1" 1 0 0 None
+    ∷ timed "2000-01-01T10" 10 0 0 None
+    ∷ timed "2000-01-01T10:20" 10 20 0 None
+    ∷ timed "2000-01-01 T 9: 5" 9 5 0 None
+    ∷ timed "2000-01-01T10:20:30" 10 20 30 None
+    ∷ timed "2000-01-01T10:20:30Zy" 10 20 30 (Some Utc)
+    ∷ timed "2000-01-01T10:20:30-02" 10 20 30 (Some (Offset false 2 0))
+    ∷ timed "2000-01-01T10:20:30 +02:30 any" 10 20 30 (Some (Offset true 2 30))
+    ∷ timed "2000-01-01T0:0:0-0:0" 0 0 0 (Some (Offset false 0 0))
+    ∷ timed "2000-01-01T23:59:59+23:59" 23 59 59 (Some (Offset true 23 59))
     ∷ no (ascii "2000-01-01T24") InvalidNumber 11 13
     ∷ no (ascii "2000-01-01T10:60") InvalidNumber 14 16
     ∷ no (ascii "2000-01-01T10:20:60") InvalidNumber 17 19
@@ -127,5 +124,5 @@ table =
     ∷ []
 
 pub examples : map (λ (e : Example). point e.text) table ≡ map (λ (e : Example). e.says) table
-unfolding pick within is_whitespace is_ascii_digit is_numeric len_of is_cont is_surrogate decode2 decode3 decode4 decode first decode_at in_class len_in match_len walk eat_while eat_if eaten eat_at stands_at done_at part admits digit_of whole_value digits_from run_value run_of run_at parse_unsigned_int or_kept behind_sign signed with_sign scanned_at next_run signed_at signed_run int_of parse_int multiple leap_year february month_lengths month_length stored_part part_at month_at day_at hour_at sixty_at hyphen_or hyphen_from hyphen_at colon_or colon_from colon_at on_part on_separator or_end shift_at offset_by offset_from offset_at with_offset behind_second behind_minute behind_hour time_at windowed windowed_int short_year long_of long_year short_or year_at on_year with_time time_or behind_day behind_month behind_year point
+unfolding pick within is_whitespace is_ascii_digit is_numeric len_of is_cont is_surrogate decode2 decode3 decode4 decode first decode_at in_class len_in match_len walk eat_while eat_if eaten eat_at stands_at done_at part admits digit_of whole_value digits_from run_value run_of run_at parse_unsigned_int or_kept behind_sign signed with_sign scanned_at next_run signed_at signed_run int_of parse_int multiple leap_year february month_lengths month_length stored_part refuse_number part_at month_at day_at hour_at sixty_at hyphen_or hyphen_from hyphen_at colon_or colon_from colon_at on_part on_separator or_end shift_at offset_by offset_from offset_at with_offset behind_second behind_minute behind_hour time_at windowed windowed_int short_year long_of long_year short_or year_at on_year with_time time_or behind_day behind_month behind_year point
 examples = refl

@@ -11,27 +11,26 @@ use Rattle.refusals.specs.declared.Kind.{Kind}
 use Rattle.refusals.specs.declared.TextRefusal.{TextRefusal}
 use Rattle.numbers.specs.Number.{parse_unsigned_int}
 use Rattle.numbers.specs.declared.Digits.TheVariants.{OneOrTwo}
-use Rattle.numbers.specs.declared.Parsed.{Parsed}
-use Rattle.numbers.specs.declared.Parsed.TheVariants.{Number, Wrong, Panics}
+use Rattle.numbers.specs.declared.NoNumber.{NoNumber}
+use Rattle.numbers.specs.declared.NoNumber.TheVariants.{Panics, Wrong}
+use Rattle.std.specs.Prelude.{Result, Ok, Err}
 use Rattle.numbers.proofs.Sums.{sum-mag}
 use Rattle.numbers.proofs.Laws.{mag-abs, abs_mag}
 use Rattle.points.specs.Step.{stored_part, part_at}
 use Rattle.points.specs.Point.{windowed}
-use Rattle.points.specs.declared.ReadPart.{ReadPart}
-use Rattle.points.specs.declared.ReadPart.TheVariants.{Stored, NoPart}
 
 -- a number that was read, counted from the lowest, does not pass the highest
-pub data PartIn (low high : ℕ) : ReadPart → Type 0 where
-  part : {v : ℕ} {c : Cursor} → v + low ≤ high → PartIn low high (Stored v c)
-  nopart : {e : TextRefusal} → PartIn low high (NoPart e)
+pub data PartIn (low high : ℕ) : Result (ℕ × Cursor) TextRefusal → Type 0 where
+  part : {v : ℕ} {c : Cursor} → v + low ≤ high → PartIn low high (Ok (v, c))
+  nopart : {e : TextRefusal} → PartIn low high (Err e)
 
-stored-in : (p : Parsed) (at low high : ℕ) (k : Kind) → PartIn low high (stored_part p at low high k)
+stored-in : (p : Result (ℕ × Cursor) NoNumber) (at low high : ℕ) (k : Kind) → PartIn low high (stored_part p at low high k)
 unfolding stored_part
-stored-in (Number v c) at low high k =
+stored-in (Ok (v, c)) at low high k =
     by-test (PartIn low high) _ (λ _. nopart)
     (λ a. by-test (PartIn low high) _ (λ _. nopart) (λ b. part {v = v - low} (omega (arith, ltb-false v low a, ltb-false high v b))))
-stored-in (Wrong c) at low high k = nopart
-stored-in Panics at low high k = nopart
+stored-in (Err (Wrong c)) at low high k = nopart
+stored-in (Err Panics) at low high k = nopart
 
 pub part_in : (s : List ℕ) (at low high : ℕ) (k : Kind) → PartIn low high (part_at s at low high k)
 unfolding part_at

@@ -1,8 +1,7 @@
 -- What is known of a Datetime that is read, whatever its time.
-use Rattle.std.specs.Prelude.{◌<◌, ◌≡◌, false, nat_abs}
+use Rattle.std.specs.Prelude.{◌<◌, ◌≡◌, false, nat_abs, None}
 use Rattle.dates.specs.Clocks.{has_bad_time}
 use Rattle.dates.specs.Domain.{PartsIn}
-use Rattle.dates.specs.declared.OptionSeason.TheVariants.{NoSeason}
 use Rattle.dates.specs.declared.Datetime.{Datetime}
 
 -- a date of the calendar with a year of four digits, no season, and a good time or none
@@ -14,4 +13,4 @@ pub record Dated (d : Datetime) : Type 0 where
   -- a time beside a day, in its ranges, or none
   pub time_in : has_bad_time d ≡ false
   -- no season
-  pub unseasoned : d.season ≡ NoSeason
+  pub unseasoned : d.season ≡ None

@@ -12,56 +12,53 @@ use Rattle.chars.specs.Pick.{pick}
 use Rattle.chars.proofs.Cases.{of_test}
 use Rattle.refusals.specs.declared.Kind.TheVariants.{RustPanics, NoRoom}
 use Rattle.refusals.specs.declared.Refusal.{Refusal}
-use Rattle.puts.specs.declared.Measured.{Measured}
-use Rattle.puts.specs.declared.Measured.TheVariants.{Length, NoLength}
-use Rattle.puts.specs.declared.Written.{Written}
-use Rattle.puts.specs.declared.Written.TheVariants.{Done, Refused}
+use Rattle.std.specs.Prelude.{Result, Ok, Err}
 use Rattle.puts.specs.Answers.{measured, decided, answer, left, afterwards, Put, Foretold}
 use Rattle.refusals.specs.Refusal.{number, refusal, nowhere}
 use Rattle.puts.proofs.Puts.{at_front}
 
-abbrev is_done : Written → Bool
-is_done (Done n) = true
-is_done (Refused e) = false
+abbrev is_done : Result ℕ Refusal → Bool
+is_done (Ok n) = true
+is_done (Err e) = false
 
 -- a text that has a length
-pub has-length : {b : Bool} (t : List ℕ) {n : ℕ} → b ≡ false → n ≡ length t → Length n ≡ measured b t
+pub has-length : {b : Bool} (t : List ℕ) {n : ℕ} → b ≡ false → n ≡ length t → Ok n ≡ measured b t
 unfolding measured pick
 has-length t e h = rw (e, h)
 
 -- and one that has none
-pub panicked : {b : Bool} (t : List ℕ) {e : Refusal} → b ≡ true → e ≡ nowhere RustPanics → NoLength e ≡ measured b t
+pub panicked : {b : Bool} (t : List ℕ) {e : Refusal} → b ≡ true → e ≡ nowhere RustPanics → Err e ≡ measured b t
 unfolding measured pick
 panicked t q g = rw (q, g)
 
 -- whose answer is a length: the Rust does not panic, and there is room
-no-panic : (b : Bool) (t : List ℕ) (room : ℕ) {n : ℕ} → answer b t room ≡ Done n → b ≡ false
+no-panic : (b : Bool) (t : List ℕ) (room : ℕ) {n : ℕ} → answer b t room ≡ Ok n → b ≡ false
 unfolding answer decided measured pick
 no-panic true t room e = absurd (false≢true (ap is_done e))
 no-panic false t room e = refl
 
-has_room : (t : List ℕ) (room : ℕ) {n : ℕ} → answer false t room ≡ Done n → length t ≤ room
+has_room : (t : List ℕ) (room : ℕ) {n : ℕ} → answer false t room ≡ Ok n → length t ≤ room
 unfolding answer decided measured pick
 has_room t room e =
     of_test (leb (length t) room) (λ q. leb-true (length t) room q) (λ q. absurd (false≢true (ap is_done (rw q at e))))
 
 -- a refusal leaves all as it was
-pub all_left : {w : Written} (t l : List ℕ) {e : Refusal} → w ≡ Refused e → l ≡ left w t l
+pub all_left : {w : Result ℕ Refusal} (t l : List ℕ) {e : Refusal} → w ≡ Err e → l ≡ left w t l
 unfolding left
 all_left t l e = rw e
 
-stored : (t l : List ℕ) {m : List ℕ} {k : ℕ} → length t ≤ length l → Put t l 0 m k → (Done k ≡ answer false t (length l)) × (m ≡ afterwards false t l)
+stored : (t l : List ℕ) {m : List ℕ} {k : ℕ} → length t ≤ length l → Put t l 0 m k → (Ok k ≡ answer false t (length l)) × (m ≡ afterwards false t l)
 unfolding answer decided measured afterwards left pick
-stored t l h p = rw (le-leb (length t) (length l) h) (ap Done (p.behind ∙ zero-add (length t)), at_front h p)
+stored t l h p = rw (le-leb (length t) (length l) h) (ap Ok (p.behind ∙ zero-add (length t)), at_front h p)
 
 -- what a writer has found out before it stores: m is the measure, w the answer
-module _ (b : Bool) (t l : List ℕ) {m : Measured} {w : Written} (em : m ≡ measured b t) (ew : w ≡ decided m (length l)) where
+module _ (b : Bool) (t l : List ℕ) {m : Result ℕ Refusal} {w : Result ℕ Refusal} (em : m ≡ measured b t) (ew : w ≡ decided m (length l)) where
   by-measure : w ≡ answer b t (length l)
   unfolding answer
-  by-measure = ew ∙ ap (λ (x : Measured). decided x (length l)) em
+  by-measure = ew ∙ ap (λ (x : Result ℕ Refusal). decided x (length l)) em
 
   -- it is to write
-  module _ {n : ℕ} (e : w ≡ Done n) where
+  module _ {n : ℕ} (e : w ≡ Ok n) where
     panics-not : b ≡ false
     panics-not = no-panic b t (length l) (sym by-measure ∙ e)
 
@@ -69,78 +66,78 @@ module _ (b : Bool) (t l : List ℕ) {m : Measured} {w : Written} (em : m ≡ me
     fits = has_room t (length l) (ap (λ (x : Bool). answer x t (length l)) (sym panics-not) ∙ sym by-measure ∙ e)
 
     -- and has written
-    pub done : {out : List ℕ} {k : ℕ} → Put t l 0 out k → (Done k ≡ answer b t (length l)) × (out ≡ afterwards b t l)
+    pub done : {out : List ℕ} {k : ℕ} → Put t l 0 out k → (Ok k ≡ answer b t (length l)) × (out ≡ afterwards b t l)
     done p = rw panics-not (stored t l fits p)
 
   -- it refuses
-  pub refuses : {e : Refusal} → w ≡ Refused e → (Refused e ≡ answer b t (length l)) × (l ≡ afterwards b t l)
+  pub refuses : {e : Refusal} → w ≡ Err e → (Err e ≡ answer b t (length l)) × (l ≡ afterwards b t l)
   unfolding afterwards
   refuses e = (sym e ∙ by-measure, all_left t l (sym by-measure ∙ e))
 
 -- ---- what a length call tells of a writer
 
-not-both : {n : ℕ} {e : Refusal} → Done n ≡ Refused e → ⊥
+not-both : {n : ℕ} {e : Refusal} → Ok n ≡ Err e → ⊥
 not-both e = false≢true (sym (ap is_done e))
 
 -- the answer to a length
 module _ (k room : ℕ) where
-  done-then : {n : ℕ} → decided (Length k) room ≡ Done n → (k ≡ n) × (k ≤ room)
+  done-then : {n : ℕ} → decided (Ok k) room ≡ Ok n → (k ≡ n) × (k ≤ room)
   unfolding decided pick
   done-then e =
       of_test (leb k room) (λ q. let f = rw q at e in (cc, leb-true k room q)) (λ q. let f = rw q at e in absurd (not-both (sym f)))
 
-  refused-then : {e : Refusal} → decided (Length k) room ≡ Refused e → (nowhere NoRoom ≡ e) × (room < k)
+  refused-then : {e : Refusal} → decided (Ok k) room ≡ Err e → (nowhere NoRoom ≡ e) × (room < k)
   unfolding decided pick
   refused-then e =
       of_test (leb k room) (λ q. let f = rw q at e in absurd (not-both f)) (λ q. let f = rw q at e in (cc, leb-false k room q))
 
-  fitting : k ≤ room → decided (Length k) room ≡ Done k
+  fitting : k ≤ room → decided (Ok k) room ≡ Ok k
   unfolding decided pick
   fitting h = rw (le-leb k room h)
 
-  short : room < k → decided (Length k) room ≡ Refused (nowhere NoRoom)
+  short : room < k → decided (Ok k) room ≡ Err (nowhere NoRoom)
   unfolding decided pick
   short h = rw (lt-leb k room h)
 
-measures : {m : ℕ} {n : ℕ} → Length m ≡ Length n → m ≡ n
+measures : {m : ℕ} {n : ℕ} → ◌≡◌ {A = Result ℕ Refusal} (Ok m) (Ok n) → m ≡ n
 measures e = cc
 
-length-not : {n : ℕ} {e : Refusal} → Length n ≡ NoLength e → ⊥
+length-not : {n : ℕ} {e : Refusal} → Ok n ≡ Err e → ⊥
 length-not e = let z : ◌≡◌ {A = ℕ} 0 1 = cc in omega arith
 
 -- whoever decides by a measure that is never NoRoom is foretold by it
-pub by-decision : (m : Measured) → (m ≡ NoLength (nowhere NoRoom) → ⊥) → Foretold m (decided m)
+pub by-decision : (m : Result ℕ Refusal) → (m ≡ Err (nowhere NoRoom) → ⊥) → Foretold m (decided m)
 unfolding decided
-by-decision (Length k) f =
+by-decision (Ok k) f =
     record {
       stores = λ n room. (
-        λ e. let q = done-then k room e in (ap Length q.0, rw (sym q.0) q.1),
-        λ (h : (Length k ≡ Length n) × (n ≤ room)). let g = measures h.0 in rw (sym g) (fitting k room (rw g h.1)),
+        λ e. let q = done-then k room e in (ap Ok q.0, rw (sym q.0) q.1),
+        λ (h : (Ok k ≡ Ok n) × (n ≤ room)). let g = measures h.0 in rw (sym g) (fitting k room (rw g h.1)),
       );
       no_room = λ room. (
         λ e. (k, refl, (refused-then k room e).1),
-        λ (h : (n : ℕ) × (Length k ≡ Length n) × (room < n)). short k room (rw (measures h.1) h.2),
+        λ (h : (n : ℕ) × (Ok k ≡ Ok n) × (room < n)). short k room (rw (measures h.1) h.2),
       );
       refuses = λ e room. (
-        λ (h : (decided (Length k) room ≡ Refused e) × (e ≡ nowhere NoRoom → ⊥)). absurd (h.1 (sym (refused-then k room h.0).0)),
+        λ (h : (decided (Ok k) room ≡ Err e) × (e ≡ nowhere NoRoom → ⊥)). absurd (h.1 (sym (refused-then k room h.0).0)),
         λ h. absurd (length-not h),
       );
     }
-by-decision (NoLength x) f =
+by-decision (Err x) f =
     record {
-      stores = λ n room. (λ e. absurd (not-both (sym e)), λ (h : (NoLength x ≡ Length n) × (n ≤ room)). absurd (length-not (sym h.0)));
+      stores = λ n room. (λ e. absurd (not-both (sym e)), λ (h : (Err x ≡ Ok n) × (n ≤ room)). absurd (length-not (sym h.0)));
       no_room = λ room. (
-        λ e. let g : x ≡ nowhere NoRoom = cc in absurd (f (ap NoLength g)),
-        λ (h : (n : ℕ) × (NoLength x ≡ Length n) × (room < n)). absurd (length-not (sym h.1)),
+        λ e. let g : x ≡ nowhere NoRoom = cc in absurd (f (ap Err g)),
+        λ (h : (n : ℕ) × (Err x ≡ Ok n) × (room < n)). absurd (length-not (sym h.1)),
       );
       refuses = λ e room. (
-        λ (h : (Refused x ≡ Refused e) × (e ≡ nowhere NoRoom → ⊥)). let h0 = h.0 in let g : x ≡ e = cc in ap NoLength g,
-        λ h. let g : x ≡ e = cc in (ap Refused g, λ k. f (ap NoLength (g ∙ k))),
+        λ (h : (Err x ≡ Err e) × (e ≡ nowhere NoRoom → ⊥)). let h0 = h.0 in let g : x ≡ e = cc in ap Err g,
+        λ h. let g : x ≡ e = cc in (ap Err g, λ k. f (ap Err (g ∙ k))),
       );
     }
 
 -- RustPanics is not NoRoom
-pub measured-so : (b : Bool) (t : List ℕ) → measured b t ≡ NoLength (nowhere NoRoom) → ⊥
+pub measured-so : (b : Bool) (t : List ℕ) → measured b t ≡ Err (nowhere NoRoom) → ⊥
 unfolding measured refusal pick
 measured-so true t e =
     let g : nowhere RustPanics ≡ nowhere NoRoom = cc in

@@ -8,8 +8,7 @@ use Rattle.chars.specs.Ascii.{ascii}
 use Rattle.chars.specs.Pick.{pick}
 use Rattle.refusals.specs.declared.Kind.TheVariants.{RustPanics, NoRoom}
 use Rattle.refusals.specs.Refusal.{file_span, refusal}
-use Rattle.puts.specs.declared.Measured.TheVariants.{Length, NoLength}
-use Rattle.puts.specs.declared.Written.TheVariants.{Done, Refused}
+use Rattle.std.specs.Prelude.{Ok, Err}
 use Rattle.puts.specs.Numbers.{digits, count, digit_count, width, decimal}
 use Rattle.puts.specs.Marks.{mark_text}
 use Rattle.puts.specs.Answers.{measured, decided, answer, left, afterwards}
@@ -54,12 +53,12 @@ all-marks = refl
 
 -- RustPanics comes before NoRoom, and a text that just fits is written
 pub all-answers : answer true (ascii "abc") 0 ∷ answer true (ascii "abc") 3 ∷ answer false (ascii "abc") 2 ∷ answer false (ascii "abc") 3 ∷ answer false (ascii "abc") 4 ∷ answer false [] 0 ∷ []
-    ≡ Refused (record { kind = RustPanics; place = file_span 0 0 }) ∷ Refused (record { kind = RustPanics; place = file_span 0 0 }) ∷ Refused (record { kind = NoRoom; place = file_span 0 0 }) ∷ Done 3 ∷ Done 3 ∷ Done 0 ∷ []
+    ≡ Err (record { kind = RustPanics; place = file_span 0 0 }) ∷ Err (record { kind = RustPanics; place = file_span 0 0 }) ∷ Err (record { kind = NoRoom; place = file_span 0 0 }) ∷ Ok 3 ∷ Ok 3 ∷ Ok 0 ∷ []
 unfolding answer decided measured refusal pick
 all-answers = refl
 
 -- the length is there, or is not
-pub all-measures : measured false (ascii "abc") ∷ measured true (ascii "abc") ∷ [] ≡ Length 3 ∷ NoLength (record { kind = RustPanics; place = file_span 0 0 }) ∷ []
+pub all-measures : measured false (ascii "abc") ∷ measured true (ascii "abc") ∷ [] ≡ Ok 3 ∷ Err (record { kind = RustPanics; place = file_span 0 0 }) ∷ []
 unfolding measured refusal pick
 all-measures = refl
 

@@ -13,21 +13,20 @@ use lib.Seq.{sets-eq}
 use Rattle.chars.specs.Pick.{pick}
 use Rattle.chars.proofs.Cases.{of_test}
 use Rattle.refusals.specs.declared.Refusal.{Refusal}
-use Rattle.puts.specs.declared.Written.{Written}
-use Rattle.puts.specs.declared.Written.TheVariants.{Done, Refused}
+use Rattle.std.specs.Prelude.{Result, Ok, Err}
 use Rattle.puts.specs.Answers.{measured, decided, answer, left, afterwards, Put}
 use Rattle.puts.proofs.Puts.{lent}
 
-abbrev is_done : Written → Bool
-is_done (Done n) = true
-is_done (Refused e) = false
+abbrev is_done : Result ℕ Refusal → Bool
+is_done (Ok n) = true
+is_done (Err e) = false
 
-abbrev count_of : Written → ℕ
-count_of (Done n) = n
-count_of (Refused e) = 0
+abbrev count_of : Result ℕ Refusal → ℕ
+count_of (Ok n) = n
+count_of (Err e) = 0
 
-module _ (t l : List ℕ) {l' : List ℕ} {w : Written} (ew : w ≡ answer false t (length l)) (el : l' ≡ afterwards false t l) where
-  was-done : {n : ℕ} → w ≡ Done n → (length t ≤ length l) × Put t l 0 l' n
+module _ (t l : List ℕ) {l' : List ℕ} {w : Result ℕ Refusal} (ew : w ≡ answer false t (length l)) (el : l' ≡ afterwards false t l) where
+  was-done : {n : ℕ} → w ≡ Ok n → (length t ≤ length l) × Put t l 0 l' n
   unfolding answer decided measured afterwards left pick
   was-done {n} e =
       of_test (leb (length t) (length l))
@@ -39,7 +38,7 @@ module _ (t l : List ℕ) {l' : List ℕ} {w : Written} (ew : w ≡ answer false
       (h, record { behind = c ∙ sym (zero-add (length t)); bytes = o ∙ sym s }))
       (λ q. absurd (false≢true (sym (ap is_done (sym e ∙ rw q at ew)))))
 
-  was-refused : {e : Refusal} → w ≡ Refused e → (length l < length t) × (l' ≡ l)
+  was-refused : {e : Refusal} → w ≡ Err e → (length l < length t) × (l' ≡ l)
   unfolding answer decided measured afterwards left pick
   was-refused {e} g =
       of_test (leb (length t) (length l))
@@ -54,10 +53,10 @@ part_length : (out : List ℕ) (p : ℕ) → length (part_of out p) ≡ length o
 part_length out p = simp (length-take, length-drop) (omega arith)
 
 -- w is what the writer of t answered, and l' the part when it came back
-module _ (t out : List ℕ) (p : ℕ) (h : p ≤ length out) {l' : List ℕ} {w : Written}
+module _ (t out : List ℕ) (p : ℕ) (h : p ≤ length out) {l' : List ℕ} {w : Result ℕ Refusal}
     (ew : w ≡ answer false t (length (part_of out p))) (el : l' ≡ afterwards false t (part_of out p)) where
   -- it has written: there was room, and the text was put at the place
-  module _ {n : ℕ} (e : w ≡ Done n) where
+  module _ {n : ℕ} (e : w ≡ Ok n) where
     pub fits : p + length t ≤ length out
     fits = let g = (was-done t (part_of out p) ew el e).0 in omega (arith, part_length out p)
 
@@ -68,7 +67,7 @@ module _ (t out : List ℕ) (p : ℕ) (h : p ≤ length out) {l' : List ℕ} {w 
     put-done = lent t out l' p n fits (was-done t (part_of out p) ew el e).1
 
   -- it refuses: there was none, and all is as it was
-  pub put-none : {e : Refusal} → w ≡ Refused e → (length out < p + length t) × (put_mid p (length out - p) out l' ≡ out)
+  pub put-none : {e : Refusal} → w ≡ Err e → (length out < p + length t) × (put_mid p (length out - p) out l' ≡ out)
   put-none {e} g =
       let r = was-refused t (part_of out p) ew el g in (
         let k = r.0 in omega (arith, part_length out p),

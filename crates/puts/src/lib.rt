@@ -11,21 +11,6 @@ ghost use Rattle.puts.specs.Marks.{mark_text};
 
 use refusals::{Kind, Refusal, nowhere};
 
-// What a writer answers.
-#[derive(Clone, Copy)]
-pub enum Written {
-    // The text was written, with so many bytes.
-    Done(usize),
-    Refused(Refusal),
-}
-
-// How long a text is.
-#[derive(Clone, Copy)]
-pub enum Measured {
-    Length(usize),
-    NoLength(Refusal),
-}
-
 // ---- numbers
 
 // How many digits a number is written with.
@@ -35,6 +20,7 @@ pub fn width(least: usize, n: u32) -> usize
 {
     let mut rest = n;
     let mut w = 0;
+    // Kept as a while: it counts divisions by ten, as `digit_count` does, and walks no index; the contract of `checked_ilog10` speaks of powers of ten instead.
     while 0 < rest {
         rest /= 10;
         w += 1;
@@ -50,12 +36,9 @@ fn copy(t: &[u8], out: &mut [u8], at: usize) -> usize
     requires { at + length t.now ≤ length out.old }
     ensures { Put t.now out.old at out.new result }
 {
-    let mut i = 0;
-    while i < t.len() {
-        out[at + i] = t[i];
-        i += 1;
-    }
-    at + i
+    let next = at + t.len();
+    out[at..next].copy_from_slice(t);
+    next
 }
 
 // Whether so many bytes fit from a place on.
@@ -86,9 +69,7 @@ fn digits_at(w: usize, n: u32, out: &mut [u8], at: usize) -> usize
     ensures { Put (numbers.digits w n) out.old at out.new result }
 {
     let mut rest = n;
-    let mut k = w;
-    while 0 < k {
-        k -= 1;
+    for k in (0..w).rev() {
         out[at + k] = 48 + (rest % 10) as u8;
         rest /= 10;
     }
@@ -126,16 +107,13 @@ pub fn put_mark(uncertain: bool, approximate: bool, out: &mut [u8], at: usize) -
 // ---- answers
 
 // What is answered to a text that was measured, with so much room.
-pub fn decide(m: Measured, room: usize) -> Written
+#[tactic(auto, unfolding(crate::specs::Answers::decided, chars::specs::Pick::pick))]
+pub fn decide(m: Result<usize, Refusal>, room: usize) -> Result<usize, Refusal>
     ensures { result ≡ spec.decided m room }
 {
-    match m {
-        Measured::Length(n) => {
-            if n <= room {
-                return Written::Done(n);
-            }
-            Written::Refused(nowhere(Kind::NoRoom))
-        }
-        Measured::NoLength(e) => Written::Refused(e),
+    let n = m?;
+    if n <= room {
+        return Ok(n);
     }
+    Err(nowhere(Kind::NoRoom))
 }

@@ -2,3 +2,4 @@ pub mod Lists
 pub mod Joins
 pub mod Said
 pub mod Fields
+pub mod Flags

@@ -4,11 +4,9 @@
 // No call keeps anything, and no refusal changes a lent byte: the lists are lent for reading only.
 #![tactic(auto)]
 
-ghost use Rattle.std.specs.Prelude.{◌≡◌, true, false, ◌&&◌, ◌||◌, [], eqb, ltb, ◌%◌, ◌≤◌, length, take};
-ghost use Rattle.std.proofs.Math.Option.{none, some};
+ghost use Rattle.std.specs.Prelude.{◌≡◌, true, false, ◌&&◌, ◌||◌, [], eqb, ltb, ◌%◌, ◌≤◌, length, take, Ok, None, Some};
 ghost use Rattle.chunks.specs.Chunks.{is_short, chunks_of, kinds_known, no_math, lengths, span_of};
 ghost use Rattle.chunks.specs.Answer.{room_of};
-ghost use Rattle.chunks.specs.declared.Checked.TheVariants.{Clean};
 ghost use Rattle.chunks.specs.Check.{checked};
 ghost use Rattle.chunks.specs.Format.{formatted};
 ghost use Rattle.codes.specs.Words.{words_or, words_of, year_word, month_word, day_part_word};
@@ -24,19 +22,24 @@ ghost use Rattle.datefield.specs.Value.{parse_text};
 ghost use Rattle.fields.specs.Month.{month_field};
 ghost use Rattle.fields.specs.Day.{day_field};
 ghost use Rattle.reading_laws.specs.Field as field;
-ghost use Rattle.chunks.specs.Lent.{lent, optional, three};
+ghost use Rattle.chunks.specs.Lent.{lent_of, optional, optional_of};
 ghost use Rattle.reading_laws.specs.Fields as fieldset;
-ghost use Rattle.reader.specs.Readable.{Readable, Small};
+ghost use Rattle.reader.specs.Fields.{three_of};
+ghost use Rattle.reader.specs.Readable.{Readable, ReadableIf, AllReadable, Small, SmallIf, AllSmall};
 
-use chunks::{Checked, Formatted};
+use chunks::ChunksRef;
 use codes::{NOTHING, Words};
-use dates::{Date, Datetime, OptionDay, OptionMonth, OptionTime};
-use fields::{ReadDay, ReadDayField, ReadMonth, ReadYear};
-use reading_laws::{FieldYear, Parts};
-use refusals::{FileSpan, Kind, ReadDate};
-// not named below, but a `ReadMonth` holds one, and `month_text` hands it on
+use dates::{Date, Datetime, Day, Month};
+use refusals::{FileSpan, Kind, Refusal, TextRefusal};
 use scanner::Cursor;
-use strict::Matched;
+
+// The lists of the fields year, month and day: that of the year is always there.
+#[derive(Clone, Copy)]
+pub struct ThreeFields<'a> {
+    pub year: ChunksRef<'a>,
+    pub month: Option<ChunksRef<'a>>,
+    pub day: Option<ChunksRef<'a>>,
+}
 
 // The formatted text of a date field.
 fn text_words(s: &[u8], span: FileSpan) -> Words
@@ -47,58 +50,54 @@ fn text_words(s: &[u8], span: FileSpan) -> Words
 }
 
 // A date field, formatted into a buffer with room for it.
-fn words_in(bytes: &[u8], table: &[u64], buf: &mut [u8]) -> Words
-    requires { is_short bytes.now table.now ≡ true → room_of bytes.now table.now ≤ length buf.old }
-    ensures value { result ≡ words_of (field.parsed bytes.now table.now) }
-    ensures typed { Typed (field.parsed bytes.now table.now) }
+fn words_in(list: ChunksRef<'_>, buf: &mut [u8]) -> Words
+    requires { is_short list.bytes.now list.table.now ≡ true → room_of list.bytes.now list.table.now ≤ length buf.old }
+    ensures value { result ≡ words_of (field.parsed list.entry.bytes.now list.entry.table.now) }
+    ensures typed { Typed (field.parsed list.entry.bytes.now list.entry.table.now) }
 {
-    match chunks::format_uppercase(bytes, table, buf) {
-        Formatted::Text(n) => text_words(&buf[..n], chunks::span(table)),
-        Formatted::Refused(e) => codes::pack(ReadDate::Refused(e)),
+    match list.format_uppercase(buf) {
+        Ok(n) => text_words(&buf[..n], list.span()),
+        Err(e) => codes::pack(Err(e)),
     }
 }
 
 // A date field by the way for all. Most are read where they stand; of the others a short one is formatted into a small array, which costs less to
 // clear.
-fn any_words(bytes: &[u8], table: &[u64]) -> Words
-    ensures value { result ≡ words_of (field.parsed bytes.now table.now) }
-    ensures typed { Typed (field.parsed bytes.now table.now) }
+fn any_words(list: ChunksRef<'_>) -> Words
+    ensures value { result ≡ words_of (field.parsed list.entry.bytes.now list.entry.table.now) }
+    ensures typed { Typed (field.parsed list.entry.bytes.now list.entry.table.now) }
 {
-    if chunks::stands(bytes, table, true) {
-        return text_words(bytes, chunks::span(table));
+    if list.stands(true) {
+        return text_words(list.bytes, list.span());
     }
-    if bytes.len() <= 56 {
-        if table.len() <= 16 {
+    if list.bytes.len() <= 56 {
+        if list.table.len() <= 16 {
             let mut small = [0u8; 64];
-            return words_in(bytes, table, &mut small);
+            return words_in(list, &mut small);
         }
     }
     let mut buf = [0u8; 4224];
-    words_in(bytes, table, &mut buf)
+    words_in(list, &mut buf)
 }
 
 // What the strict matcher says of a text.
-fn strictly(m: Matched) -> ReadDate
+#[tactic(auto, unfolding(reading_laws::specs::Field::strictly))]
+fn strictly(m: Option<Date>) -> Result<Date, Refusal>
     ensures { result ≡ field.strictly m }
 {
-    match m {
-        Matched::Strict(d) => ReadDate::Accepted(d),
-        Matched::NotStrict => ReadDate::Refused(refusals::nowhere(Kind::NotStrict)),
-    }
+    m.ok_or(refusals::nowhere(Kind::NotStrict))
 }
 
 // What the matcher of level one says.
-fn leveled(m: Matched) -> ReadDate
+#[tactic(auto, unfolding(reading_laws::specs::Field::leveled))]
+fn leveled(m: Option<Date>) -> Result<Date, Refusal>
     ensures { result ≡ field.leveled m }
 {
-    match m {
-        Matched::Strict(d) => ReadDate::Accepted(d),
-        Matched::NotStrict => ReadDate::Refused(refusals::nowhere(Kind::NotLevelOne)),
-    }
+    m.ok_or(refusals::nowhere(Kind::NotLevelOne))
 }
 
 // A text by the grammar of level one or by the strict one.
-fn match_by(level: bool, s: &[u8]) -> ReadDate
+fn match_by(level: bool, s: &[u8]) -> Result<Date, Refusal>
     ensures { result ≡ field.match_by level s.now }
 {
     if level {
@@ -108,50 +107,48 @@ fn match_by(level: bool, s: &[u8]) -> ReadDate
 }
 
 // A date field by one of the grammars, formatted into a buffer with room for it.
-fn parse_by_in(level: bool, bytes: &[u8], table: &[u64], buf: &mut [u8]) -> ReadDate
-    requires { is_short bytes.now table.now ≡ true → room_of bytes.now table.now ≤ length buf.old }
-    ensures { result ≡ field.parsed_by level bytes.now table.now }
+fn parse_by_in(level: bool, list: ChunksRef<'_>, buf: &mut [u8]) -> Result<Date, Refusal>
+    requires { is_short list.bytes.now list.table.now ≡ true → room_of list.bytes.now list.table.now ≤ length buf.old }
+    ensures { result ≡ field.parsed_by level list.entry.bytes.now list.entry.table.now }
 {
-    match chunks::format_verbatim(bytes, table, buf) {
-        Formatted::Text(n) => match_by(level, &buf[..n]),
-        Formatted::Refused(e) => ReadDate::Refused(e),
-    }
+    let n = list.format_verbatim(buf)?;
+    match_by(level, &buf[..n])
 }
 
 // A date field by one of the grammars: neither trimmed nor in upper case.
-fn parse_by(level: bool, bytes: &[u8], table: &[u64]) -> ReadDate
-    ensures { result ≡ field.parsed_by level bytes.now table.now }
+fn parse_by(level: bool, list: ChunksRef<'_>) -> Result<Date, Refusal>
+    ensures { result ≡ field.parsed_by level list.entry.bytes.now list.entry.table.now }
 {
-    if chunks::stands(bytes, table, false) {
-        return match_by(level, bytes);
+    if list.stands(false) {
+        return match_by(level, list.bytes);
     }
-    if bytes.len() <= 56 {
-        if table.len() <= 16 {
+    if list.bytes.len() <= 56 {
+        if list.table.len() <= 16 {
             let mut small = [0u8; 64];
-            return parse_by_in(level, bytes, table, &mut small);
+            return parse_by_in(level, list, &mut small);
         }
     }
     let mut buf = [0u8; 4224];
-    parse_by_in(level, bytes, table, &mut buf)
+    parse_by_in(level, list, &mut buf)
 }
 
 // The same by the strict one, in words.
-fn any_strict(bytes: &[u8], table: &[u64]) -> Words
-    ensures value { result ≡ words_of (field.parsed_strict bytes.now table.now) }
-    ensures typed { Typed (field.parsed_strict bytes.now table.now) }
+fn any_strict(list: ChunksRef<'_>) -> Words
+    ensures value { result ≡ words_of (field.parsed_strict list.entry.bytes.now list.entry.table.now) }
+    ensures typed { Typed (field.parsed_strict list.entry.bytes.now list.entry.table.now) }
 {
-    codes::pack(parse_by(false, bytes, table))
+    codes::pack(parse_by(false, list))
 }
 
 // ---- at once
 
 // Whether a list is one Normal chunk with all of the bytes.
-fn is_one_normal(bytes: &[u8], table: &[u64]) -> bool
-    ensures { result ≡ lists.one_normal bytes.now table.now }
+fn is_one_normal(list: ChunksRef<'_>) -> bool
+    ensures { result ≡ lists.one_normal list.entry.bytes.now list.entry.table.now }
 {
-    if table.len() == 4 {
-        if table[0] == 0 {
-            return table[1] == bytes.len() as u64;
+    if list.table.len() == 4 {
+        if list.table[0] == 0 {
+            return list.table[1] == list.bytes.len() as u64;
         }
     }
     false
@@ -163,30 +160,28 @@ fn lengths_join(table: &[u64], bytes: usize) -> bool
     ensures { result ≡ (no_math (chunks_of table.now) && (kinds_known (chunks_of table.now) && eqb (lengths (chunks_of table.now)) bytes)) }
 {
     let mut left = bytes as u64;
-    let mut k = 0;
-    while k < table.len() {
-        let kind = table[k];
+    for k in 0..table.len() / 4 {
+        let kind = table[4 * k];
         if 1 < kind {
             return false;
         }
-        let len = table[k + 1];
+        let len = table[4 * k + 1];
         if left < len {
             return false;
         }
         left = left - len;
-        k = k + 4;
     }
     left == 0
 }
 
 // Whether a list is short and of chunks whose texts, one behind the other, are the bytes.
-fn is_joined(bytes: &[u8], table: &[u64]) -> bool
-    ensures { result ≡ lists.is_joined bytes.now table.now }
+fn is_joined(list: ChunksRef<'_>) -> bool
+    ensures { result ≡ lists.is_joined list.entry.bytes.now list.entry.table.now }
 {
-    if bytes.len() <= 54 {
-        if table.len() % 4 == 0 {
-            if table.len() <= 256 {
-                return lengths_join(table, bytes.len());
+    if list.bytes.len() <= 54 {
+        if list.table.len() % 4 == 0 {
+            if list.table.len() <= 256 {
+                return lengths_join(list.table, list.bytes.len());
             }
         }
     }
@@ -195,7 +190,7 @@ fn is_joined(bytes: &[u8], table: &[u64]) -> bool
 
 // What the ported reader alone says at once of a text, in a list whose span starts at a place.
 fn ported_from(bytes: &[u8], start: u64) -> Words
-    ensures { result ≡ words_or (pick (ltb start 0x8000000000000000) (on_some (ported bytes.now) λ x. some (moved_by start x)) none) }
+    ensures { result ≡ words_or (pick (ltb start 0x8000000000000000) (on_some (ported bytes.now) λ x. Some (moved_by start x)) None) }
 {
     if start < 0x8000000000000000 {
         let text = codes::ported(bytes);
@@ -224,55 +219,55 @@ fn again(w: Words) -> Words
 }
 
 // Whether the text of a list may be usual where it stands: that of one Normal chunk, or of several chunks.
-fn is_whole(bytes: &[u8], table: &[u64]) -> bool
-    ensures { result ≡ (lists.one_normal bytes.now table.now || lists.is_joined bytes.now table.now) }
+fn is_whole(list: ChunksRef<'_>) -> bool
+    ensures { result ≡ (lists.one_normal list.entry.bytes.now list.entry.table.now || lists.is_joined list.entry.bytes.now list.entry.table.now) }
 {
-    if is_one_normal(bytes, table) {
+    if is_one_normal(list) {
         return true;
     }
-    is_joined(bytes, table)
+    is_joined(list)
 }
 
 // What both readers say of a list at once.
-fn written_words(bytes: &[u8], table: &[u64]) -> Words
-    ensures { result ≡ words_or (lists.list_written bytes.now table.now) }
+fn written_words(list: ChunksRef<'_>) -> Words
+    ensures { result ≡ words_or (lists.list_written list.entry.bytes.now list.entry.table.now) }
 {
-    if is_whole(bytes, table) {
-        return codes::text(bytes);
+    if is_whole(list) {
+        return codes::text(list.bytes);
     }
     codes::no_words()
 }
 
 // How many of the bytes may be a usual text: of one Normal chunk those before the spaces at its end, of several chunks all.
-fn usual_length(bytes: &[u8], table: &[u64]) -> usize
-    ensures { (written (take result bytes.now) ≡ list_usual bytes.now table.now) × (result ≤ length bytes.now) }
+fn usual_length(list: ChunksRef<'_>) -> usize
+    ensures { (written (take result list.entry.bytes.now) ≡ list_usual list.entry.bytes.now list.entry.table.now) × (result ≤ length list.entry.bytes.now) }
 {
-    if is_one_normal(bytes, table) {
-        if bytes.len() <= 4096 {
-            return codes::unspaced(bytes);
+    if is_one_normal(list) {
+        if list.bytes.len() <= 4096 {
+            return codes::unspaced(list.bytes);
         }
         return 0;
     }
-    if is_joined(bytes, table) {
-        return bytes.len();
+    if is_joined(list) {
+        return list.bytes.len();
     }
     0
 }
 
 // What the ported reader says of them at once.
-fn usual_words(bytes: &[u8], table: &[u64]) -> Words
-    ensures { result ≡ words_or (list_usual bytes.now table.now) }
+fn usual_words(list: ChunksRef<'_>) -> Words
+    ensures { result ≡ words_or (list_usual list.entry.bytes.now list.entry.table.now) }
 {
-    let n = usual_length(bytes, table);
-    codes::text(&bytes[..n])
+    let n = usual_length(list);
+    codes::text(&list.bytes[..n])
 }
 
 // What the ported reader alone says of a list at once.
-fn ported_words(bytes: &[u8], table: &[u64]) -> Words
-    ensures { result ≡ words_or (lists.list_ported bytes.now table.now) }
+fn ported_words(list: ChunksRef<'_>) -> Words
+    ensures { result ≡ words_or (lists.list_ported list.entry.bytes.now list.entry.table.now) }
 {
-    if is_one_normal(bytes, table) {
-        return ported_from(bytes, table[2]);
+    if is_one_normal(list) {
+        return ported_from(list.bytes, list.table[2]);
     }
     codes::no_words()
 }
@@ -280,408 +275,331 @@ fn ported_words(bytes: &[u8], table: &[u64]) -> Words
 // ---- the calls for a date field
 
 // A date field, read as the Rust reads it.
-pub fn parse_words(bytes: &[u8], table: &[u64]) -> Words
-    ensures value { result ≡ words_of (field.parsed bytes.now table.now) }
-    ensures typed { Typed (field.parsed bytes.now table.now) }
+pub fn parse_words(list: ChunksRef<'_>) -> Words
+    ensures value { result ≡ words_of (field.parsed list.entry.bytes.now list.entry.table.now) }
+    ensures typed { Typed (field.parsed list.entry.bytes.now list.entry.table.now) }
 {
-    let w = usual_words(bytes, table);
+    let w = usual_words(list);
     if w.last != NOTHING {
         return again(w);
     }
-    let p = ported_words(bytes, table);
+    let p = ported_words(list);
     if p.last != NOTHING {
         return again(p);
     }
-    any_words(bytes, table)
+    any_words(list)
 }
 
 // A date field by the strict grammar alone: neither trimmed nor in upper case.
-pub fn parse_strict_words(bytes: &[u8], table: &[u64]) -> Words
-    ensures value { result ≡ words_of (field.parsed_strict bytes.now table.now) }
-    ensures typed { Typed (field.parsed_strict bytes.now table.now) }
+pub fn parse_strict_words(list: ChunksRef<'_>) -> Words
+    ensures value { result ≡ words_of (field.parsed_strict list.entry.bytes.now list.entry.table.now) }
+    ensures typed { Typed (field.parsed_strict list.entry.bytes.now list.entry.table.now) }
 {
-    let w = written_words(bytes, table);
+    let w = written_words(list);
     if w.last != NOTHING {
         return again(w);
     }
-    any_strict(bytes, table)
+    any_strict(list)
 }
 
 // A date field by the grammar of level one.
-pub fn level_words(bytes: &[u8], table: &[u64]) -> Words
-    ensures value { result ≡ words_of (field.parsed_level_one bytes.now table.now) }
-    ensures typed { Typed (field.parsed_level_one bytes.now table.now) }
+pub fn level_words(list: ChunksRef<'_>) -> Words
+    ensures value { result ≡ words_of (field.parsed_level_one list.entry.bytes.now list.entry.table.now) }
+    ensures typed { Typed (field.parsed_level_one list.entry.bytes.now list.entry.table.now) }
 {
-    codes::pack(parse_by(true, bytes, table))
+    codes::pack(parse_by(true, list))
 }
 
 // The same as a Date.
-pub fn parse(bytes: &[u8], table: &[u64]) -> ReadDate
-    ensures { result ≡ field.parsed bytes.now table.now }
+pub fn parse(list: ChunksRef<'_>) -> Result<Date, Refusal>
+    ensures { result ≡ field.parsed list.entry.bytes.now list.entry.table.now }
 {
-    codes::unpack(parse_words(bytes, table))
+    codes::unpack(parse_words(list))
 }
 
 // The strict one.
-pub fn parse_strict(bytes: &[u8], table: &[u64]) -> ReadDate
-    ensures { result ≡ field.parsed_strict bytes.now table.now }
+pub fn parse_strict(list: ChunksRef<'_>) -> Result<Date, Refusal>
+    ensures { result ≡ field.parsed_strict list.entry.bytes.now list.entry.table.now }
 {
-    codes::unpack(parse_strict_words(bytes, table))
+    codes::unpack(parse_strict_words(list))
 }
 
 // And that of level one.
-pub fn parse_level_one(bytes: &[u8], table: &[u64]) -> ReadDate
-    ensures { result ≡ field.parsed_level_one bytes.now table.now }
+pub fn parse_level_one(list: ChunksRef<'_>) -> Result<Date, Refusal>
+    ensures { result ≡ field.parsed_level_one list.entry.bytes.now list.entry.table.now }
 {
-    codes::unpack(level_words(bytes, table))
+    codes::unpack(level_words(list))
 }
 
 // ---- three fields
 
 // The checks of three lists: each that is present in full, year, month, day, before any is read.
-fn check_fields(
-    year: &[u8],
-    year_table: &[u64],
-    has_month: bool,
-    month: &[u8],
-    month_table: &[u64],
-    has_day: bool,
-    day: &[u8],
-    day_table: &[u64],
-) -> Checked
-    ensures { result ≡ fieldset.fields_checked (three (lent year.now year_table.now) (optional has_month month.now month_table.now) (optional has_day day.now day_table.now)) }
+#[tactic(auto, unfolding(reading_laws::specs::Fields::fields_checked, chunks::specs::Check::or_else, chars::specs::Pick::pick))]
+fn check_fields(fields: ThreeFields<'_>) -> Result<(), Refusal>
+    ensures { result ≡ fieldset.fields_checked (three_of fields.entry) }
 {
-    match chunks::check(year, year_table) {
-        Checked::Clean => {
-            if has_month {
-                return check_parts(month, month_table, has_day, day, day_table);
-            }
-            Checked::Clean
-        }
-        Checked::Faulty(e) => Checked::Faulty(e),
+    fields.year.check()?;
+    if let Some(month) = fields.month {
+        return check_parts(month, fields.day);
     }
+    Ok(())
 }
 
 // The same of the month list and the day list.
-fn check_parts(
-    month: &[u8],
-    month_table: &[u64],
-    has_day: bool,
-    day: &[u8],
-    day_table: &[u64],
-) -> Checked
-    ensures { result ≡ fieldset.parts_checked (lent month.now month_table.now) (optional has_day day.now day_table.now) }
+#[tactic(auto, unfolding(reading_laws::specs::Fields::parts_checked, chunks::specs::Check::or_else, chars::specs::Pick::pick))]
+fn check_parts(month: ChunksRef<'_>, day: Option<ChunksRef<'_>>) -> Result<(), Refusal>
+    ensures { result ≡ fieldset.parts_checked (lent_of month.entry) (optional_of day.entry) }
 {
-    match chunks::check(month, month_table) {
-        Checked::Clean => {
-            if has_day {
-                return chunks::check(day, day_table);
-            }
-            Checked::Clean
-        }
-        Checked::Faulty(e) => Checked::Faulty(e),
+    month.check()?;
+    if let Some(day) = day {
+        return day.check();
     }
+    Ok(())
 }
 
 // A list that is clean, formatted into a buffer with room for it: how many bytes of the buffer are its text.
-fn text_of(bytes: &[u8], table: &[u64], buf: &mut [u8]) -> usize
-    requires { Readable bytes.now table.now (length buf.old) }
+fn text_of(list: ChunksRef<'_>, buf: &mut [u8]) -> usize
+    requires { Readable list.bytes.now list.table.now (length buf.old) }
     ensures upper_bound { result ≤ length buf.new }
-    ensures buf_after { take result buf.new ≡ formatted bytes.now table.now }
+    ensures buf_after { take result buf.new ≡ formatted list.entry.bytes.now list.entry.table.now }
 {
-    match chunks::format_verbatim(bytes, table, buf) {
-        Formatted::Text(n) => n,
+    match list.format_verbatim(buf) {
+        Ok(n) => n,
         // never: the list is clean, and the buffer has the room
-        Formatted::Refused(_) => 0,
+        Err(_) => 0,
     }
 }
 
 // A year list that is clean.
-fn year_of(bytes: &[u8], table: &[u64], buf: &mut [u8]) -> FieldYear
-    requires { Readable bytes.now table.now (length buf.old) }
-    ensures { result ≡ fieldset.year_of (lent bytes.now table.now) }
+fn year_of(list: ChunksRef<'_>, buf: &mut [u8]) -> Result<i32, Refusal>
+    requires { Readable list.bytes.now list.table.now (length buf.old) }
+    ensures { result ≡ fieldset.year_of (lent_of list.entry) }
 {
-    if chunks::stands(bytes, table, false) {
-        return moved_year(fields::get_year(bytes), chunks::span(table));
+    if list.stands(false) {
+        return moved_year(fields::get_year(list.bytes), list.span());
     }
-    let n = text_of(bytes, table, buf);
-    moved_year(fields::get_year(&buf[..n]), chunks::span(table))
+    let n = text_of(list, buf);
+    moved_year(fields::get_year(&buf[..n]), list.span())
 }
 
 // A year; a refusal of it is moved by the span.
-fn moved_year(r: ReadYear, span: FileSpan) -> FieldYear
+#[tactic(auto, unfolding(reading_laws::specs::Fields::moved_year))]
+fn moved_year(r: Result<i32, TextRefusal>, span: FileSpan) -> Result<i32, Refusal>
     ensures { result ≡ fieldset.moved_year span r }
 {
-    match r {
-        ReadYear::Year(y) => FieldYear::YearIs(y),
-        ReadYear::NoYear(e) => FieldYear::NoFieldYear(refusals::offset(e, span.0)),
-    }
+    r.map_err(|e| refusals::offset(e, span.0))
 }
 
 // The month of a text, and the day that it holds.
-fn month_text(s: &[u8]) -> Parts
+#[tactic(auto, unfolding(reading_laws::specs::Fields::month_text, reading_laws::specs::Fields::on_month, reading_laws::specs::Fields::inside_day))]
+fn month_text(s: &[u8]) -> Result<(Option<Month>, Option<Day>), Refusal>
     ensures { result ≡ fieldset.month_text s.now }
 {
-    match fields::month_field(s) {
-        ReadMonth::MonthRead { month, next } => {
-            match fields::day_in_month_field(s, next) {
-                ReadDay::DayRead(d) => Parts::PartsAre(month, d),
-                ReadDay::NoDayRead(e) => Parts::NoParts(refusals::unshifted(e)),
-            }
-        }
-        ReadMonth::NoMonthRead(e) => Parts::NoParts(refusals::unshifted(e)),
-    }
+    let (month, next) = fields::month_field(s).map_err(|e| refusals::unshifted(e))?;
+    let day = fields::day_in_month_field(s, next).map_err(|e| refusals::unshifted(e))?;
+    Ok((month, day))
 }
 
 // A month list that is clean, without a day list.
-fn month_alone(bytes: &[u8], table: &[u64], buf: &mut [u8]) -> Parts
-    requires { Readable bytes.now table.now (length buf.old) }
-    ensures { result ≡ fieldset.month_alone (lent bytes.now table.now) }
+fn month_alone(list: ChunksRef<'_>, buf: &mut [u8]) -> Result<(Option<Month>, Option<Day>), Refusal>
+    requires { Readable list.bytes.now list.table.now (length buf.old) }
+    ensures { result ≡ fieldset.month_alone (lent_of list.entry) }
 {
-    if chunks::stands(bytes, table, false) {
-        return month_text(bytes);
+    if list.stands(false) {
+        return month_text(list.bytes);
     }
-    let n = text_of(bytes, table, buf);
+    let n = text_of(list, buf);
     month_text(&buf[..n])
 }
 
 // The month of a clean list.
-fn month_of(bytes: &[u8], table: &[u64], buf: &mut [u8]) -> ReadMonth
-    requires { Readable bytes.now table.now (length buf.old) }
-    ensures { result ≡ month_field (formatted bytes.now table.now) }
+fn month_of(list: ChunksRef<'_>, buf: &mut [u8]) -> Result<(Option<Month>, Cursor), TextRefusal>
+    requires { Readable list.bytes.now list.table.now (length buf.old) }
+    ensures { result ≡ month_field (formatted list.entry.bytes.now list.entry.table.now) }
 {
-    if chunks::stands(bytes, table, false) {
-        return fields::month_field(bytes);
+    if list.stands(false) {
+        return fields::month_field(list.bytes);
     }
-    let n = text_of(bytes, table, buf);
+    let n = text_of(list, buf);
     fields::month_field(&buf[..n])
 }
 
 // The day of a clean list.
-fn day_of(bytes: &[u8], table: &[u64], buf: &mut [u8]) -> ReadDayField
-    requires { Readable bytes.now table.now (length buf.old) }
-    ensures { result ≡ day_field (formatted bytes.now table.now) (span_of (chunks_of table.now)) }
+fn day_of(list: ChunksRef<'_>, buf: &mut [u8]) -> Result<Day, Refusal>
+    requires { Readable list.bytes.now list.table.now (length buf.old) }
+    ensures { result ≡ day_field (formatted list.entry.bytes.now list.entry.table.now) (span_of (chunks_of list.entry.table.now)) }
 {
-    if chunks::stands(bytes, table, false) {
-        return fields::day_field(bytes, chunks::span(table));
+    if list.stands(false) {
+        return fields::day_field(list.bytes, list.span());
     }
-    let n = text_of(bytes, table, buf);
-    fields::day_field(&buf[..n], chunks::span(table))
+    let n = text_of(list, buf);
+    fields::day_field(&buf[..n], list.span())
 }
 
 // A month list and a day list that are clean, read one after the other in the same buffer.
+#[tactic(auto, unfolding(reading_laws::specs::Fields::month_and_day, reading_laws::specs::Fields::on_month, reading_laws::specs::Fields::field_day))]
 fn month_and_day(
-    month: &[u8],
-    month_table: &[u64],
-    day: &[u8],
-    day_table: &[u64],
+    month: ChunksRef<'_>,
+    day: ChunksRef<'_>,
     buf: &mut [u8],
-) -> Parts
-    requires readable { Readable month.now month_table.now (length buf.old) }
-    requires readable_2 { Readable day.now day_table.now (length buf.old) }
-    ensures { result ≡ fieldset.month_and_day (lent month.now month_table.now) (lent day.now day_table.now) }
+) -> Result<(Option<Month>, Option<Day>), Refusal>
+    requires readable { Readable month.bytes.now month.table.now (length buf.old) }
+    requires readable_2 { Readable day.bytes.now day.table.now (length buf.old) }
+    ensures { result ≡ fieldset.month_and_day (lent_of month.entry) (lent_of day.entry) }
 {
-    match month_of(month, month_table, buf) {
-        ReadMonth::MonthRead { month: m, next: _ } => match day_of(day, day_table, buf) {
-            ReadDayField::Given(d) => Parts::PartsAre(m, OptionDay::SomeDay(d)),
-            ReadDayField::NotGiven(e) => Parts::NoParts(e),
-        },
-        ReadMonth::NoMonthRead(e) => Parts::NoParts(refusals::unshifted(e)),
-    }
+    let (m, _) = month_of(month, buf).map_err(|e| refusals::unshifted(e))?;
+    let d = day_of(day, buf)?;
+    Ok((m, Some(d)))
 }
 
 // The month and the day of lists that are clean, as far as they are present.
+#[tactic(auto, unfolding(reading_laws::specs::Fields::parts_of, chars::specs::Pick::pick))]
 fn parts_of(
-    has_month: bool,
-    month: &[u8],
-    month_table: &[u64],
-    has_day: bool,
-    day: &[u8],
-    day_table: &[u64],
+    month: Option<ChunksRef<'_>>,
+    day: Option<ChunksRef<'_>>,
     buf: &mut [u8],
-) -> Parts
-    requires readable { has_month ≡ true → Readable month.now month_table.now (length buf.old) }
-    requires readable_2 { has_month ≡ true → has_day ≡ true → Readable day.now day_table.now (length buf.old) }
-    ensures { result ≡ fieldset.parts_of (optional has_month month.now month_table.now) (optional has_day day.now day_table.now) }
+) -> Result<(Option<Month>, Option<Day>), Refusal>
+    requires readable { ReadableIf (optional_of month) (length buf.old) }
+    requires readable_2 { (optional_of month).present ≡ true → ReadableIf (optional_of day) (length buf.old) }
+    ensures { result ≡ fieldset.parts_of (optional_of month.entry) (optional_of day.entry) }
 {
-    if has_month {
-        if has_day {
-            return month_and_day(month, month_table, day, day_table, buf);
-        }
-        return month_alone(month, month_table, buf);
+    match month {
+        Some(m) => match day {
+            Some(d) => month_and_day(m, d, buf),
+            None => month_alone(m, buf),
+        },
+        None => Ok((None, None)),
     }
-    Parts::PartsAre(OptionMonth::NoMonth, OptionDay::NoDay)
 }
 
 // Three fields have no time and no mark.
-fn dated(year: i32, parts: Parts) -> ReadDate
+#[tactic(auto, unfolding(reading_laws::specs::Fields::dated))]
+fn dated(year: i32, parts: Result<(Option<Month>, Option<Day>), Refusal>) -> Result<Date, Refusal>
     ensures { result ≡ fieldset.dated year parts }
 {
-    match parts {
-        Parts::PartsAre(m, d) => {
-            let atom = Datetime::new(year, m, d, OptionTime::NoTime);
-            ReadDate::Accepted(Date::from_datetime(atom))
-        }
-        Parts::NoParts(e) => ReadDate::Refused(e),
-    }
+    let (m, d) = parts?;
+    let atom = Datetime::new(year, m, d, None);
+    Ok(Date::from_datetime(atom))
 }
 
 // Three lists that are clean, read one after the other in the same buffer.
-fn read_fields(
-    year: &[u8],
-    year_table: &[u64],
-    has_month: bool,
-    month: &[u8],
-    month_table: &[u64],
-    has_day: bool,
-    day: &[u8],
-    day_table: &[u64],
-    buf: &mut [u8],
-) -> ReadDate
-    requires readable { Readable year.now year_table.now (length buf.old) }
-    requires readable_2 { has_month ≡ true → Readable month.now month_table.now (length buf.old) }
-    requires readable_3 { has_month ≡ true → has_day ≡ true → Readable day.now day_table.now (length buf.old) }
-    ensures { result ≡ fieldset.read_fields (three (lent year.now year_table.now) (optional has_month month.now month_table.now) (optional has_day day.now day_table.now)) }
+#[tactic(auto, unfolding(reading_laws::specs::Fields::read_fields, reading_laws::specs::Fields::on_year))]
+fn read_fields(fields: ThreeFields<'_>, buf: &mut [u8]) -> Result<Date, Refusal>
+    requires { AllReadable (three_of fields) (length buf.old) }
+    ensures { result ≡ fieldset.read_fields (three_of fields.entry) }
 {
-    match year_of(year, year_table, buf) {
-        FieldYear::YearIs(y) => {
-            let parts = parts_of(has_month, month, month_table, has_day, day, day_table, buf);
-            dated(y, parts)
-        }
-        FieldYear::NoFieldYear(e) => ReadDate::Refused(e),
-    }
+    let y = year_of(fields.year, buf)?;
+    let parts = parts_of(fields.month, fields.day, buf);
+    dated(y, parts)
 }
 
 // Whether a list is formatted into a small array.
-fn is_small(bytes: &[u8], table: &[u64]) -> bool
-    ensures { result ≡ true → Small bytes.now table.now }
+fn is_small(list: ChunksRef<'_>) -> bool
+    ensures { result ≡ true → Small list.entry.bytes.now list.entry.table.now }
 {
-    if bytes.len() <= 56 {
-        return table.len() <= 16;
+    if list.bytes.len() <= 56 {
+        return list.table.len() <= 16;
     }
     false
 }
 
-// Whether each of three lists is.
-fn are_small(
-    year: &[u8],
-    year_table: &[u64],
-    month: &[u8],
-    month_table: &[u64],
-    day: &[u8],
-    day_table: &[u64],
-) -> bool
-    ensures { result ≡ true → Small year.now year_table.now × Small month.now month_table.now × Small day.now day_table.now }
+// Whether a list that may be absent is, if it is present.
+fn is_small_if(list: Option<ChunksRef<'_>>) -> bool
+    ensures { result ≡ true → SmallIf (optional_of list.entry) }
 {
-    if is_small(year, year_table) {
-        if is_small(month, month_table) {
-            return is_small(day, day_table);
+    let Some(list) = list else {
+        return true;
+    };
+    is_small(list)
+}
+
+// Whether each of three lists is.
+fn are_small(fields: ThreeFields<'_>) -> bool
+    ensures { result ≡ true → AllSmall (three_of fields.entry) }
+{
+    if is_small(fields.year) {
+        if is_small_if(fields.month) {
+            return is_small_if(fields.day);
         }
     }
     false
 }
 
 // Three lists that are clean. Short ones are formatted into a small array, which costs less to clear.
-fn read_clean(
-    year: &[u8],
-    year_table: &[u64],
-    has_month: bool,
-    month: &[u8],
-    month_table: &[u64],
-    has_day: bool,
-    day: &[u8],
-    day_table: &[u64],
-) -> ReadDate
-    requires year_table_value { checked year.now year_table.now ≡ Clean }
-    requires month_table_value { has_month ≡ true → checked month.now month_table.now ≡ Clean }
-    requires day_table_value { has_month ≡ true → has_day ≡ true → checked day.now day_table.now ≡ Clean }
-    ensures { result ≡ fieldset.read_fields (three (lent year.now year_table.now) (optional has_month month.now month_table.now) (optional has_day day.now day_table.now)) }
+fn read_clean(fields: ThreeFields<'_>) -> Result<Date, Refusal>
+    requires { fieldset.fields_checked (three_of fields) ≡ (Ok tt) }
+    ensures { result ≡ fieldset.read_fields (three_of fields.entry) }
 {
-    if are_small(year, year_table, month, month_table, day, day_table) {
+    if are_small(fields) {
         let mut small = [0u8; 64];
-        return read_fields(
-            year,
-            year_table,
-            has_month,
-            month,
-            month_table,
-            has_day,
-            day,
-            day_table,
-            &mut small,
-        );
+        return read_fields(fields, &mut small);
     }
     let mut buf = [0u8; 4224];
-    read_fields(
-        year,
-        year_table,
-        has_month,
-        month,
-        month_table,
-        has_day,
-        day,
-        day_table,
-        &mut buf,
-    )
+    read_fields(fields, &mut buf)
 }
 
 // ---- three fields at once
 
 // The year of a list that is one Normal chunk.
-fn year_at_once(bytes: &[u8], table: &[u64]) -> u64
-    ensures { result ≡ year_word (lists.on_normal (lent bytes.now table.now) year_part) }
+fn year_at_once(list: ChunksRef<'_>) -> u64
+    ensures { result ≡ year_word (lists.on_normal (lent_of list.entry) year_part) }
 {
-    if is_one_normal(bytes, table) {
-        return codes::year_part(bytes);
+    if is_one_normal(list) {
+        return codes::year_part(list.bytes);
     }
     NOTHING
 }
 
 // The month of one, if it is present.
-fn month_at_once(has: bool, bytes: &[u8], table: &[u64]) -> u64
-    ensures { result ≡ month_word (lists.month_or (optional has bytes.now table.now)) }
+#[tactic(auto, unfolding(codes::specs::Lists::month_or, codes::specs::Lists::on_normal, chars::specs::Pick::pick))]
+fn month_at_once(month: Option<ChunksRef<'_>>) -> u64
+    ensures { result ≡ month_word (lists.month_or (optional_of month.entry)) }
 {
-    if has {
-        if is_one_normal(bytes, table) {
-            return codes::month_part(bytes);
+    match month {
+        Some(list) => {
+            if is_one_normal(list) {
+                return codes::month_part(list.bytes);
+            }
+            NOTHING
         }
-        return NOTHING;
+        None => 0,
     }
-    0
+}
+
+// The day of one that stands beside a month, if it is present.
+#[tactic(auto, unfolding(codes::specs::Lists::day_or, codes::specs::Lists::on_normal, chars::specs::Pick::pick))]
+fn day_beside(day: Option<ChunksRef<'_>>) -> u64
+    ensures { result ≡ day_part_word (lists.day_or (optional true [] []) (optional_of day.entry)) }
+{
+    match day {
+        Some(list) => {
+            if is_one_normal(list) {
+                return codes::day_part(list.bytes);
+            }
+            NOTHING
+        }
+        None => 0,
+    }
 }
 
 // The day of one, if it is present beside a month.
-fn day_at_once(has_month: bool, has: bool, bytes: &[u8], table: &[u64]) -> u64
-    ensures { result ≡ day_part_word (lists.day_or (optional has_month [] []) (optional has bytes.now table.now)) }
+#[tactic(auto, unfolding(codes::specs::Lists::day_or, chars::specs::Pick::pick))]
+fn day_at_once(month: Option<ChunksRef<'_>>, day: Option<ChunksRef<'_>>) -> u64
+    ensures { result ≡ day_part_word (lists.day_or (optional_of month.entry) (optional_of day.entry)) }
 {
-    if has_month {
-        if has {
-            if is_one_normal(bytes, table) {
-                return codes::day_part(bytes);
-            }
-            return NOTHING;
-        }
-        return 0;
+    match month {
+        Some(_) => day_beside(day),
+        None => 0,
     }
-    0
 }
 
 // What three fields say at once.
-fn three_at_once(
-    year: &[u8],
-    year_table: &[u64],
-    has_month: bool,
-    month: &[u8],
-    month_table: &[u64],
-    has_day: bool,
-    day: &[u8],
-    day_table: &[u64],
-) -> Words
-    ensures { result ≡ words_or (lists.list_three (three (lent year.now year_table.now) (optional has_month month.now month_table.now) (optional has_day day.now day_table.now))) }
+fn three_at_once(fields: ThreeFields<'_>) -> Words
+    ensures { result ≡ words_or (lists.list_three (three_of fields.entry)) }
 {
-    let y = year_at_once(year, year_table);
-    let m = month_at_once(has_month, month, month_table);
-    let d = day_at_once(has_month, has_day, day, day_table);
+    let y = year_at_once(fields.year);
+    let m = month_at_once(fields.month);
+    let d = day_at_once(fields.month, fields.day);
     if y == NOTHING {
         return codes::no_words();
     }
@@ -694,105 +612,31 @@ fn three_at_once(
     codes::at_word(y + m + d)
 }
 
-// Three fields by the way for all. A list that is not present is not looked at, whatever is passed for it; nor is a day list without a month list.
-fn any_fields(
-    year: &[u8],
-    year_table: &[u64],
-    has_month: bool,
-    month: &[u8],
-    month_table: &[u64],
-    has_day: bool,
-    day: &[u8],
-    day_table: &[u64],
-) -> ReadDate
-    ensures { result ≡ fieldset.three_fields (three (lent year.now year_table.now) (optional has_month month.now month_table.now) (optional has_day day.now day_table.now)) }
+// Three fields by the way for all. A day list without a month list is not looked at.
+#[tactic(auto, unfolding(reading_laws::specs::Fields::three_fields, reading_laws::specs::Field::on_clean))]
+fn any_fields(fields: ThreeFields<'_>) -> Result<Date, Refusal>
+    ensures { result ≡ fieldset.three_fields (three_of fields.entry) }
 {
-    match check_fields(
-        year,
-        year_table,
-        has_month,
-        month,
-        month_table,
-        has_day,
-        day,
-        day_table,
-    ) {
-        Checked::Clean => read_clean(
-            year,
-            year_table,
-            has_month,
-            month,
-            month_table,
-            has_day,
-            day,
-            day_table,
-        ),
-        Checked::Faulty(e) => ReadDate::Refused(e),
-    }
+    check_fields(fields)?;
+    read_clean(fields)
 }
 
 // The fields year, month and day, in words.
-pub fn three_words(
-    year: &[u8],
-    year_table: &[u64],
-    has_month: bool,
-    month: &[u8],
-    month_table: &[u64],
-    has_day: bool,
-    day: &[u8],
-    day_table: &[u64],
-) -> Words
-    ensures value { result ≡ words_of (fieldset.three_fields (three (lent year.now year_table.now) (optional has_month month.now month_table.now) (optional has_day day.now day_table.now))) }
-    ensures typed { Typed (fieldset.three_fields (three (lent year.now year_table.now) (optional has_month month.now month_table.now) (optional has_day day.now day_table.now))) }
+pub fn three_words(fields: ThreeFields<'_>) -> Words
+    ensures value { result ≡ words_of (fieldset.three_fields (three_of fields.entry)) }
+    ensures typed { Typed (fieldset.three_fields (three_of fields.entry)) }
 {
-    let w = three_at_once(
-        year,
-        year_table,
-        has_month,
-        month,
-        month_table,
-        has_day,
-        day,
-        day_table,
-    );
+    let w = three_at_once(fields);
     if w.last != NOTHING {
         return w;
     }
-    let read = any_fields(
-        year,
-        year_table,
-        has_month,
-        month,
-        month_table,
-        has_day,
-        day,
-        day_table,
-    );
+    let read = any_fields(fields);
     codes::pack(read)
 }
 
 // The same as a Date.
-pub fn parse_three_fields(
-    year: &[u8],
-    year_table: &[u64],
-    has_month: bool,
-    month: &[u8],
-    month_table: &[u64],
-    has_day: bool,
-    day: &[u8],
-    day_table: &[u64],
-) -> ReadDate
-    ensures { result ≡ fieldset.three_fields (three (lent year.now year_table.now) (optional has_month month.now month_table.now) (optional has_day day.now day_table.now)) }
+pub fn parse_three_fields(fields: ThreeFields<'_>) -> Result<Date, Refusal>
+    ensures { result ≡ fieldset.three_fields (three_of fields.entry) }
 {
-    let words = three_words(
-        year,
-        year_table,
-        has_month,
-        month,
-        month_table,
-        has_day,
-        day,
-        day_table,
-    );
-    codes::unpack(words)
+    codes::unpack(three_words(fields))
 }

@@ -2,10 +2,10 @@
 use Rattle.refusals.specs.declared.Refusal.{Refusal}
 use Rattle.dates.specs.declared.Datetime.{Datetime}
 use Rattle.dates.specs.Value.{from_datetime}
-use Rattle.refusals.specs.declared.ReadDate.{ReadDate}
-use Rattle.refusals.specs.declared.ReadDate.TheVariants.{Accepted, Refused}
+use Rattle.dates.specs.declared.Date.{Date}
+use Rattle.std.specs.Prelude.{Result, Ok, Err}
 
 -- a single date with no mark, or a refusal
-pub data Single : ReadDate → Type 0 where
-  one : (a : Datetime) → Single (Accepted (from_datetime a))
-  none : {e : Refusal} → Single (Refused e)
+pub data Single : Result Date Refusal → Type 0 where
+  one : (a : Datetime) → Single (Ok (from_datetime a))
+  none : {e : Refusal} → Single (Err e)

@@ -13,7 +13,7 @@ use scanner::Cursor;
 #[derive(Clone, Copy)]
 pub enum Kind {
     // The date range is open on both sides.
-    UndefinedRange,
+    UndefinedRange = 1,
     // The day is no day of a month, or not of its month.
     DayOutOfRange,
     // The month is not one of twelve.
@@ -82,13 +82,6 @@ pub struct Refusal {
     pub place: FileSpan,
 }
 
-// What a reader of dates answers: a Date, or why there is none.
-#[derive(Clone, Copy)]
-pub enum ReadDate {
-    Accepted(Date),
-    Refused(Refusal),
-}
-
 // A refusal while the formatted text is read, with its place in that text.
 #[derive(Clone, Copy)]
 pub struct TextRefusal {
@@ -117,34 +110,7 @@ pub fn panics() -> TextRefusal
 pub fn number(kind: Kind) -> u8
     ensures { result ≡ spec.number kind }
 {
-    match kind {
-        Kind::UndefinedRange => 1,
-        Kind::DayOutOfRange => 2,
-        Kind::MonthOutOfRange => 3,
-        Kind::InvalidNumber => 4,
-        Kind::MissingNumber => 5,
-        Kind::WrongNumberOfDigits => 6,
-        Kind::InvalidFormat => 7,
-        Kind::YearZeroCE => 8,
-        Kind::RustPanics => 9,
-        Kind::BadUtf8 => 10,
-        Kind::UnsupportedChar => 11,
-        Kind::NotStrict => 12,
-        Kind::NoRoom => 13,
-        Kind::BadFrame => 14,
-        Kind::BadChunks => 15,
-        Kind::TooLong => 16,
-        Kind::NotACalendarDate => 17,
-        Kind::BadPeriod => 18,
-        Kind::DuplicateEntry => 19,
-        Kind::ChronologyFull => 20,
-        Kind::UnknownEntry => 21,
-        Kind::BadTime => 22,
-        Kind::NotLevelOne => 23,
-        Kind::HasSeason => 24,
-        Kind::NoInstant => 25,
-        Kind::BadChronology => 26,
-    }
+    kind as u8
 }
 
 // The kind of a number; of numbers that are none of theirs, the last.

@@ -17,18 +17,14 @@ use Rattle.refusals.specs.Offset.{offset}
 use Rattle.refusals.specs.declared.FileSpan.{FileSpan}
 use Rattle.refusals.specs.declared.Refusal.{Refusal}
 use Rattle.refusals.specs.declared.TextRefusal.{TextRefusal}
-use Rattle.chunks.specs.declared.Checked.{Checked}
-use Rattle.chunks.specs.declared.Checked.TheVariants.{Clean, Faulty}
+use Rattle.dates.specs.declared.Day.{Day}
+use Rattle.dates.specs.declared.Month.{Month}
+use Rattle.std.specs.Prelude.{Option, None, Result, Ok, Err}
 use Rattle.chunks.specs.Chunks.{chunks_of, span_of}
 use Rattle.chunks.specs.Check.{checked}
 use Rattle.chunks.specs.Format.{formatted}
 use Rattle.chunks.specs.Upper.{uppercase}
 use Rattle.numbers.specs.Trim.{trim_end}
-use Rattle.dates.specs.declared.OptionMonth.{OptionMonth}
-use Rattle.dates.specs.declared.OptionMonth.TheVariants.{NoMonth}
-use Rattle.dates.specs.declared.OptionDay.{OptionDay}
-use Rattle.dates.specs.declared.OptionDay.TheVariants.{NoDay}
-use Rattle.dates.specs.declared.OptionTime.TheVariants.{NoTime}
 use Rattle.dates.specs.declared.Datetime.{Datetime}
 use Rattle.dates.specs.declared.DateValue.{DateValue}
 use Rattle.dates.specs.declared.DateValue.TheVariants.{At, After, Before, Between}
@@ -36,20 +32,12 @@ use Rattle.dates.specs.declared.Date.{Date}
 use Rattle.dates.specs.Calendar.{month_length}
 use Rattle.dates.specs.Value.{datetime, month, day}
 use Rattle.dates.proofs.Months.{some-day}
-use Rattle.points.specs.declared.ReadPoint.{ReadPoint}
-use Rattle.points.specs.declared.ReadPoint.TheVariants.{Point, Refused as NoPoint}
 use Rattle.points.specs.Point.{point}
 use Rattle.points.specs.Accepted.{Dated}
 use Rattle.points.proofs.Accepted.{accepted-date}
-use Rattle.xranges.specs.declared.ReadRange.{ReadRange}
-use Rattle.xranges.specs.declared.ReadRange.TheVariants.{Range, NoRange}
 use Rattle.xranges.specs.Range.{range_dates}
 use Rattle.xranges.specs.Accepted.{XRange, some_years, all_months, all_days}
 use Rattle.xranges.proofs.Accepted.{accepted-range}
-use Rattle.datefield.specs.declared.ReadValue.{ReadValue}
-use Rattle.datefield.specs.declared.ReadValue.TheVariants.{Read, NoValue}
-use Rattle.refusals.specs.declared.ReadDate.{ReadDate}
-use Rattle.refusals.specs.declared.ReadDate.TheVariants.{Accepted, Refused}
 use Rattle.datefield.specs.Text.{trimmed, unmarked, first_of, is_open}
 use Rattle.datefield.specs.Value.{moved, first_half, second_half, on_half, both_halves, halves, x_range, value, marked, trimmed_date, parse_text}
 use Rattle.reading_laws.specs.Field.{on_clean, parsed}
@@ -60,21 +48,21 @@ use Rattle.roundtrip_laws.specs.Letters.{NoByte, NoX}
 use Rattle.roundtrip_laws.proofs.Letters.{no-take, no-first, upper-not}
 
 -- what holds of every value that is read
-pub data Holds (P : DateValue → Type 0) : ReadValue → Type 0 where
-  holds : {v : DateValue} → P v → Holds P (Read v)
-  fails : {e : Refusal} → Holds P (NoValue e)
+pub data Holds (P : DateValue → Type 0) : Result DateValue Refusal → Type 0 where
+  holds : {v : DateValue} → P v → Holds P (Ok v)
+  fails : {e : Refusal} → Holds P (Err e)
 
-pub holds_of : {P Q : DateValue → Type 0} {r : ReadValue} → ((v : DateValue) → P v → Q v) → Holds P r → Holds Q r
+pub holds_of : {P Q : DateValue → Type 0} {r : Result DateValue Refusal} → ((v : DateValue) → P v → Q v) → Holds P r → Holds Q r
 holds_of f (holds {v} h) = holds (f v h)
 holds_of f fails = fails
 
-half-good : (t : List ℕ) (by : TextRefusal → Refusal) {go : Datetime → ReadValue} → ((d : Datetime) → Dated d → Holds AllDated (go d)) → Holds AllDated (on_half (moved (point t) by) go)
+half-good : (t : List ℕ) (by : TextRefusal → Refusal) {go : Datetime → Result DateValue Refusal} → ((d : Datetime) → Dated d → Holds AllDated (go d)) → Holds AllDated (on_half (moved (point t) by) go)
 unfolding on_half moved
 half-good t by {go} k = at (point t) refl
   where
-    at : (r : ReadPoint) → point t ≡ r → Holds AllDated (on_half (moved r by) go)
-    at (Point d) e = k d (accepted-date t e)
-    at (NoPoint f) e = fails
+    at : (r : Result Datetime TextRefusal) → point t ≡ r → Holds AllDated (on_half (moved r by) go)
+    at (Ok d) e = k d (accepted-date t e)
+    at (Err f) e = fails
 
 halves-good : (span : FileSpan) (s : List ℕ) (slash : ℕ) → Holds AllDated (halves span s slash)
 unfolding halves both_halves first_half second_half
@@ -86,14 +74,14 @@ halves-good span s slash =
     (λ _. by-test (Holds AllDated) (is_open v) (λ _. half-good u _ λ a h. holds {v = After a} h) λ _. half-good u _ λ a h. half-good v _ λ b k. holds {v = Between a b} (h, k))
 
 -- a date of a year without a sign, and no time
-pub dated : (y : ℕ) (m : OptionMonth) (d : OptionDay) → y < 10000 → PartsIn (pos y) m d → Dated (datetime (pos y) m d NoTime)
+pub dated : (y : ℕ) (m : Option Month) (d : Option Day) → y < 10000 → PartsIn (pos y) m d → Dated (datetime (pos y) m d None)
 unfolding has_bad_time bad_time
 dated y m d h p = record { year_in = h; parts_in = p; time_in = refl; unseasoned = refl }
 
 -- an X range
 range-known : {a b : Datetime} → XRange a b → Known (Between a b)
-range-known (some_years {y} {z} h k) = inl (dated y NoMonth NoDay h tt, dated z NoMonth NoDay k tt)
-range-known (all_months {y} h) = inl (dated y (month 0) NoDay h (lit< tt), dated y (month 11) NoDay h (lit< tt))
+range-known (some_years {y} {z} h k) = inl (dated y None None h tt, dated z None None k tt)
+range-known (all_months {y} h) = inl (dated y (month 0) None h (lit< tt), dated y (month 11) None h (lit< tt))
 range-known (all_days {y} {m} h l) =
     elim (dec_lt (month_length m (pos y)) 31) [
       | yes n ↦ inr (days_xx y m h l n)
@@ -104,13 +92,13 @@ range-good : (span : FileSpan) (s : List ℕ) → Holds Known (x_range span (ran
 unfolding x_range
 range-good span s = at (range_dates s) refl
   where
-    at : (r : ReadRange) → range_dates s ≡ r → Holds Known (x_range span r)
-    at (Range a b) e = holds (range-known (accepted-range s e))
-    at (NoRange f) e = fails
+    at : (r : Result (Datetime × Datetime) TextRefusal) → range_dates s ≡ r → Holds Known (x_range span r)
+    at (Ok (a, b)) e = holds (range-known (accepted-range s e))
+    at (Err f) e = fails
 
 -- a value; one whose text has no X is no X range
 module _ (span : FileSpan) (s : List ℕ) where
-  points-good : Holds AllDated (pick (ltb (first_of 0x2F s) (length s)) (halves span s (first_of 0x2F s)) (on_half (moved (point s) λ e. offset e span.0) λ d. Read (At d)))
+  points-good : Holds AllDated (pick (ltb (first_of 0x2F s) (length s)) (halves span s (first_of 0x2F s)) (on_half (moved (point s) λ e. offset e span.0) λ d. Ok (At d)))
   points-good = by-test (Holds AllDated) _ (λ _. halves-good span s (first_of 0x2F s)) λ _. half-good s _ λ a h. holds {v = At a} h
 
   pub of-x : (P : DateValue → Type 0) → Holds P (x_range span (range_dates s)) → ((v : DateValue) → AllDated v → P v) → Holds P (value span s)
@@ -125,26 +113,26 @@ module _ (span : FileSpan) (s : List ℕ) where
   value-no-x n = rw (no-first s n) points-good
 
 -- the same of a Date
-pub data Fine (P : DateValue → Type 0) : ReadDate → Type 0 where
-  fine : {d : Date} → P d.value → Fine P (Accepted d)
-  refused : {e : Refusal} → Fine P (Refused e)
+pub data Fine (P : DateValue → Type 0) : Result Date Refusal → Type 0 where
+  fine : {d : Date} → P d.value → Fine P (Ok d)
+  refused : {e : Refusal} → Fine P (Err e)
 
 module _ {P : DateValue → Type 0} where
-  marked-fine : (u a : Bool) {r : ReadValue} → Holds P r → Fine P (marked u a r)
+  marked-fine : (u a : Bool) {r : Result DateValue Refusal} → Holds P r → Fine P (marked u a r)
   unfolding marked
   marked-fine u a (holds h) = fine h
   marked-fine u a fails = refused
 
-  clean-fine : (c : Checked) {r : ReadDate} → Fine P r → Fine P (on_clean c r)
+  clean-fine : (c : Result (Unit {0}) Refusal) {r : Result Date Refusal} → Fine P r → Fine P (on_clean c r)
   unfolding on_clean
-  clean-fine Clean f = f
-  clean-fine (Faulty e) f = refused
+  clean-fine (Ok tt) f = f
+  clean-fine (Err e) f = refused
 
-  of-fine : {d : Date} → Fine P (Accepted d) → P d.value
+  of-fine : {d : Date} → Fine P (Ok d) → P d.value
   of-fine (fine h) = h
 
   -- what holds of every value of a text's upper case, trimmed and without its mark, holds of an accepted Date
-  pub of-accepted : (b table : List ℕ) {d : Date} → ((span : FileSpan) → Holds P (value span (unmarked (trimmed (uppercase (formatted b table)))))) → parsed b table ≡ Accepted d → P d.value
+  pub of-accepted : (b table : List ℕ) {d : Date} → ((span : FileSpan) → Holds P (value span (unmarked (trimmed (uppercase (formatted b table)))))) → parsed b table ≡ Ok d → P d.value
   unfolding parsed parse_text trimmed_date
   of-accepted b table h e = of-fine (subst (Fine P) e (clean-fine (checked b table) (marked-fine _ _ (h (span_of (chunks_of table))))))
 
@@ -157,7 +145,7 @@ module _ (c : ℕ) (low : 0x41 ≤ c) (high : c ≤ 0x5A) (no-s : c ≡ 0x53 →
       let n = no-take (trim_end u) {s = u} (omega arith) (upper-not c low high no-s s h.0 h.1) in
       by-test (NoByte c) _ (λ _. no-take (length (take (trim_end u) u) - 1) (omega arith) n) (λ _. n)
 
-end_in : {d : Datetime} → Dated d → d.time ≡ NoTime → EndIn d
+end_in : {d : Datetime} → Dated d → d.time ≡ None → EndIn d
 end_in w t = record { year_in = w.year_in; parts_in = w.parts_in; untimed = t; unseasoned = w.unseasoned }
 
 -- without a time it is of the domain
@@ -168,15 +156,15 @@ in-domain (Before a) h t = end_in h t
 in-domain (Between a b) h t = (end_in h.0 t.0, end_in h.1 t.1)
 
 -- an accepted text gives dates of the calendar, whatever their time, or such a range
-pub accepted-known : (b table : List ℕ) {d : Date} → parsed b table ≡ Accepted d → Known d.value
+pub accepted-known : (b table : List ℕ) {d : Date} → parsed b table ≡ Ok d → Known d.value
 accepted-known b table e = of-accepted {P = Known} b table (λ span. value-good span _) e
 
 -- without an X in it no such range
-pub no_x : (b table : List ℕ) {d : Date} → parsed b table ≡ Accepted d → NoX (formatted b table) → AllDated d.value
+pub no_x : (b table : List ℕ) {d : Date} → parsed b table ≡ Ok d → NoX (formatted b table) → AllDated d.value
 no_x b table e h =
     let n = no-letter 0x58 (lit≤ tt) (lit≤ tt) (λ (z : ◌≡◌ {A = ℕ} 0x58 0x53). omega arith) (formatted b table) h in
     of-accepted {P = AllDated} b table (λ span. value-no-x span _ n) e
 
 -- so a Date of the domain, if it has no time, or such a range
-pub accepted-in : (b table : List ℕ) {d : Date} → parsed b table ≡ Accepted d → Untimed d.value → InDomain d.value ⊎ ShortMonthRange d.value
+pub accepted-in : (b table : List ℕ) {d : Date} → parsed b table ≡ Ok d → Untimed d.value → InDomain d.value ⊎ ShortMonthRange d.value
 accepted-in b table {d} e t = ⊎_elim (λ h. inl (in-domain d.value h t)) inr (accepted-known b table e)

@@ -10,22 +10,19 @@ use native.Mathlib.Omega.{arith}
 use lib.Dec.{lit≤}
 use lib.IntN.{pos}
 use Rattle.refusals.specs.declared.FileSpan.{FileSpan}
-use Rattle.chunks.specs.declared.Checked.TheVariants.{Clean}
+use Rattle.dates.specs.declared.Day.{Day}
+use Rattle.refusals.specs.declared.Refusal.{Refusal}
+use Rattle.std.specs.Prelude.{Option, Some, None, Result, Ok}
 use Rattle.chunks.specs.Chunks.{chunks_of, span_of}
 use Rattle.chunks.specs.Check.{checked}
 use Rattle.chunks.specs.Format.{formatted}
 use Rattle.chunks.specs.Upper.{uppercase}
-use Rattle.dates.specs.declared.OptionDay.{OptionDay}
-use Rattle.dates.specs.declared.OptionDay.TheVariants.{NoDay, SomeDay}
 use Rattle.dates.specs.declared.DateValue.{DateValue}
 use Rattle.dates.specs.declared.DateValue.TheVariants.{At, After, Before, Between}
 use Rattle.dates.specs.declared.Date.{Date}
 use Rattle.dates.specs.Calendar.{month_length}
 use Rattle.dates.specs.Value.{date}
 use Rattle.points.proofs.Back.{two, two_digits, three, four, four_digits}
-use Rattle.datefield.specs.declared.ReadValue.TheVariants.{Read}
-use Rattle.refusals.specs.declared.ReadDate.{ReadDate}
-use Rattle.refusals.specs.declared.ReadDate.TheVariants.{Accepted}
 use Rattle.datefield.specs.Value.{moved, on_half, value, marked, parse_text}
 use Rattle.strict.specs.Digits.{digits}
 use Rattle.strict.specs.Grammar.{field, last_day, Point, Unknown, dd_xx, ddd_x, dddd_XX, dddd_XX_XX, Value, alone, between, after, before, unknown, Mark, Text, text}
@@ -82,11 +79,11 @@ module _ (span : FileSpan) where
   value_read (unknown x) = unknown-value span x
 
 -- what both readers say of a text: the same Date, or, in a month under 31 days, two that differ in the end's day
-abbrev pub Both : List ℕ → Date → ReadDate → Type 0
-Both s d r = (r ≡ Accepted d) ⊎ ((e : Date) × ShortText s d e × (r ≡ Accepted e))
+abbrev pub Both : List ℕ → Date → Result Date Refusal → Type 0
+Both s d r = (r ≡ Ok d) ⊎ ((e : Date) × ShortText s d e × (r ≡ Ok e))
 
 module _ (span : FileSpan) {s t : List ℕ} {u a : Bool} (k : ValueText s) (m : Mark t u a) where
-  as_read : {w : DateValue} → value span s ≡ Read w → parse_text span (s ++ t) ≡ Accepted (date w u a)
+  as_read : {w : DateValue} → value span s ≡ Ok w → parse_text span (s ++ t) ≡ Ok (date w u a)
   unfolding marked
   as_read e = text-marked span k m ∙ rw e
 
@@ -102,12 +99,12 @@ text-upper : {s : List ℕ} {d : Date} → Text s d → uppercase s ≡ s
 text-upper (text v m) = clear-upper (text-clear (value-text v) m)
 
 -- a list without a fault is read as its text
-clean-parsed : (b table : List ℕ) {d : Date} → checked b table ≡ Clean → Text (formatted b table) d → parsed b table ≡ parse_text (span_of (chunks_of table)) (formatted b table)
+clean-parsed : (b table : List ℕ) {d : Date} → checked b table ≡ (Ok tt) → Text (formatted b table) d → parsed b table ≡ parse_text (span_of (chunks_of table)) (formatted b table)
 unfolding parsed on_clean
 clean-parsed b table c t = rw (c, text-upper t)
 
 -- for every chunk list: what the strict reader accepts, the ported reader accepts with the same Date, or with the 31st as its end
-pub agrees : (b table : List ℕ) {d : Date} → parsed_strict b table ≡ Accepted d → Both (formatted b table) d (parsed b table)
+pub agrees : (b table : List ℕ) {d : Date} → parsed_strict b table ≡ Ok d → Both (formatted b table) d (parsed b table)
 agrees b table {d} e =
     let s = formatted b table in
     let span = span_of (chunks_of table) in
@@ -115,9 +112,9 @@ agrees b table {d} e =
     subst (Both s d) (sym (clean-parsed b table p.0 p.1)) (text-read span p.1)
 
 -- the two Dates of such a text are not the same
-day_of : OptionDay → ℕ
-day_of NoDay = 0
-day_of (SomeDay d) = d.0
+day_of : Option Day → ℕ
+day_of None = 0
+day_of (Some d) = d.0
 
 end_day : DateValue → ℕ
 end_day (At a) = 0
@@ -134,12 +131,12 @@ short-derived : {s : List ℕ} {d e : Date} → ShortText s d e → Text s d
 unfolding last_day
 short-derived (short_text (dddd_mm_XX n h f k) mark) = text (unknown (Grammar.dddd_mm_XX n h f)) mark
 
-short-read : (span : FileSpan) {s : List ℕ} {d e : Date} → ShortText s d e → parse_text span s ≡ Accepted e
+short-read : (span : FileSpan) {s : List ℕ} {d e : Date} → ShortText s d e → parse_text span s ≡ Ok e
 short-read span (short_text (dddd_mm_XX n h (field m l) k) mark) =
     as_read span (unknown-text (Grammar.dddd_mm_XX n h (field m l))) mark (days-said span n m h l)
 
 -- a list without a fault whose text is such a one is accepted by both readers, by each with its own Date
-pub short-part : (b table : List ℕ) {d e : Date} → checked b table ≡ Clean → ShortText (formatted b table) d e → (parsed_strict b table ≡ Accepted d) × (parsed b table ≡ Accepted e)
+pub short-part : (b table : List ℕ) {d e : Date} → checked b table ≡ (Ok tt) → ShortText (formatted b table) d e → (parsed_strict b table ≡ Ok d) × (parsed b table ≡ Ok e)
 short-part b table {d} c t =
     let g = short-derived t in
     ((strict-accepts b table d).1 (c, g), clean-parsed b table c g ∙ short-read (span_of (chunks_of table)) t)

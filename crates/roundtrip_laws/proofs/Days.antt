@@ -26,26 +26,20 @@ use Rattle.scanner.specs.Class.{in_class}
 use Rattle.scanner.specs.Scan.{len_in, match_len, eat_while, done_at, part}
 use Rattle.scanner.proofs.Laws.{kept, at_least, inside-some}
 use Rattle.numbers.proofs.Reading.{bytes, value as number, AreDigits}
-use Rattle.numbers.specs.declared.ParsedNumber.{ParsedNumber}
-use Rattle.numbers.specs.declared.ParsedNumber.TheVariants.{Value, NoValue}
+use Rattle.dates.specs.declared.Day.{Day}
+use Rattle.std.specs.Prelude.{Option, Some, None, Result, Ok, Err}
 use Rattle.numbers.specs.Parse.{parse}
 use Rattle.points.proofs.Back.{two, four}
 use Rattle.refusals.specs.declared.FileSpan.{FileSpan}
 use Rattle.refusals.specs.declared.TextRefusal.{TextRefusal}
 use Rattle.chunks.specs.Format.{formatted}
 use Rattle.chunks.specs.Upper.{uppercase}
-use Rattle.dates.specs.declared.OptionDay.{OptionDay}
-use Rattle.dates.specs.declared.OptionDay.TheVariants.{NoDay, SomeDay}
-use Rattle.dates.specs.declared.OptionTime.TheVariants.{NoTime}
 use Rattle.dates.specs.declared.Datetime.{Datetime}
 use Rattle.dates.specs.declared.DateValue.{DateValue}
 use Rattle.dates.specs.declared.DateValue.TheVariants.{At, After, Before, Between}
 use Rattle.dates.specs.declared.Date.{Date}
 use Rattle.dates.specs.Value.{datetime, month as stored, day}
-use Rattle.xranges.specs.declared.ReadRange.{ReadRange}
-use Rattle.xranges.specs.declared.ReadRange.TheVariants.{Range, NoRange}
 use Rattle.xranges.specs.Range.{hyphen_run, hyphen_from, get_hyphen, on_hyphen, on_value, years, months, days, second_run, second_at, behind_months, end_of_days, day_run, behind_month, month_run, month, months_run, behind_year, year_run, digit_run, range_from, range_dates}
-use Rattle.refusals.specs.declared.ReadDate.TheVariants.{Accepted}
 use Rattle.datefield.specs.Text.{trimmed, unmarked}
 use Rattle.datefield.specs.Value.{x_range, value}
 use Rattle.reading_laws.specs.Field.{parsed}
@@ -126,7 +120,7 @@ digits_of (more c {t} e r) =
       ap (λ (l : List ℕ). l ++ t) (encode_one c (omega (arith, d.1, d.2))) ∙ ap (λ (x : ℕ). x ∷ t) d.2 ∙ ap (λ (l : List ℕ). (48 + d.0) ∷ l) q.2,
     )
 
-four-of : (ds : List ℕ) (y : ℕ) → AreDigits ds → length (bytes ds) ≡ 4 → parse 9999 (bytes ds) ≡ Value y → bytes ds ≡ bytes (four y)
+four-of : (ds : List ℕ) (y : ℕ) → AreDigits ds → length (bytes ds) ≡ 4 → parse 9999 (bytes ds) ≡ Some y → bytes ds ≡ bytes (four y)
 four-of [] y h l e = absurd (omega arith)
 four-of (a ∷ []) y h l e = absurd (omega arith)
 four-of (a ∷ b ∷ []) y h l e = absurd (omega arith)
@@ -145,7 +139,7 @@ four-of (a ∷ b ∷ c ∷ d ∷ []) y h l e =
     rw (ea, eb, ec, ed)
 four-of (a ∷ b ∷ c ∷ d ∷ x ∷ ds) y h l e = absurd (omega arith)
 
-two-of : (ds : List ℕ) (n : ℕ) → AreDigits ds → length (bytes ds) ≡ 2 → parse 255 (bytes ds) ≡ Value n → bytes ds ≡ bytes (two n)
+two-of : (ds : List ℕ) (n : ℕ) → AreDigits ds → length (bytes ds) ≡ 2 → parse 255 (bytes ds) ≡ Some n → bytes ds ≡ bytes (two n)
 two-of [] n h l e = absurd (omega arith)
 two-of (a ∷ []) n h l e = absurd (omega arith)
 two-of (a ∷ b ∷ []) n h l e =
@@ -158,10 +152,10 @@ two-of (a ∷ b ∷ []) n h l e =
     rw (ea, eb)
 two-of (a ∷ b ∷ x ∷ ds) n h l e = absurd (omega arith)
 
-four_digits : {w : List ℕ} (y : ℕ) → ClassRun AsciiDigit w → length w ≡ 4 → parse 9999 w ≡ Value y → w ≡ bytes (four y)
+four_digits : {w : List ℕ} (y : ℕ) → ClassRun AsciiDigit w → length w ≡ 4 → parse 9999 w ≡ Some y → w ≡ bytes (four y)
 four_digits y r l e = let q = digits_of r in q.2 ∙ four-of q.0 y q.1 (sym (ap length q.2) ∙ l) (sym (ap (parse 9999) q.2) ∙ e)
 
-two_digits : {w : List ℕ} (n : ℕ) → ClassRun AsciiDigit w → length w ≡ 2 → parse 255 w ≡ Value n → w ≡ bytes (two n)
+two_digits : {w : List ℕ} (n : ℕ) → ClassRun AsciiDigit w → length w ≡ 2 → parse 255 w ≡ Some n → w ≡ bytes (two n)
 two_digits n r l e = let q = digits_of r in q.2 ∙ two-of q.0 n q.1 (sym (ap length q.2) ∙ l) (sym (ap (parse 255) q.2) ∙ e)
 
 -- X and X
@@ -183,17 +177,17 @@ joined s a b c h l = let e : b + (c - b) ≡ c = omega arith in ap (part s a) (s
 
 -- ---- the reader
 
-data Shaped (s : List ℕ) : ReadRange → Type 0 where
-  of_days : {y m : ℕ} → DaysText s y m → Shaped s (Range (datetime (pos y) (stored m) (day 0) NoTime) (datetime (pos y) (stored m) (day 30) NoTime))
-  of_others : {a b : Datetime} → a.day ≡ NoDay → Shaped s (Range a b)
-  refused : {e : TextRefusal} → Shaped s (NoRange e)
+data Shaped (s : List ℕ) : Result (Datetime × Datetime) TextRefusal → Type 0 where
+  of_days : {y m : ℕ} → DaysText s y m → Shaped s (Ok (datetime (pos y) (stored m) (day 0) None, datetime (pos y) (stored m) (day 30) None))
+  of_others : {a b : Datetime} → a.day ≡ None → Shaped s (Ok (a, b))
+  refused : {e : TextRefusal} → Shaped s (Err e)
 
-on_value_lem : {s : List ℕ} (r : ParsedNumber) {go : ℕ → ReadRange} → ((v : ℕ) → r ≡ Value v → Shaped s (go v)) → Shaped s (on_value r go)
+on_value_lem : {s : List ℕ} (r : Option ℕ) {go : ℕ → Result (Datetime × Datetime) TextRefusal} → ((v : ℕ) → r ≡ Some v → Shaped s (go v)) → Shaped s (on_value r go)
 unfolding on_value
-on_value_lem (Value v) g = g v refl
-on_value_lem NoValue g = refused
+on_value_lem (Some v) g = g v refl
+on_value_lem None g = refused
 
-behind-hyphen : (s : List ℕ) (at : ℕ) {go : ℕ → ReadRange} → ((c : ℕ) → at ≤ c → Hyphens (part s at c) → Shaped s (go c)) → Shaped s (on_hyphen (get_hyphen s at) go)
+behind-hyphen : (s : List ℕ) (at : ℕ) {go : ℕ → Result (Datetime × Datetime) TextRefusal} → ((c : ℕ) → at ≤ c → Hyphens (part s at c) → Shaped s (go c)) → Shaped s (on_hyphen (get_hyphen s at) go)
 unfolding get_hyphen hyphen_from hyphen_run on_hyphen
 behind-hyphen s at {go} g =
     let a = eat_while Whitespace s at in
@@ -303,9 +297,9 @@ FromDays s v = ShortMonthRange v → (y : ℕ) × (m : ℕ) × DaysText s y m ×
 undated : {v : DateValue} → AllDated v → ShortMonthRange v → ⊥
 undated w (days_xx y m h l n) = omega (arith, w.1.parts_in.1)
 
-day_there : OptionDay → ℕ
-day_there NoDay = 0
-day_there (SomeDay d) = 1
+day_there : Option Day → ℕ
+day_there None = 0
+day_there (Some d) = 1
 
 start_day : DateValue → ℕ
 start_day (At a) = 0
@@ -313,11 +307,11 @@ start_day (After a) = 0
 start_day (Before a) = 0
 start_day (Between a b) = day_there a.day
 
-has-day : {v : DateValue} {a b : Datetime} → v ≡ Between a b → a.day ≡ NoDay → ShortMonthRange v → ⊥
+has-day : {v : DateValue} {a b : Datetime} → v ≡ Between a b → a.day ≡ None → ShortMonthRange v → ⊥
 unfolding start_day day_there
 has-day e n (days_xx y m h l k) = let z : ◌≡◌ {A = ℕ} 1 0 = ap start_day e ∙ ap day_there n in omega arith
 
-shaped-days : {s : List ℕ} {r : ReadRange} (span : FileSpan) → Shaped s r → Holds (FromDays s) (x_range span r)
+shaped-days : {s : List ℕ} {r : Result (Datetime × Datetime) TextRefusal} (span : FileSpan) → Shaped s r → Holds (FromDays s) (x_range span r)
 unfolding x_range
 shaped-days span (of_days {y} {m} t) = holds (λ _. (y, m, t, refl))
 shaped-days span (of_others n) = holds (λ k. absurd (has-day refl n k))
@@ -327,5 +321,5 @@ value-days : (span : FileSpan) (s : List ℕ) → Holds (FromDays s) (value span
 value-days span s = of-x span s (FromDays s) (shaped-days span (range-shaped s)) (λ v w k. absurd (undated w k))
 
 -- the exception arises from such texts alone: what is left of the upper case when white space at its end and a mark are taken off
-pub from-days : (b table : List ℕ) {d : Date} → parsed b table ≡ Accepted d → ShortMonthRange d.value → (y : ℕ) × (m : ℕ) × DaysText (unmarked (trimmed (uppercase (formatted b table)))) y m × (d.value ≡ days_upto y m 30)
+pub from-days : (b table : List ℕ) {d : Date} → parsed b table ≡ Ok d → ShortMonthRange d.value → (y : ℕ) × (m : ℕ) × DaysText (unmarked (trimmed (uppercase (formatted b table)))) y m × (d.value ≡ days_upto y m 30)
 from-days b table e k = of-accepted {P = FromDays (unmarked (trimmed (uppercase (formatted b table))))} b table (λ span. value-days span _) e k

@@ -6,10 +6,9 @@ use mathlib.Core.List.{List, [], ◌∷◌, ◌++◌, append_assoc}
 use Prim.Native.Nat.{ℕ, ◌+◌}
 use native.Mathlib.Omega.{arith}
 use lib.IntN.{ℤ, pos, negsuc}
-use Rattle.dates.specs.declared.OptionMonth.{OptionMonth}
-use Rattle.dates.specs.declared.OptionMonth.TheVariants.{NoMonth, SomeMonth}
-use Rattle.dates.specs.declared.OptionDay.{OptionDay}
-use Rattle.dates.specs.declared.OptionDay.TheVariants.{NoDay, SomeDay}
+use Rattle.dates.specs.declared.Day.{Day}
+use Rattle.dates.specs.declared.Month.{Month}
+use Rattle.std.specs.Prelude.{Option, Some, None}
 use Rattle.dates.specs.declared.Datetime.{Datetime}
 use Rattle.dates.specs.declared.DateValue.{DateValue}
 use Rattle.dates.specs.declared.DateValue.TheVariants.{At, After, Before, Between}
@@ -17,7 +16,6 @@ use Rattle.dates.specs.declared.Date.{Date}
 use Rattle.dates.specs.Domain.{EndIn}
 use Rattle.numbers.proofs.Reading.{bytes}
 use Rattle.points.proofs.Back.{two, year_bytes, part_bytes, day_bytes, tail_bytes}
-use Rattle.strict.specs.declared.Matched.TheVariants.{Strict}
 use Rattle.strict.specs.Canonical.{year_text, part_text, day_text, month_text, canonical}
 use Rattle.strict.specs.Grammar.{Point, Value, alone, between, after, before, Mark, no_mark, uncertain, approximate, both, text}
 use Rattle.strict.specs.Matcher.{strict}
@@ -41,15 +39,15 @@ part_same : (n : ℕ) → part_bytes n ≡ part_text n
 unfolding part_text
 part_same n = ap (λ (k : ℕ). 45 ∷ bytes (two k)) (plus_one n)
 
-day-same : (d : OptionDay) → day_bytes d ≡ day_text d
+day-same : (d : Option Day) → day_bytes d ≡ day_text d
 unfolding day_text
-day-same NoDay = refl
-day-same (SomeDay d) = part_same d.0
+day-same None = refl
+day-same (Some d) = part_same d.0
 
-tail-same : (m : OptionMonth) (d : OptionDay) → tail_bytes m d ≡ month_text m d
+tail-same : (m : Option Month) (d : Option Day) → tail_bytes m d ≡ month_text m d
 unfolding month_text
-tail-same NoMonth d = refl
-tail-same (SomeMonth m) d = ap (λ (u : List ℕ). u ++ day_bytes d) (part_same m.0) ∙ ap (λ (u : List ℕ). part_text m.0 ++ u) (day-same d)
+tail-same None d = refl
+tail-same (Some m) d = ap (λ (u : List ℕ). u ++ day_bytes d) (part_same m.0) ∙ ap (λ (u : List ℕ). part_text m.0 ++ u) (day-same d)
 
 pub canonical-is : (d : Datetime) → EndIn d → datetime_text d ≡ canonical d
 unfolding canonical
@@ -75,6 +73,6 @@ mark-derived true false = uncertain
 mark-derived false false = no_mark
 
 -- the strict matcher gives the Date
-pub matched : (d : Date) → InDomain d.value → strict (date_text d) ≡ Strict d
+pub matched : (d : Date) → InDomain d.value → strict (date_text d) ≡ Some d
 unfolding date_text
 matched d w = (exact (date_text d) d).1 (text (value-derived d.value w) (mark-derived d.uncertain d.approximate))

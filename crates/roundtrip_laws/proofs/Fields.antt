@@ -13,7 +13,8 @@ use lib.ListN.{length}
 use lib.Seq.{drop-length, take-length}
 use Rattle.chars.specs.Pick.{pick}
 use Rattle.scanner.specs.declared.Class.TheVariants.{Whitespace, PlainWhitespace, AsciiDigit, Separator, Is}
-use Rattle.scanner.specs.declared.EatIf.TheVariants.{Kept}
+use Rattle.std.specs.Prelude.{Option, None, Ok}
+use Rattle.scanner.specs.declared.Cursor.{Cursor}
 use Rattle.scanner.specs.Class.{in_class}
 use Rattle.scanner.specs.Scan.{eat_while, eat_text, begins, done_at, part}
 use Rattle.scanner.proofs.Laws.{not_white}
@@ -23,13 +24,8 @@ use Rattle.refusals.specs.declared.FileSpan.{FileSpan}
 use Rattle.numbers.specs.declared.Digits.TheVariants.{OneOrTwo}
 use Rattle.numbers.specs.Number.{admits, cursor}
 use Rattle.numbers.proofs.Reading.{bytes, value, AreDigits, length-bytes, end, digit-hyphen, hyphen-hyphen, front-ate, front_kept, digit-white, number_read}
-use Rattle.dates.specs.declared.OptionDay.TheVariants.{NoDay}
 use Rattle.numbers.specs.Trim.{trim}
 use Rattle.numbers.proofs.Trims.{Plain, plain-trim}
-use Rattle.fields.specs.declared.ReadYear.TheVariants.{Year}
-use Rattle.fields.specs.declared.ReadMonth.TheVariants.{MonthRead}
-use Rattle.fields.specs.declared.ReadDay.TheVariants.{DayRead}
-use Rattle.fields.specs.declared.ReadDayField.TheVariants.{Given}
 use Rattle.fields.specs.Year.{has_sign, signed_by, on_past, negative_era, era_at, parse_era_marker, ended, with_era, behind_digits, on_number, year_digits, year_from, behind_sign, year_at, get_year}
 use Rattle.fields.specs.Names.{stored_month}
 use Rattle.fields.specs.Month.{month_of, month_field}
@@ -41,16 +37,16 @@ pub behind-digits : (ds : List ℕ) {s t : List ℕ} {i : ℕ} → From s i (byt
 behind-digits ds {s} {t} {i} f = subst (λ (n : ℕ). From s (i + n) t) (length-bytes ds) (from-behind (bytes ds) f)
 
 -- no era at the end of the text
-same : (b : Bool) → pick b Kept Kept ≡ Kept
+same : (b : Bool) → ◌≡◌ {A = Option Cursor} (pick b None None) None
 unfolding pick
 same true = refl
 same false = refl
 
-pub no_text : (x : ℕ) (t : List ℕ) {s : List ℕ} {i : ℕ} → From s i [] → eat_text (x ∷ t) s i ≡ Kept
+pub no_text : (x : ℕ) (t : List ℕ) {s : List ℕ} {i : ℕ} → From s i [] → eat_text (x ∷ t) s i ≡ None
 unfolding eat_text begins pick
 no_text x t {s} {i} f = rw f.is (same (leb i (length s)))
 
-pub no-era : (idx n : ℕ) (sign : _) {s : List ℕ} {i : ℕ} → From s i [] → behind_digits s idx i sign n ≡ Year (signed_by sign n)
+pub no-era : (idx n : ℕ) (sign : _) {s : List ℕ} {i : ℕ} → From s i [] → behind_digits s idx i sign n ≡ Ok (signed_by sign n)
 unfolding behind_digits with_era ended done_at parse_era_marker era_at negative_era on_past pick
 no-era idx n sign {s} {i} f =
     rw (front-end f Whitespace, no_text 65 (68 ∷ []) f, no_text 67 (69 ∷ []) f, no_text 66 (67 ∷ []) f, le-leb (length s) i (front-past f))
@@ -70,7 +66,7 @@ digits-read d ds idx sign {s} {t} {i} a l h b f =
     )
 
 -- and nothing behind them
-alone-read : (d : ℕ) (ds : List ℕ) (idx : ℕ) (sign : _) {s : List ℕ} {i : ℕ} → AreDigits (d ∷ ds) → length ds < 4 → value 0 (d ∷ ds) < 10000 → From s i (bytes (d ∷ ds)) → behind_sign s idx i sign ≡ Year (signed_by sign (value 0 (d ∷ ds)))
+alone-read : (d : ℕ) (ds : List ℕ) (idx : ℕ) (sign : _) {s : List ℕ} {i : ℕ} → AreDigits (d ∷ ds) → length ds < 4 → value 0 (d ∷ ds) < 10000 → From s i (bytes (d ∷ ds)) → behind_sign s idx i sign ≡ Ok (signed_by sign (value 0 (d ∷ ds)))
 alone-read d ds idx sign {s} {i} a l h f =
     let u = bytes (d ∷ ds) in
     let g : From s i (u ++ []) = record { is = f.is ∙ sym (append-nil u) } in
@@ -83,7 +79,7 @@ hyphen-white : {s t : List ℕ} {i : ℕ} → From s i (0x2D ∷ t) → eat_whil
 hyphen-white f = front-stop f Whitespace (lit< tt) (not_white 0x2D (lit< tt) (lit< tt))
 
 -- a text that begins with a digit has no sign
-pub no_sign : (d : ℕ) (t : List ℕ) {y : ℤ} → d < 10 → ((sign : _) → has_sign sign ≡ false → ((n : ℕ) → signed_by sign n ≡ pos n) → behind_sign ((48 + d) ∷ t) 0 0 sign ≡ Year y) → get_year ((48 + d) ∷ t) ≡ Year y
+pub no_sign : (d : ℕ) (t : List ℕ) {y : ℤ} → d < 10 → ((sign : _) → has_sign sign ≡ false → ((n : ℕ) → signed_by sign n ≡ pos n) → behind_sign ((48 + d) ∷ t) 0 0 sign ≡ Ok y) → get_year ((48 + d) ∷ t) ≡ Ok y
 unfolding get_year year_at on_past
 no_sign d t h g =
     let f = from_start ((48 + d) ∷ t) in
@@ -95,24 +91,24 @@ no_sign d t h g =
     (g _ refl (λ n. refl))
 
 -- one to four digits alone
-pub digits-field : (d : ℕ) (ds : List ℕ) → AreDigits (d ∷ ds) → length ds < 4 → value 0 (d ∷ ds) < 10000 → get_year (bytes (d ∷ ds)) ≡ Year (pos (value 0 (d ∷ ds)))
+pub digits-field : (d : ℕ) (ds : List ℕ) → AreDigits (d ∷ ds) → length ds < 4 → value 0 (d ∷ ds) < 10000 → get_year (bytes (d ∷ ds)) ≡ Ok (pos (value 0 (d ∷ ds)))
 digits-field d ds a l h =
     no_sign d (bytes ds) a.0 λ sign _ p.
-    alone-read d ds 0 sign a l h (from_start (bytes (d ∷ ds))) ∙ ap Year (p (value 0 (d ∷ ds)))
+    alone-read d ds 0 sign a l h (from_start (bytes (d ∷ ds))) ∙ ap Ok (p (value 0 (d ∷ ds)))
 
-pub year-field : (y : ℤ) → nat_abs y < 10000 → get_year (year_bytes y) ≡ Year y
+pub year-field : (y : ℤ) → nat_abs y < 10000 → get_year (year_bytes y) ≡ Ok y
 unfolding get_year year_at on_past
 year-field (pos n) h =
     let v = four-value n h in
-    digits-field (lead n) (three n) (four_digits n) (lit< tt) (omega arith) ∙ ap (λ (k : ℕ). Year (pos k)) v
+    digits-field (lead n) (three n) (four_digits n) (lit< tt) (omega arith) ∙ ap (λ (k : ℕ). Ok (pos k)) v
 year-field (negsuc n) h =
     let f = from_start (0x2D ∷ bytes (four (suc n))) in
     let v = four-value (suc n) h in
     rw (hyphen-white f, front-ate f (Is 0x2D) (lit< tt) hyphen-hyphen)
-    (alone-read (lead (suc n)) (three (suc n)) 0 _ (four_digits (suc n)) (lit< tt) (omega arith) (front_rest f) ∙ ap (λ (k : ℕ). Year (neg_ℤ (pos k))) v)
+    (alone-read (lead (suc n)) (three (suc n)) 0 _ (four_digits (suc n)) (lit< tt) (omega arith) (front_rest f) ∙ ap (λ (k : ℕ). Ok (neg_ℤ (pos k))) v)
 
 -- a number of one or two digits
-pub month-digits : (d : ℕ) (ds : List ℕ) → AreDigits (d ∷ ds) → admits OneOrTwo (suc (length ds)) ≡ true → 0 < value 0 (d ∷ ds) → month_field (bytes (d ∷ ds)) ≡ MonthRead (stored_month (value 0 (d ∷ ds) - 1)) (cursor (0 + suc (length ds)))
+pub month-digits : (d : ℕ) (ds : List ℕ) → AreDigits (d ∷ ds) → admits OneOrTwo (suc (length ds)) ≡ true → 0 < value 0 (d ∷ ds) → month_field (bytes (d ∷ ds)) ≡ Ok (stored_month (value 0 (d ∷ ds) - 1), cursor (0 + suc (length ds)))
 unfolding month_field month_of pick
 month-digits d ds a l h =
     let u = bytes (d ∷ ds) in
@@ -123,15 +119,15 @@ two-admitted : admits OneOrTwo 2 ≡ true
 unfolding admits
 two-admitted = refl
 
-pub month-field : (m : ℕ) → m < 12 → month_field (bytes (two (m + 1))) ≡ MonthRead (stored_month m) (cursor 2)
+pub month-field : (m : ℕ) → m < 12 → month_field (bytes (two (m + 1))) ≡ Ok (stored_month m, cursor 2)
 month-field m h =
     let n = m + 1 in
     let v = two-value n (omega arith) in
     month-digits (n / 10 % 10) ((n % 10) ∷ []) (two_digits n) two-admitted (omega arith)
-    ∙ ap (λ (k : ℕ). MonthRead (stored_month k) (cursor 2)) (omega arith)
+    ∙ ap (λ (k : ℕ). Ok (stored_month k, cursor 2)) (omega arith)
 
 -- no day stands behind the month
-pub no_day : (s : List ℕ) → day_in_month_field s (length s) ≡ DayRead NoDay
+pub no_day : (s : List ℕ) → day_in_month_field s (length s) ≡ Ok None
 unfolding day_in_month_field day_from day_at day_behind part pick
 no_day s =
     let f : From s (length s) [] = record { is = drop-length s } in
@@ -147,15 +143,15 @@ digits-trim d ds h =
     let u = bytes (d ∷ ds) in
     rw (digit-white h.0 (from_start u), plain-trim u (digits-plain (d ∷ ds) h), sub-zero) (take-length u)
 
-pub day-digits : (d : ℕ) (ds : List ℕ) (span : FileSpan) → AreDigits (d ∷ ds) → 0 < value 0 (d ∷ ds) → value 0 (d ∷ ds) < 32 → day_field (bytes (d ∷ ds)) span ≡ Given (record { 0 = value 0 (d ∷ ds) - 1 })
+pub day-digits : (d : ℕ) (ds : List ℕ) (span : FileSpan) → AreDigits (d ∷ ds) → 0 < value 0 (d ∷ ds) → value 0 (d ∷ ds) < 32 → day_field (bytes (d ∷ ds)) span ≡ Ok (record { 0 = value 0 (d ∷ ds) - 1 })
 unfolding day_field day_given is_day pick
 day-digits d ds span a l h =
     let v = value 0 (d ∷ ds) in
     rw (digits-trim d ds a, parse-is d ds 255 a (omega arith), le-leb 1 v (omega arith), le-leb v 31 (omega arith))
 
-pub day-field : (d : ℕ) (span : FileSpan) → d < 31 → day_field (bytes (two (d + 1))) span ≡ Given (record { 0 = d })
+pub day-field : (d : ℕ) (span : FileSpan) → d < 31 → day_field (bytes (two (d + 1))) span ≡ Ok (record { 0 = d })
 day-field d span h =
     let n = d + 1 in
     let v = two-value n (omega arith) in
     day-digits (n / 10 % 10) ((n % 10) ∷ []) span (two_digits n) (omega arith) (omega arith)
-    ∙ ap (λ (k : ℕ). Given (record { 0 = k })) (omega arith)
+    ∙ ap (λ (k : ℕ). Ok (record { 0 = k })) (omega arith)

@@ -14,15 +14,14 @@ use Rattle.chars.specs.Pick.{pick}
 use Rattle.chars.specs.Ascii.{ascii}
 use Rattle.chunks.specs.Chunks.{one_chunk}
 use Rattle.chunks.proofs.Plains.{Plainly, plainly}
-use Rattle.dates.specs.declared.OptionTime.TheVariants.{NoTime}
-use Rattle.dates.specs.declared.OptionSeason.{OptionSeason}
-use Rattle.dates.specs.declared.OptionSeason.TheVariants.{NoSeason, Spring, Summer, Autumn, Winter}
+use Rattle.dates.specs.declared.Season.{Season}
+use Rattle.dates.specs.declared.Season.TheVariants.{Autumn, Spring, Summer, Winter}
+use Rattle.std.specs.Prelude.{Option, Some, None, Ok}
 use Rattle.dates.specs.declared.Datetime.{Datetime}
 use Rattle.dates.specs.declared.DateValue.{DateValue}
 use Rattle.dates.specs.declared.DateValue.TheVariants.{At, After, Before, Between}
 use Rattle.dates.specs.declared.Date.{Date}
 use Rattle.dates.specs.Value.{season_of, season_number, is_season}
-use Rattle.refusals.specs.declared.ReadDate.TheVariants.{Accepted}
 use Rattle.strict.specs.Digits.{digits}
 use Rattle.strict.specs.Grammar.{Year, dddd, -dddd, Field, field, Value, alone, between, after, before, unknown, Mark, text}
 use Rattle.strict.specs.Grammar
@@ -31,7 +30,6 @@ use Rattle.strict.proofs.Level.{level-exact}
 use Rattle.strict.proofs.Runs.{digits_long}
 use Rattle.reading_laws.specs.Field.{leveled, parsed_level_one}
 use Rattle.reading_laws.proofs.Entries.{level-clean}
-use Rattle.puts.specs.declared.Written.TheVariants.{Done}
 use Rattle.puts.specs.Answers.{answer, measured, decided}
 use Rattle.puts.specs.Numbers as numbers
 use Rattle.puts.specs.Numbers.{digit_count, width, decimal}
@@ -124,13 +122,13 @@ year-derived (negsuc n) h = subst (λ (s : List ℕ). Year (45 ∷ s) (negsuc n)
 
 -- ---- a text derives its Date
 
-season-derived : (y : ℤ) (s : OptionSeason) → nat_abs y < 10000 → is_season s ≡ true → LevelPoint (year_text y ++ hyphen_part (season_number s)) (season_of y s)
+season-derived : (y : ℤ) (s : Option Season) → nat_abs y < 10000 → is_season s ≡ true → LevelPoint (year_text y ++ hyphen_part (season_number s)) (season_of y s)
 unfolding hyphen_part part_text decimal width digit_count numbers.count pick season_at
-season-derived y NoSeason h e = absurd (false≢true e)
-season-derived y Spring h e = season (year-derived y h) (field 0 (lit≤ tt))
-season-derived y Summer h e = season (year-derived y h) (field 1 (lit≤ tt))
-season-derived y Autumn h e = season (year-derived y h) (field 2 (lit≤ tt))
-season-derived y Winter h e = season (year-derived y h) (field 3 (lit≤ tt))
+season-derived y None h e = absurd (false≢true e)
+season-derived y (Some Spring) h e = season (year-derived y h) (field 0 (lit≤ tt))
+season-derived y (Some Summer) h e = season (year-derived y h) (field 1 (lit≤ tt))
+season-derived y (Some Autumn) h e = season (year-derived y h) (field 2 (lit≤ tt))
+season-derived y (Some Winter) h e = season (year-derived y h) (field 3 (lit≤ tt))
 
 level-derived : (d : Datetime) → LevelIn d → LevelPoint (level_end d) d
 unfolding level_end long_sign behind_text datetime_text parts_of month_parts parts_text pick
@@ -217,7 +215,7 @@ module _ (d : Date) (w : InLevel d.value) where
       plainly b (one_chunk b start end) (record { four = refl; normal_kind = refl; whole = refl; small = text-small; ascii = clear-ascii clear })
 
   -- the written text, as one Normal chunk anywhere in a file, gives the same Date
-  pub level-back : (start end : ℕ) → parsed_level_one (level_text d) (one_chunk (level_text d) start end) ≡ Accepted d
+  pub level-back : (start end : ℕ) → parsed_level_one (level_text d) (one_chunk (level_text d) start end) ≡ Ok d
   unfolding leveled
   level-back start end =
       let b = level_text d in
@@ -242,13 +240,13 @@ unfolding level_panics
 date-written d w = value_written d.value w
 
 -- so the writer refuses it for want of room alone
-pub level-accepted : (d : Date) → InLevel d.value → (room : ℕ) → length (level_text d) ≤ room → answer (level_panics d) (level_text d) room ≡ Done (length (level_text d))
+pub level-accepted : (d : Date) → InLevel d.value → (room : ℕ) → length (level_text d) ≤ room → answer (level_panics d) (level_text d) room ≡ Ok (length (level_text d))
 unfolding answer measured decided pick
 level-accepted d w room h = rw (date-written d w, le-leb (length (level_text d)) room h)
 
 -- ---- what is read is of the domain
 
-given-in : {a : Datetime} → Given a → a.time ≡ NoTime → LevelIn a
+given-in : {a : Datetime} → Given a → a.time ≡ None → LevelIn a
 given-in (on_calendar w) t = of_calendar (record { year_in = w.year_in; parts_in = w.parts_in; untimed = t; unseasoned = w.unseasoned })
 given-in (in_season h e) t = of_season h e
 given-in (long_year h k) t = of_long_year h k
@@ -260,9 +258,9 @@ value_in (Before a) g t = given-in g t
 value_in (Between a b) g t = (given-in g.0 t.0, given-in g.1 t.1)
 
 -- every Date that the reader gives without a time
-pub level_in : (b table : List ℕ) {d : Date} → parsed_level_one b table ≡ Accepted d → Untimed d.value → InLevel d.value
+pub level_in : (b table : List ℕ) {d : Date} → parsed_level_one b table ≡ Ok d → Untimed d.value → InLevel d.value
 level_in b table {d} e t = value_in d.value (level-given b table e) t
 
 -- so it reads back from its text as itself
-pub level-again : (b table : List ℕ) {d : Date} → parsed_level_one b table ≡ Accepted d → Untimed d.value → (start end : ℕ) → parsed_level_one (level_text d) (one_chunk (level_text d) start end) ≡ Accepted d
+pub level-again : (b table : List ℕ) {d : Date} → parsed_level_one b table ≡ Ok d → Untimed d.value → (start end : ℕ) → parsed_level_one (level_text d) (one_chunk (level_text d) start end) ≡ Ok d
 level-again b table {d} e t start end = level-back d (level_in b table e t) start end

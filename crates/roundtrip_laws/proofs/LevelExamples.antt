@@ -10,16 +10,14 @@ use lib.ListN.{length}
 use Rattle.chars.specs.Ascii.{ascii}
 use Rattle.refusals.specs.declared.Kind.TheVariants.{NotLevelOne}
 use Rattle.refusals.specs.Refusal.{file_span}
-use Rattle.dates.specs.declared.OptionMonth.TheVariants.{NoMonth}
-use Rattle.dates.specs.declared.OptionDay.TheVariants.{NoDay}
-use Rattle.dates.specs.declared.OptionTime.TheVariants.{NoTime}
-use Rattle.dates.specs.declared.OptionSeason.TheVariants.{Spring, Summer, Autumn, Winter}
+use Rattle.dates.specs.declared.Date.{Date}
+use Rattle.dates.specs.declared.Season.TheVariants.{Autumn, Spring, Summer, Winter}
+use Rattle.refusals.specs.declared.Refusal.{Refusal}
+use Rattle.std.specs.Prelude.{Some, None, Result, Ok, Err}
 use Rattle.dates.specs.declared.Datetime.{Datetime}
 use Rattle.dates.specs.declared.DateValue.{DateValue}
 use Rattle.dates.specs.declared.DateValue.TheVariants.{At, After, Before, Between}
 use Rattle.dates.specs.Value.{datetime, season_of, date, month, day}
-use Rattle.refusals.specs.declared.ReadDate.{ReadDate}
-use Rattle.refusals.specs.declared.ReadDate.TheVariants.{Accepted, Refused}
 use Rattle.chars.specs.Ascii as chars_ascii
 use Rattle.chars.specs.Classes as chars_classes
 use Rattle.chars.specs.Pick as chars_pick
@@ -43,47 +41,47 @@ use Rattle.puts.specs.Marks.{mark_text}
 use Rattle.writer.specs.Level as writer_level
 
 -- a text, as the reader of level one reads it
-abbrev reads : String → ReadDate
+abbrev reads : String → Result Date Refusal
 reads s = reader_field.parsed_level_one (ascii s) (one_chunk (ascii s) 0 (length (ascii s)))
 
 -- a year alone, and the answer that is a refusal
 abbrev year : ℤ → Datetime
-year y = datetime y NoMonth NoDay NoTime
+year y = datetime y None None None
 
-abbrev refused : ReadDate
-refused = Refused (record { kind = NotLevelOne; place = file_span 0 0 })
+abbrev refused : Result Date Refusal
+refused = Err (record { kind = NotLevelOne; place = file_span 0 0 })
 
 -- what the writer of level one makes of an answer; nothing of a refusal
-abbrev written : ReadDate → List ℕ
-written (Accepted d) = writer_level.level_text d
-written (Refused e) = []
+abbrev written : Result Date Refusal → List ℕ
+written (Ok d) = writer_level.level_text d
+written (Err e) = []
 
 -- a text, what it says, and the text that is written for that
 pub record Example : Type 0 where
   pub of : String
-  pub says : ReadDate
+  pub says : Result Date Refusal
   pub back : String
 
-abbrev unmarked : DateValue → ReadDate
-unmarked v = Accepted (date v false false)
+abbrev unmarked : DateValue → Result Date Refusal
+unmarked v = Ok (date v false false)
 
 pub examples : List Example
 examples =
-    record { of = "2000-21"; says = unmarked (At (season_of (pos 2000) Spring)); back = "2000-21" }
-    ∷ record { of = "-0044-24"; says = unmarked (At (season_of (negsuc 43) Winter)); back = "-0044-24" }
-    ∷ record { of = "-0000-21"; says = unmarked (At (season_of (pos 0) Spring)); back = "0000-21" }
-    ∷ record { of = "2000-22/2001-23?"; says = Accepted (date (Between (season_of (pos 2000) Summer) (season_of (pos 2001) Autumn)) true false); back = "2000-22/2001-23?" }
+    record { of = "2000-21"; says = unmarked (At (season_of (pos 2000) (Some Spring))); back = "2000-21" }
+    ∷ record { of = "-0044-24"; says = unmarked (At (season_of (negsuc 43) (Some Winter))); back = "-0044-24" }
+    ∷ record { of = "-0000-21"; says = unmarked (At (season_of (pos 0) (Some Spring))); back = "0000-21" }
+    ∷ record { of = "2000-22/2001-23?"; says = Ok (date (Between (season_of (pos 2000) (Some Summer)) (season_of (pos 2001) (Some Autumn))) true false); back = "2000-22/2001-23?" }
     ∷ record { of = "Y12345"; says = unmarked (At (year (pos 12345))); back = "Y12345" }
-    ∷ record { of = "Y-123456789~"; says = Accepted (date (At (year (negsuc 123456788))) false true); back = "Y-123456789~" }
-    ∷ record { of = "Y999999999%"; says = Accepted (date (At (year (pos 999999999))) true true); back = "Y999999999%" }
+    ∷ record { of = "Y-123456789~"; says = Ok (date (At (year (negsuc 123456788))) false true); back = "Y-123456789~" }
+    ∷ record { of = "Y999999999%"; says = Ok (date (At (year (pos 999999999))) true true); back = "Y999999999%" }
     ∷ record { of = "Y10000"; says = unmarked (At (year (pos 10000))); back = "Y10000" }
     ∷ record { of = "Y12345/.."; says = unmarked (After (year (pos 12345))); back = "Y12345/.." }
-    ∷ record { of = "../2000-24"; says = unmarked (Before (season_of (pos 2000) Winter)); back = "../2000-24" }
-    ∷ record { of = "2000-21/.."; says = unmarked (After (season_of (pos 2000) Spring)); back = "2000-21/.." }
+    ∷ record { of = "../2000-24"; says = unmarked (Before (season_of (pos 2000) (Some Winter))); back = "../2000-24" }
+    ∷ record { of = "2000-21/.."; says = unmarked (After (season_of (pos 2000) (Some Spring))); back = "2000-21/.." }
     ∷ record { of = "../Y-12345"; says = unmarked (Before (year (negsuc 12344))); back = "../Y-12345" }
-    ∷ record { of = "Y12345/2000-24%"; says = Accepted (date (Between (year (pos 12345)) (season_of (pos 2000) Winter)) true true); back = "Y12345/2000-24%" }
-    ∷ record { of = "2000-12/Y12345"; says = unmarked (Between (datetime (pos 2000) (month 11) NoDay NoTime) (year (pos 12345))); back = "2000-12/Y12345" }
-    ∷ record { of = "2000-02-XX"; says = unmarked (Between (datetime (pos 2000) (month 1) (day 0) NoTime) (datetime (pos 2000) (month 1) (day 28) NoTime)); back = "2000-02-01/2000-02-29" }
+    ∷ record { of = "Y12345/2000-24%"; says = Ok (date (Between (year (pos 12345)) (season_of (pos 2000) (Some Winter))) true true); back = "Y12345/2000-24%" }
+    ∷ record { of = "2000-12/Y12345"; says = unmarked (Between (datetime (pos 2000) (month 11) None None) (year (pos 12345))); back = "2000-12/Y12345" }
+    ∷ record { of = "2000-02-XX"; says = unmarked (Between (datetime (pos 2000) (month 1) (day 0) None) (datetime (pos 2000) (month 1) (day 28) None)); back = "2000-02-01/2000-02-29" }
     ∷ record { of = "9999"; says = unmarked (At (year (pos 9999))); back = "9999" }
     ∷ record { of = "2000-20"; says = refused; back = "" }
     ∷ record { of = "2000-25"; says = refused; back = "" }

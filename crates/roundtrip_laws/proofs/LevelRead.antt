@@ -9,16 +9,13 @@ use native.Mathlib.Omega.{arith}
 use lib.IntN.{ℤ, nat_abs}
 use Rattle.refusals.specs.declared.Kind.TheVariants.{NotLevelOne}
 use Rattle.refusals.specs.Refusal.{file_span, refusal}
-use Rattle.chunks.specs.declared.Checked.TheVariants.{Clean}
+use Rattle.std.specs.Prelude.{Option, Some, None, Ok, Err}
 use Rattle.chunks.specs.Check.{checked}
 use Rattle.chunks.specs.Format.{formatted}
 use Rattle.dates.specs.declared.Datetime.{Datetime}
 use Rattle.dates.specs.declared.DateValue.{DateValue}
 use Rattle.dates.specs.declared.Date.{Date}
 use Rattle.dates.specs.Value.{is_season, has_season, any_season}
-use Rattle.refusals.specs.declared.ReadDate.TheVariants.{Accepted, Refused}
-use Rattle.strict.specs.declared.Matched.{Matched}
-use Rattle.strict.specs.declared.Matched.TheVariants.{Strict, NotStrict as NoMatch}
 use Rattle.strict.specs.Grammar.{Point, Value, alone, between, after, before, unknown, Text, text}
 use Rattle.strict.specs.Level.{season_at, LongYear, Yd, Y_d, LevelPoint, strictly, season, long, LevelText}
 use Rattle.strict.specs.LevelMatcher.{level}
@@ -44,33 +41,33 @@ no-fault f = go f refl
     go bad_chunks e = omega arith
     go too_long e = omega arith
 
-matched-is : (m : Matched) {d : Date} → leveled m ≡ Accepted d → m ≡ Strict d
+matched-is : (m : Option Date) {d : Date} → leveled m ≡ Ok d → m ≡ Some d
 unfolding leveled
-matched-is (Strict c) e = cc
-matched-is NoMatch e = let z : ◌≡◌ {A = ℕ} 0 1 = cc in absurd (omega arith)
+matched-is (Some c) e = cc
+matched-is None e = let z : ◌≡◌ {A = ℕ} 0 1 = cc in absurd (omega arith)
 
-unmatched-is : (m : Matched) → leveled m ≡ Refused (refusal NotLevelOne (file_span 0 0)) → m ≡ NoMatch
+unmatched-is : (m : Option Date) → leveled m ≡ Err (refusal NotLevelOne (file_span 0 0)) → m ≡ None
 unfolding leveled
-unmatched-is (Strict c) e = let z : ◌≡◌ {A = ℕ} 0 1 = cc in absurd (omega arith)
-unmatched-is NoMatch e = refl
+unmatched-is (Some c) e = let z : ◌≡◌ {A = ℕ} 0 1 = cc in absurd (omega arith)
+unmatched-is None e = refl
 
 -- a Date is accepted exactly if the list passes the checks and the grammar derives that Date from its text
-pub level-accepts : (b table : List ℕ) (d : Date) → (parsed_level_one b table ≡ Accepted d) ↔ ((checked b table ≡ Clean) × LevelText (formatted b table) d)
+pub level-accepts : (b table : List ℕ) (d : Date) → (parsed_level_one b table ≡ Ok d) ↔ ((checked b table ≡ (Ok tt)) × LevelText (formatted b table) d)
 unfolding parsed_level_one on_clean leveled
 level-accepts b table d = (
   λ e. let p = clean-accepts (checked b table) {r = leveled (level (formatted b table))} e in (p.0, (level-exact (formatted b table) d).0 (matched-is (level (formatted b table)) p.1)),
-  λ (p : (checked b table ≡ Clean) × LevelText (formatted b table) d). rw (p.0, (level-exact (formatted b table) d).1 p.1),
+  λ (p : (checked b table ≡ (Ok tt)) × LevelText (formatted b table) d). rw (p.0, (level-exact (formatted b table) d).1 p.1),
 )
 
 -- NotLevelOne is answered exactly if the list passes the checks and nothing derives its text
-pub level-refuses : (b table : List ℕ) → (parsed_level_one b table ≡ Refused (refusal NotLevelOne (file_span 0 0))) ↔ ((checked b table ≡ Clean) × ((d : Date) → LevelText (formatted b table) d → ⊥))
+pub level-refuses : (b table : List ℕ) → (parsed_level_one b table ≡ Err (refusal NotLevelOne (file_span 0 0))) ↔ ((checked b table ≡ (Ok tt)) × ((d : Date) → LevelText (formatted b table) d → ⊥))
 unfolding parsed_level_one on_clean leveled
 level-refuses b table = (
   λ e. let p = clean-refuses b table {r = leveled (level (formatted b table))} NotLevelOne no-fault e in (p.0, (level-refused (formatted b table)).0 (unmatched-is (level (formatted b table)) p.1)),
-  λ (p : (checked b table ≡ Clean) × ((d : Date) → LevelText (formatted b table) d → ⊥)). rw (p.0, (level-refused (formatted b table)).1 p.1),
+  λ (p : (checked b table ≡ (Ok tt)) × ((d : Date) → LevelText (formatted b table) d → ⊥)). rw (p.0, (level-refused (formatted b table)).1 p.1),
 )
 
-pub level-derivation : (b table : List ℕ) {d : Date} → parsed_level_one b table ≡ Accepted d → LevelText (formatted b table) d
+pub level-derivation : (b table : List ℕ) {d : Date} → parsed_level_one b table ≡ Ok d → LevelText (formatted b table) d
 level-derivation b table {d} e = ((level-accepts b table d).0 e).1
 
 -- ---- what an end is
@@ -112,7 +109,7 @@ text-given : {s : List ℕ} {d : Date} → LevelText s d → EachEnd Given d.val
 text-given (text v m) = value-given v
 
 -- every end of an accepted Date
-pub level-given : (b table : List ℕ) {d : Date} → parsed_level_one b table ≡ Accepted d → EachEnd Given d.value
+pub level-given : (b table : List ℕ) {d : Date} → parsed_level_one b table ≡ Ok d → EachEnd Given d.value
 level-given b table e = text-given (level-derivation b table e)
 
 given-alone : (a : Datetime) → Given a → Alone a
@@ -120,13 +117,13 @@ given-alone a (on_calendar w) e = absurd (false≢true (sym (ap is_season w.unse
 given-alone a (in_season h s) e = (refl, refl, refl)
 given-alone a (long_year h k) e = absurd (false≢true e)
 
-pub season-alone : (b table : List ℕ) {d : Date} → parsed_level_one b table ≡ Accepted d → EachEnd Alone d.value
+pub season-alone : (b table : List ℕ) {d : Date} → parsed_level_one b table ≡ Ok d → EachEnd Alone d.value
 season-alone b table {d} e = each-end given-alone d.value (level-given b table e)
 
 -- ---- beside the strict reader
 
 -- what the strict reader accepts is accepted with the same Date
-pub strict-accepted : (b table : List ℕ) {d : Date} → parsed_strict b table ≡ Accepted d → parsed_level_one b table ≡ Accepted d
+pub strict-accepted : (b table : List ℕ) {d : Date} → parsed_strict b table ≡ Ok d → parsed_level_one b table ≡ Ok d
 strict-accepted b table {d} e = let p = (strict-accepts b table d).0 e in (level-accepts b table d).1 (p.0, strict-level p.1)
 
 point-strict : {s : List ℕ} {a : Datetime} → LevelPoint s a → has_season a ≡ false → ShortYear a → Point s a
@@ -145,5 +142,5 @@ text-strict : {s : List ℕ} {d : Date} → LevelText s d → any_season d.value
 text-strict (text v m) e h = text (value-strict v e h) m
 
 -- what is accepted without a season and with years of at most four digits, the strict reader accepts alike
-pub accepted-strict : (b table : List ℕ) {d : Date} → parsed_level_one b table ≡ Accepted d → any_season d.value ≡ false → EachEnd ShortYear d.value → parsed_strict b table ≡ Accepted d
+pub accepted-strict : (b table : List ℕ) {d : Date} → parsed_level_one b table ≡ Ok d → any_season d.value ≡ false → EachEnd ShortYear d.value → parsed_strict b table ≡ Ok d
 accepted-strict b table {d} e q h = let p = (level-accepts b table d).0 e in (strict-accepts b table d).1 (p.0, text-strict p.1 q h)

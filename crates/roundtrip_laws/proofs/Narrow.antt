@@ -7,10 +7,9 @@ use Prim.Native.Nat.{ℕ, ◌≤◌}
 use native.Mathlib.Omega.{arith}
 use lib.IntN.{ℤ}
 use lib.ListN.{length}
-use Rattle.dates.specs.declared.OptionMonth.{OptionMonth}
-use Rattle.dates.specs.declared.OptionMonth.TheVariants.{NoMonth, SomeMonth}
-use Rattle.dates.specs.declared.OptionDay.{OptionDay}
-use Rattle.dates.specs.declared.OptionDay.TheVariants.{NoDay, SomeDay}
+use Rattle.dates.specs.declared.Day.{Day}
+use Rattle.dates.specs.declared.Month.{Month}
+use Rattle.std.specs.Prelude.{Option, Some, None, Ok}
 use Rattle.dates.specs.declared.Datetime.{Datetime}
 use Rattle.dates.specs.declared.DateValue.{DateValue}
 use Rattle.dates.specs.declared.Date.{Date}
@@ -21,7 +20,6 @@ use Rattle.dates.proofs.Ends.{each-end}
 use Rattle.points.specs.Accepted.{Dated}
 use Rattle.fields.proofs.Named.{MonthBelow}
 use Rattle.fields.proofs.Ranges.{DayBelow}
-use Rattle.refusals.specs.declared.ReadDate.TheVariants.{Accepted}
 use Rattle.reading_laws.specs.Field.{parsed, parsed_strict, parsed_level_one}
 use Rattle.chunks.specs.Lent.{Three}
 use Rattle.reading_laws.specs.Fields.{three_fields}
@@ -36,11 +34,11 @@ use Rattle.roundtrip_laws.proofs.Strictly.{strict-dated}
 use Rattle.roundtrip_laws.proofs.LevelRead.{level-given}
 
 -- a date of the calendar
-parts-narrow : (y : ℤ) (m : OptionMonth) (d : OptionDay) → PartsIn y m d → MonthUnder 99 m × DayUnder 99 d
-parts-narrow y NoMonth NoDay p = (tt, tt)
-parts-narrow y NoMonth (SomeDay d) p = absurd p
-parts-narrow y (SomeMonth m) NoDay p = (omega arith, tt)
-parts-narrow y (SomeMonth m) (SomeDay d) p = (omega (arith, p.0), omega (arith, p.1, length_most m.0 y))
+parts-narrow : (y : ℤ) (m : Option Month) (d : Option Day) → PartsIn y m d → MonthUnder 99 m × DayUnder 99 d
+parts-narrow y None None p = (tt, tt)
+parts-narrow y None (Some d) p = absurd p
+parts-narrow y (Some m) None p = (omega arith, tt)
+parts-narrow y (Some m) (Some d) p = (omega (arith, p.0), omega (arith, p.1, length_most m.0 y))
 
 dated-narrow : (d : Datetime) → Dated d → Narrow d
 dated-narrow d w =
@@ -56,23 +54,23 @@ short-narrow (days_xx y m h l _) =
     (record { year_in = h; month_in = omega arith; day_in = omega arith }, record { year_in = h; month_in = omega arith; day_in = omega arith })
 
 -- what three fields give
-day-narrow : (d : OptionDay) → DayBelow 31 d → DayUnder 99 d
-day-narrow NoDay h = tt
-day-narrow (SomeDay d) h = omega arith
+day-narrow : (d : Option Day) → DayBelow 31 d → DayUnder 99 d
+day-narrow None h = tt
+day-narrow (Some d) h = omega arith
 
-month-narrow : (m : OptionMonth) → MonthBelow 99 m → MonthUnder 99 m
-month-narrow NoMonth h = tt
-month-narrow (SomeMonth m) h = h
+month-narrow : (m : Option Month) → MonthBelow 99 m → MonthUnder 99 m
+month-narrow None h = tt
+month-narrow (Some m) h = h
 
-fields-narrow : {d : Date} → FieldsIn (Accepted d) → NarrowEnds d.value
+fields-narrow : {d : Date} → FieldsIn (Ok d) → NarrowEnds d.value
 fields-narrow (fields {m} {d} h k l) = record { year_in = h; month_in = month-narrow m k; day_in = day-narrow d l }
 
 -- accepted by the ported reader
-pub parsed-narrow : (b table : List ℕ) {d : Date} → parsed b table ≡ Accepted d → NarrowEnds d.value
+pub parsed-narrow : (b table : List ℕ) {d : Date} → parsed b table ≡ Ok d → NarrowEnds d.value
 parsed-narrow b table {d} e = ⊎_elim (λ w. all-narrow d.value w) (λ r. short-narrow r) (accepted-known b table e)
 
 -- by the strict reader
-pub strict-narrow : (b table : List ℕ) {d : Date} → parsed_strict b table ≡ Accepted d → NarrowEnds d.value
+pub strict-narrow : (b table : List ℕ) {d : Date} → parsed_strict b table ≡ Ok d → NarrowEnds d.value
 strict-narrow b table {d} e = all-narrow d.value (strict-dated b table e)
 
 -- by the reader of level one: what is written of it is as short
@@ -81,9 +79,9 @@ given-narrow a (on_calendar w) = narrow (ap is_season w.unseasoned) (dated-narro
 given-narrow a (in_season h e) = seasoned e h
 given-narrow a (long_year h k) = long refl refl k
 
-pub level-narrow : (b table : List ℕ) {d : Date} → parsed_level_one b table ≡ Accepted d → length (level_text d) ≤ 24
+pub level-narrow : (b table : List ℕ) {d : Date} → parsed_level_one b table ≡ Ok d → length (level_text d) ≤ 24
 level-narrow b table {d} e = level-short d (each-end given-narrow d.value (level-given b table e))
 
 -- as three fields
-pub three-narrow : (t : Three) {d : Date} → three_fields t ≡ Accepted d → NarrowEnds d.value
+pub three-narrow : (t : Three) {d : Date} → three_fields t ≡ Ok d → NarrowEnds d.value
 three-narrow t e = fields-narrow (subst FieldsIn e (three-in t))

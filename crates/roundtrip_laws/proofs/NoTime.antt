@@ -17,7 +17,10 @@ use Rattle.chars.proofs.Cases.{by-test, of_test}
 use Rattle.chars.proofs.Encode.{encode_one}
 use Rattle.chars.proofs.Laws.{found}
 use Rattle.scanner.specs.declared.Class.TheVariants.{Whitespace, Is}
-use Rattle.scanner.specs.declared.EatIf.TheVariants.{Kept}
+use Rattle.dates.specs.declared.Day.{Day}
+use Rattle.dates.specs.declared.Time.{Time}
+use Rattle.scanner.specs.declared.Cursor.{Cursor}
+use Rattle.std.specs.Prelude.{Option, Some, None, Result, Ok, Err}
 use Rattle.scanner.specs.Class.{in_class}
 use Rattle.scanner.specs.Scan.{len_in, match_len, eat_while, eat_if}
 use Rattle.refusals.specs.declared.FileSpan.{FileSpan}
@@ -25,33 +28,16 @@ use Rattle.refusals.specs.declared.Refusal.{Refusal}
 use Rattle.refusals.specs.declared.TextRefusal.{TextRefusal}
 use Rattle.chunks.specs.Format.{formatted}
 use Rattle.dates.specs.declared.Month.{Month}
-use Rattle.dates.specs.declared.OptionMonth.{OptionMonth}
-use Rattle.dates.specs.declared.OptionMonth.TheVariants.{SomeMonth}
-use Rattle.dates.specs.declared.OptionDay.{OptionDay}
-use Rattle.dates.specs.declared.OptionTime.{OptionTime}
-use Rattle.dates.specs.declared.OptionTime.TheVariants.{NoTime}
 use Rattle.dates.specs.declared.Datetime.{Datetime}
 use Rattle.dates.specs.declared.DateValue.{DateValue}
 use Rattle.dates.specs.declared.DateValue.TheVariants.{At, After, Before, Between}
 use Rattle.dates.specs.declared.Date.{Date}
 use Rattle.dates.specs.Value.{day}
-use Rattle.points.specs.declared.ReadPoint.{ReadPoint}
-use Rattle.points.specs.declared.ReadPoint.TheVariants.{Point, Refused as NoPoint}
-use Rattle.points.specs.declared.ReadYear.{ReadYear}
-use Rattle.points.specs.declared.ReadYear.TheVariants.{Year, NoYear}
-use Rattle.points.specs.declared.ReadSeparator.{ReadSeparator}
-use Rattle.points.specs.declared.ReadSeparator.TheVariants.{Passed, Missing}
-use Rattle.points.specs.declared.ReadPart.{ReadPart}
-use Rattle.points.specs.declared.ReadPart.TheVariants.{Stored, NoPart}
 use Rattle.points.specs.Step.{month_at, day_at, hyphen_at, on_part, on_separator, or_end}
 use Rattle.points.specs.Point.{year_at, on_year, time_or, behind_day, behind_month, behind_year, point}
-use Rattle.xranges.specs.declared.ReadRange.{ReadRange}
-use Rattle.xranges.specs.declared.ReadRange.TheVariants.{Range, NoRange}
 use Rattle.xranges.specs.Range.{range_dates}
 use Rattle.xranges.specs.Accepted.{XRange, some_years, all_months, all_days}
 use Rattle.xranges.proofs.Accepted.{accepted-range}
-use Rattle.datefield.specs.declared.ReadValue.{ReadValue}
-use Rattle.refusals.specs.declared.ReadDate.TheVariants.{Accepted}
 use Rattle.datefield.specs.Text.{first_of, is_open}
 use Rattle.datefield.specs.Value.{moved, first_half, second_half, on_half, both_halves, halves, x_range, value}
 use Rattle.strict.specs.Grammar.{Field, field, Clock, no_time, hh:mm:ss, InMonth, no_day, -dd, InYear, no_month, -mm, Value, alone, between, after, before, unknown, Unknown, dd_xx, ddd_x, dddd_XX, dddd_XX_XX, dddd_mm_XX, Text, text}
@@ -79,36 +65,36 @@ module _ (s : List ℕ) (h : NoByte 0x54 s) (a : ℕ) where
   len-none Bad e = refl
   len-none End e = refl
 
-  kept : eat_if (Is 0x54) s a ≡ Kept
+  kept : eat_if (Is 0x54) s a ≡ None
   unfolding eat_if match_len pick
   kept = rw (len-none (decode_at s a) refl)
 
 -- a point
-data Plain : ReadPoint → Type 0 where
-  plain : {d : Datetime} → d.time ≡ NoTime → Plain (Point d)
-  refused : {e : TextRefusal} → Plain (NoPoint e)
+data Plain : Result Datetime TextRefusal → Type 0 where
+  plain : {d : Datetime} → d.time ≡ None → Plain (Ok d)
+  refused : {e : TextRefusal} → Plain (Err e)
 
-or-end : (s : List ℕ) (at : ℕ) {r : ReadPoint} {go : ℕ → ReadPoint} → Plain r → ((a : ℕ) → Plain (go a)) → Plain (or_end s at r go)
+or-end : (s : List ℕ) (at : ℕ) {r : Result Datetime TextRefusal} {go : ℕ → Result Datetime TextRefusal} → Plain r → ((a : ℕ) → Plain (go a)) → Plain (or_end s at r go)
 unfolding or_end
 or-end s at w g = by-test Plain _ (λ _. w) (λ _. g (eat_while Whitespace s at))
 
-on-separator : (r : ReadSeparator) {go : ℕ → ReadPoint} → ((a : ℕ) → Plain (go a)) → Plain (on_separator NoPoint r go)
+on-separator : (r : Result Cursor TextRefusal) {go : ℕ → Result Datetime TextRefusal} → ((a : ℕ) → Plain (go a)) → Plain (on_separator Err r go)
 unfolding on_separator
-on-separator (Passed c) g = g c.0
-on-separator (Missing e) g = refused
+on-separator (Ok c) g = g c.0
+on-separator (Err e) g = refused
 
-on-part : (r : ReadPart) {go : ℕ → ℕ → ReadPoint} → ((v a : ℕ) → Plain (go v a)) → Plain (on_part NoPoint r go)
+on-part : (r : Result (ℕ × Cursor) TextRefusal) {go : ℕ → ℕ → Result Datetime TextRefusal} → ((v a : ℕ) → Plain (go v a)) → Plain (on_part Err r go)
 unfolding on_part
-on-part (Stored v c) g = g v c.0
-on-part (NoPart e) g = refused
+on-part (Ok (v, c)) g = g v c.0
+on-part (Err e) g = refused
 
-on-year : (r : ReadYear) {go : ℤ → ℕ → ReadPoint} → ((y : ℤ) (a : ℕ) → Plain (go y a)) → Plain (on_year r go)
+on-year : (r : Result (ℤ × Cursor) TextRefusal) {go : ℤ → ℕ → Result Datetime TextRefusal} → ((y : ℤ) (a : ℕ) → Plain (go y a)) → Plain (on_year r go)
 unfolding on_year
-on-year (Year y c) g = g y c.0
-on-year (NoYear e) g = refused
+on-year (Ok (y, c)) g = g y c.0
+on-year (Err e) g = refused
 
 module _ (s : List ℕ) (h : NoByte 0x54 s) where
-  day-plain : (at : ℕ) (y : ℤ) (m : OptionMonth) (d : OptionDay) → Plain (behind_day s at y m d)
+  day-plain : (at : ℕ) (y : ℤ) (m : Option Month) (d : Option Day) → Plain (behind_day s at y m d)
   unfolding behind_day time_or
   day-plain at y m d = or-end s at (plain refl) λ a. rw (kept s h a) refused
 
@@ -116,7 +102,7 @@ module _ (s : List ℕ) (h : NoByte 0x54 s) where
   unfolding behind_month
   month-plain at y m =
       or-end s at (plain refl) λ a. on-separator (hyphen_at s a) λ b. on-part (day_at s b) λ d next.
-      by-test Plain _ (λ _. day-plain next y (SomeMonth m) (day d)) (λ _. refused)
+      by-test Plain _ (λ _. day-plain next y (Some m) (day d)) (λ _. refused)
 
   point-plain : Plain (point s)
   unfolding point behind_year
@@ -125,7 +111,7 @@ module _ (s : List ℕ) (h : NoByte 0x54 s) where
       or-end s next (plain refl) λ a. on-separator (hyphen_at s a) λ b. on-part (month_at s b) λ m n. month-plain n y (record { 0 = m })
 
 -- a value
-half-plain : {r : ReadPoint} (by : TextRefusal → Refusal) {go : Datetime → ReadValue} → Plain r → ((d : Datetime) → d.time ≡ NoTime → Holds Untimed (go d)) → Holds Untimed (on_half (moved r by) go)
+half-plain : {r : Result Datetime TextRefusal} (by : TextRefusal → Refusal) {go : Datetime → Result DateValue Refusal} → Plain r → ((d : Datetime) → d.time ≡ None → Holds Untimed (go d)) → Holds Untimed (on_half (moved r by) go)
 unfolding on_half moved
 half-plain by (plain {d} e) k = k d e
 half-plain by refused k = fails
@@ -139,9 +125,9 @@ range-plain : (span : FileSpan) (s : List ℕ) → Holds Untimed (x_range span (
 unfolding x_range
 range-plain span s = at (range_dates s) refl
   where
-    at : (r : ReadRange) → range_dates s ≡ r → Holds Untimed (x_range span r)
-    at (Range a b) e = holds (both-plain (accepted-range s e))
-    at (NoRange f) e = fails
+    at : (r : Result (Datetime × Datetime) TextRefusal) → range_dates s ≡ r → Holds Untimed (x_range span r)
+    at (Ok (a, b)) e = holds (both-plain (accepted-range s e))
+    at (Err f) e = fails
 
 module _ (span : FileSpan) (s : List ℕ) (h : NoByte 0x54 s) where
   halves-plain : (slash : ℕ) → Holds Untimed (halves span s slash)
@@ -160,7 +146,7 @@ module _ (span : FileSpan) (s : List ℕ) (h : NoByte 0x54 s) where
       by-test (Holds Untimed) _ (λ _. halves-plain (first_of 0x2F s)) λ _. half-plain _ (point-plain s h) λ a e. holds {v = At a} e
 
 -- what the ported reader accepts of a text with neither T nor t has no time
-pub no-t : (b table : List ℕ) {d : Date} → parsed b table ≡ Accepted d → NoT (formatted b table) → Untimed d.value
+pub no-t : (b table : List ℕ) {d : Date} → parsed b table ≡ Ok d → NoT (formatted b table) → Untimed d.value
 no-t b table e h =
     let n = no-letter 0x54 (lit≤ tt) (lit≤ tt) (λ (z : ◌≡◌ {A = ℕ} 0x54 0x53). omega arith) (formatted b table) h in
     of-accepted {P = Untimed} b table (λ span. value-plain span _ n) e
@@ -176,19 +162,19 @@ no-back {b} s t h = subst (NoByte b) (drop-append_seam s t) (no_drop (length s) 
 field-first : {b first last n : ℕ} {s : List ℕ} → Field b first last s n → NoByte b s → ⊥
 field-first (field n k) h = h.none 0 refl
 
-clock-plain : {s : List ℕ} {c : OptionTime} → Clock s c → NoByte 0x54 s → c ≡ NoTime
+clock-plain : {s : List ℕ} {c : Option Time} → Clock s c → NoByte 0x54 s → c ≡ None
 clock-plain no_time h = refl
 clock-plain (hh:mm:ss {s = s} {t = t} {u = u} {v = v} f m c o) h = absurd (field-first f (no_front s (t ++ (u ++ v)) (lit< tt) h))
 
-month-strict : {y : ℤ} {m : ℕ} {s : List ℕ} {d : OptionDay} {c : OptionTime} → InMonth y m s d c → NoByte 0x54 s → c ≡ NoTime
+month-strict : {y : ℤ} {m : ℕ} {s : List ℕ} {d : Option Day} {c : Option Time} → InMonth y m s d c → NoByte 0x54 s → c ≡ None
 month-strict no_day h = refl
 month-strict (-dd {s = s} {t = t} f c) h = clock-plain c (no-back s t h)
 
-year-strict : {y : ℤ} {s : List ℕ} {m : OptionMonth} {d : OptionDay} {c : OptionTime} → InYear y s m d c → NoByte 0x54 s → c ≡ NoTime
+year-strict : {y : ℤ} {s : List ℕ} {m : Option Month} {d : Option Day} {c : Option Time} → InYear y s m d c → NoByte 0x54 s → c ≡ None
 year-strict no_month h = refl
 year-strict (-mm {s = s} {t = t} f r) h = month-strict r (no-back s t h)
 
-point-strict : {s : List ℕ} {a : Datetime} → Grammar.Point s a → NoByte 0x54 s → a.time ≡ NoTime
+point-strict : {s : List ℕ} {a : Datetime} → Grammar.Point s a → NoByte 0x54 s → a.time ≡ None
 point-strict (Grammar.point {s = s} {t = t} y r) h = year-strict r (no-back s t h)
 
 unknown-strict : {s : List ℕ} {v : DateValue} → Unknown s v → Untimed v
@@ -209,5 +195,5 @@ text-strict : {s : List ℕ} {d : Date} → Text s d → NoByte 0x54 s → Untim
 text-strict (text {s = s} {t = t} v m) h = value-strict v (no_front s t (lit< tt) h)
 
 -- what the strict reader accepts of a text without a T has no time
-pub strict-no-t : (b table : List ℕ) {d : Date} → parsed_strict b table ≡ Accepted d → NoByte 0x54 (formatted b table) → Untimed d.value
+pub strict-no-t : (b table : List ℕ) {d : Date} → parsed_strict b table ≡ Ok d → NoByte 0x54 (formatted b table) → Untimed d.value
 strict-no-t b table e h = text-strict (derivation b table e) h

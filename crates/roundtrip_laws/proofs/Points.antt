@@ -9,15 +9,14 @@ use lib.IntN.{ℤ}
 use lib.ListN.{length}
 use Rattle.scanner.proofs.Front.{From, from_start, from-behind}
 use Rattle.numbers.proofs.Reading.{bytes, Behind, end, hyphen}
-use Rattle.dates.specs.declared.OptionMonth.{OptionMonth}
-use Rattle.dates.specs.declared.OptionDay.{OptionDay}
-use Rattle.dates.specs.declared.OptionOffset.{OptionOffset}
-use Rattle.dates.specs.declared.OptionTime.{OptionTime}
+use Rattle.dates.specs.declared.Day.{Day}
+use Rattle.dates.specs.declared.Month.{Month}
+use Rattle.dates.specs.declared.Time.{Time}
+use Rattle.dates.specs.declared.TimeOffset.{TimeOffset}
+use Rattle.std.specs.Prelude.{Option, Ok}
 use Rattle.dates.specs.declared.Datetime.{Datetime}
 use Rattle.dates.specs.Value.{datetime, month, day}
 use Rattle.dates.proofs.Lengths.{length_most}
-use Rattle.points.specs.declared.ReadPoint.TheVariants.{Point as Read}
-use Rattle.points.specs.declared.ReadTime.TheVariants.{Clock as Timed}
 use Rattle.dates.specs.Time.{time}
 use Rattle.points.specs.Time.{behind_second}
 use Rattle.points.specs.Point.{with_time, behind_day, behind_month, behind_year, point}
@@ -29,33 +28,33 @@ use Rattle.roundtrip_laws.proofs.Bytes.{InPoint, PointText, Piece, empty, joined
 use Rattle.roundtrip_laws.proofs.Bytes.Each.{none, more}
 
 -- what stands behind each piece
-zone-behind : {t : List ℕ} {o : OptionOffset} → Zone t o → Behind t
+zone-behind : {t : List ℕ} {o : Option TimeOffset} → Zone t o → Behind t
 zone-behind no_zone = end
 zone-behind z = zed
 zone-behind (ahead (field h _) m) = plus
 zone-behind (behind (field h _) m) = hyphen
 
-clock-behind : {t : List ℕ} {c : OptionTime} → Clock t c → Behind t
+clock-behind : {t : List ℕ} {c : Option Time} → Clock t c → Behind t
 clock-behind no_time = end
 clock-behind (hh:mm:ss (field h _) m s o) = tee
 
-month-behind : {y : ℤ} {m : ℕ} {t : List ℕ} {d : OptionDay} {c : OptionTime} → InMonth y m t d c → Behind t
+month-behind : {y : ℤ} {m : ℕ} {t : List ℕ} {d : Option Day} {c : Option Time} → InMonth y m t d c → Behind t
 month-behind no_day = end
 month-behind (-dd (field d _) c) = hyphen
 
-year-behind : {y : ℤ} {t : List ℕ} {m : OptionMonth} {d : OptionDay} {c : OptionTime} → InYear y t m d c → Behind t
+year-behind : {y : ℤ} {t : List ℕ} {m : Option Month} {d : Option Day} {c : Option Time} → InYear y t m d c → Behind t
 year-behind no_month = end
 year-behind (-mm (field m _) d) = hyphen
 
 -- each piece, read where it stands
 module _ (h m sec : ℕ) {s : List ℕ} {i : ℕ} where
-  zone-read : {t : List ℕ} {o : OptionOffset} → Zone t o → From s i t → behind_second s i h m sec ≡ Timed (time h m sec o)
+  zone-read : {t : List ℕ} {o : Option TimeOffset} → Zone t o → From s i t → behind_second s i h m sec ≡ Ok (time h m sec o)
   zone-read no_zone f = none_read h m sec f
   zone-read z f = utc-read h m sec f
   zone-read (ahead (field oh a) (field om b)) f = plus-read h m sec oh om (omega arith) (omega arith) (simp zero-add at f)
   zone-read (behind (field oh a) (field om b)) f = minus-read h m sec oh om (omega arith) (omega arith) (simp zero-add at f)
 
-clock-read : (y : ℤ) (m : OptionMonth) (d : OptionDay) {s t : List ℕ} {i : ℕ} {c : OptionTime} → Clock t c → From s i t → behind_day s i y m d ≡ Read (datetime y m d c)
+clock-read : (y : ℤ) (m : Option Month) (d : Option Day) {s t : List ℕ} {i : ℕ} {c : Option Time} → Clock t c → From s i t → behind_day s i y m d ≡ Ok (datetime y m d c)
 unfolding with_time
 clock-read y m d no_time f = day-end y m d f
 clock-read y mo d {s} {t} {i} (hh:mm:ss {v = v} (field h a) (field m b) (field sec c) o) f =
@@ -67,14 +66,14 @@ clock-read y mo d {s} {t} {i} (hh:mm:ss {v = v} (field h a) (field m b) (field s
 part-from : (n : ℕ) {s t : List ℕ} {i : ℕ} → From s i (45 ∷ bytes (two (1 + n)) ++ t) → From s i (part_bytes n ++ t)
 part-from n {s} {t} {i} f = subst (λ (k : ℕ). From s i (45 ∷ bytes (two k) ++ t)) (omega arith) f
 
-in-month-read : (y : ℤ) (m : ℕ) {s t : List ℕ} {i : ℕ} {d : OptionDay} {c : OptionTime} → InMonth y m t d c → From s i t → behind_month s i y (record { 0 = m }) ≡ Read (datetime y (month m) d c)
+in-month-read : (y : ℤ) (m : ℕ) {s t : List ℕ} {i : ℕ} {d : Option Day} {c : Option Time} → InMonth y m t d c → From s i t → behind_month s i y (record { 0 = m }) ≡ Ok (datetime y (month m) d c)
 in-month-read y m no_day f = month-end y (record { 0 = m }) f
 in-month-read y m (-dd {t = b} (field d h) c) f =
     let l = length_most m y in
     day_read y (record { 0 = m }) d (omega arith) (omega arith) (clock-behind c) (part-from d f)
     ∙ clock-read y (month m) (day d) c (two-behind f)
 
-in-year-read : (y : ℤ) {s t : List ℕ} {i : ℕ} {m : OptionMonth} {d : OptionDay} {c : OptionTime} → InYear y t m d c → From s i t → behind_year s i y ≡ Read (datetime y m d c)
+in-year-read : (y : ℤ) {s t : List ℕ} {i : ℕ} {m : Option Month} {d : Option Day} {c : Option Time} → InYear y t m d c → From s i t → behind_year s i y ≡ Ok (datetime y m d c)
 in-year-read y no_month f = year-end y f
 in-year-read y (-mm (field m h) d) f =
     month_read y m (omega arith) (month-behind d) (part-from m f)
@@ -85,7 +84,7 @@ year-goes {t = t} (dddd n h) b = let f = from_start (bytes (four n) ++ t) in on-
 year-goes {t = t} (-dddd n h) b = let f = from_start (45 ∷ bytes (four n) ++ t) in on-year (45 ∷ bytes (four n) ++ t) (minus-year n h b f)
 
 -- a derived point is read as what it says
-pub point-read : {s : List ℕ} {d : Datetime} → Point s d → point s ≡ Read d
+pub point-read : {s : List ℕ} {d : Datetime} → Point s d → point s ≡ Ok d
 point-read (Grammar.point {s = s} {t = t} {y = y} a b) = year-goes a (year-behind b) ∙ in-year-read y b (from-behind s (from_start (s ++ t)))
 
 field-piece : {c first last n : ℕ} {s : List ℕ} → InPoint c → Field c first last s n → Piece 3 s
@@ -93,21 +92,21 @@ field-piece {first = first} p (field n h) =
     let b = bytes-piece (two (first + n)) (two_digits (first + n)) in
     record { in_point = more p b.in_point; short = omega arith }
 
-zone-piece : {t : List ℕ} {o : OptionOffset} → Zone t o → Piece 6 t
+zone-piece : {t : List ℕ} {o : Option TimeOffset} → Zone t o → Piece 6 t
 zone-piece no_zone = empty
 zone-piece z = record { in_point = more zed-in none; short = omega arith }
 zone-piece (ahead h m) = joined (field-piece plus-in h) (field-piece colon-in m)
 zone-piece (behind h m) = joined (field-piece minus-in h) (field-piece colon-in m)
 
-clock-piece : {t : List ℕ} {c : OptionTime} → Clock t c → Piece 15 t
+clock-piece : {t : List ℕ} {c : Option Time} → Clock t c → Piece 15 t
 clock-piece no_time = empty
 clock-piece (hh:mm:ss h m s o) = joined (field-piece tee-in h) (joined (field-piece colon-in m) (joined (field-piece colon-in s) (zone-piece o)))
 
-month-piece : {y : ℤ} {m : ℕ} {t : List ℕ} {d : OptionDay} {c : OptionTime} → InMonth y m t d c → Piece 18 t
+month-piece : {y : ℤ} {m : ℕ} {t : List ℕ} {d : Option Day} {c : Option Time} → InMonth y m t d c → Piece 18 t
 month-piece no_day = empty
 month-piece (-dd d c) = joined (field-piece minus-in d) (clock-piece c)
 
-year-piece : {y : ℤ} {t : List ℕ} {m : OptionMonth} {d : OptionDay} {c : OptionTime} → InYear y t m d c → Piece 21 t
+year-piece : {y : ℤ} {t : List ℕ} {m : Option Month} {d : Option Day} {c : Option Time} → InYear y t m d c → Piece 21 t
 year-piece no_month = empty
 year-piece (-mm m d) = joined (field-piece minus-in m) (month-piece d)
 

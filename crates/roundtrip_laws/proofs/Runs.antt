@@ -16,7 +16,7 @@ use Rattle.scanner.specs.Scan.{eat_while, part}
 use Rattle.scanner.proofs.Front.{From, front_rest, front-go, front-stop, front-end}
 use Rattle.scanner.proofs.Digits.{digit-ascii}
 use Rattle.numbers.proofs.Reading.{bytes, value, AreDigits, digits-part, value-is}
-use Rattle.numbers.specs.declared.ParsedNumber.TheVariants.{Value}
+use Rattle.std.specs.Prelude.{Some}
 use Rattle.numbers.specs.Parse.{digits_from, parse}
 
 -- what may stand behind a run of a class: nothing, or an ASCII character that is not of it
@@ -37,7 +37,7 @@ pub ascii-part : (ds t : List ℕ) {s : List ℕ} {i : ℕ} → From s i (bytes 
 ascii-part = digits-part
 
 -- the number that they are
-pub parse-is : (d : ℕ) (ds : List ℕ) (top : ℕ) → AreDigits (d ∷ ds) → value 0 (d ∷ ds) ≤ top → parse top (bytes (d ∷ ds)) ≡ Value (value 0 (d ∷ ds))
+pub parse-is : (d : ℕ) (ds : List ℕ) (top : ℕ) → AreDigits (d ∷ ds) → value 0 (d ∷ ds) ≤ top → parse top (bytes (d ∷ ds)) ≡ Some (value 0 (d ∷ ds))
 unfolding parse digits_from pick
 parse-is d ds top h l =
     rw (ne_eqb (48 + d) 0x2B (λ (e : 48 + d ≡ 0x2B). omega arith), lt-leb (length (bytes (d ∷ ds))) 0 (omega arith)) (value-is (d ∷ ds) top 0 h l)

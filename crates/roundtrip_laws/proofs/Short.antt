@@ -12,14 +12,12 @@ use Rattle.refusals.specs.declared.FileSpan.{FileSpan}
 use Rattle.refusals.specs.declared.Kind.TheVariants.{DayOutOfRange}
 use Rattle.refusals.specs.Refusal.{file_span, refusal}
 use Rattle.refusals.specs.Offset.{text_refusal, saturating_add, offset, offset_second}
-use Rattle.dates.specs.declared.OptionTime.TheVariants.{NoTime}
+use Rattle.std.specs.Prelude.{None, Err}
 use Rattle.dates.specs.declared.DateValue.{DateValue}
 use Rattle.dates.specs.declared.Date.{Date}
 use Rattle.dates.specs.Value.{datetime, month, day}
 use Rattle.dates.proofs.Months.{some-day}
 use Rattle.points.proofs.Back.{written, point-past}
-use Rattle.datefield.specs.declared.ReadValue.TheVariants.{NoValue}
-use Rattle.refusals.specs.declared.ReadDate.TheVariants.{Refused}
 use Rattle.chunks.specs.Chunks.{one_chunk}
 use Rattle.datefield.specs.Value.{value, marked}
 use Rattle.reading_laws.specs.Field.{parsed}
@@ -33,16 +31,16 @@ use Rattle.roundtrip_laws.proofs.Marks.{parsed-marked}
 short-known : {v : DateValue} → ShortMonthRange v → ValueText (value_text v)
 unfolding value_text
 short-known (days_xx y m h l n) =
-    let a = datetime (pos y) (month m) (day 0) NoTime in
-    let b = datetime (pos y) (month m) (day 30) NoTime in
+    let a = datetime (pos y) (month m) (day 0) None in
+    let b = datetime (pos y) (month m) (day 30) None in
     rw (text-short a h (l, lit< tt), text-short b h (l, lit< tt), append_assoc (written a) (47 ∷ []) (written b)) (between-text (written-text a) (written-text b))
 
 -- the place is the second half's, all ten bytes of it; the slash stands behind ten bytes too
-short-value : (span : FileSpan) {v : DateValue} → ShortMonthRange v → value span (value_text v) ≡ NoValue (offset_second (text_refusal DayOutOfRange 0 10) span.0 10)
+short-value : (span : FileSpan) {v : DateValue} → ShortMonthRange v → value span (value_text v) ≡ Err (offset_second (text_refusal DayOutOfRange 0 10) span.0 10)
 unfolding value_text
 short-value span (days_xx y m h l n) =
-    let a = datetime (pos y) (month m) (day 0) NoTime in
-    let b = datetime (pos y) (month m) (day 30) NoTime in
+    let a = datetime (pos y) (month m) (day 0) None in
+    let b = datetime (pos y) (month m) (day 30) None in
     rw (text-short a h (l, lit< tt), text-short b h (l, lit< tt), append_assoc (written a) (47 ∷ []) (written b))
     (second-refused span a b (record { year_in = h; parts_in = (l, some-day m (pos y) l); untimed = refl; unseasoned = refl }) (point-past (pos y) m 30 h l (lit< tt) (omega arith)))
 
@@ -52,11 +50,11 @@ short-out (days_xx y m h l n) w = omega (arith, w.1.parts_in.1)
 
 module _ (d : Date) (r : ShortMonthRange d.value) where
   -- anywhere in a file: the place moves by the list's start and the slash
-  pub short-refused : (start end : ℕ) → parsed (date_text d) (one_chunk (date_text d) start end) ≡ Refused (offset_second (text_refusal DayOutOfRange 0 10) start 10)
+  pub short-refused : (start end : ℕ) → parsed (date_text d) (one_chunk (date_text d) start end) ≡ Err (offset_second (text_refusal DayOutOfRange 0 10) start 10)
   unfolding marked
   short-refused start end = parsed-marked d (short-known r) start end ∙ rw (short-value (file_span start end) r)
 
   -- at the file's start: the second half itself
-  pub short-refused-first : (end : ℕ) → parsed (date_text d) (one_chunk (date_text d) 0 end) ≡ Refused (refusal DayOutOfRange (file_span 11 21))
+  pub short-refused-first : (end : ℕ) → parsed (date_text d) (one_chunk (date_text d) 0 end) ≡ Err (refusal DayOutOfRange (file_span 11 21))
   unfolding offset_second offset saturating_add pick
   short-refused-first end = short-refused 0 end

@@ -10,10 +10,10 @@ use lib.IntN.{ℤ}
 use lib.ListN.{length, take, drop}
 use lib.Seq.{take-append_seam}
 use Rattle.chars.specs.Pick.{pick}
-use Rattle.dates.specs.declared.OptionMonth.{OptionMonth}
-use Rattle.dates.specs.declared.OptionMonth.TheVariants.{NoMonth, SomeMonth}
-use Rattle.dates.specs.declared.OptionDay.{OptionDay}
-use Rattle.dates.specs.declared.OptionDay.TheVariants.{NoDay, SomeDay}
+use Rattle.dates.specs.declared.Day.{Day}
+use Rattle.dates.specs.declared.Month.{Month}
+use Rattle.refusals.specs.declared.Refusal.{Refusal}
+use Rattle.std.specs.Prelude.{Option, Some, None, Result, Ok}
 use Rattle.dates.specs.declared.Datetime.{Datetime}
 use Rattle.dates.specs.declared.DateValue.{DateValue}
 use Rattle.dates.specs.declared.DateValue.TheVariants.{At, After, Before, Between}
@@ -22,9 +22,6 @@ use Rattle.dates.specs.Domain.{PartsIn, EndIn}
 use Rattle.dates.specs.Value.{is_season, has_season, any_season}
 use Rattle.dates.proofs.Lengths.{length_most}
 use Rattle.dates.proofs.Ends.{no_end}
-use Rattle.puts.specs.declared.Measured.TheVariants.{Length}
-use Rattle.puts.specs.declared.Written.{Written}
-use Rattle.puts.specs.declared.Written.TheVariants.{Done}
 use Rattle.puts.specs.Answers.{measured, decided, answer, left}
 use Rattle.writer.specs.Texts.{day_parts, month_parts, parts_of, too_large, end_panics, value_panics, panics, date_text}
 use Rattle.writer.specs.Fields.{end_lines, value_lines, fields_text}
@@ -35,12 +32,12 @@ use Rattle.roundtrip_laws.specs.Stored.{TextBack, EndBack, FieldsBack, StoredAs,
 use Rattle.roundtrip_laws.proofs.Theorems.{date-back, strict-back, lines_are, fields_back}
 
 -- a month and a day of the calendar have a text
-pub calendar-written : (y : ℤ) (m : OptionMonth) (d : OptionDay) → PartsIn y m d → too_large (month_parts m d) ≡ false
+pub calendar-written : (y : ℤ) (m : Option Month) (d : Option Day) → PartsIn y m d → too_large (month_parts m d) ≡ false
 unfolding month_parts day_parts too_large pick
-calendar-written y NoMonth NoDay w = refl
-calendar-written y NoMonth (SomeDay d) w = absurd w
-calendar-written y (SomeMonth m) NoDay w = rw (ne_eqb m.0 255 (λ (e : m.0 ≡ 255). omega arith))
-calendar-written y (SomeMonth m) (SomeDay d) w =
+calendar-written y None None w = refl
+calendar-written y None (Some d) w = absurd w
+calendar-written y (Some m) None w = rw (ne_eqb m.0 255 (λ (e : m.0 ≡ 255). omega arith))
+calendar-written y (Some m) (Some d) w =
     rw (ne_eqb m.0 255 (λ (e : m.0 ≡ 255). omega (arith, w.0)), ne_eqb d.0 255 (λ (e : d.0 ≡ 255). omega (arith, w.1, length_most m.0 y)))
 
 end-written : (d : Datetime) → EndIn d → end_panics d ≡ false
@@ -64,17 +61,17 @@ has-text d w = (value-plain d.value w, value_written d.value w)
 
 -- so with room for a text of it, that text is stored
 module _ (d : Date) (w : InDomain d.value) (t out : List ℕ) (h : length t ≤ length out) where
-  measured-so : date_measured d t ≡ Length (length t)
+  measured-so : date_measured d t ≡ Ok (length t)
   unfolding measured pick
   measured-so = (else-as-before d t (has-text d w).0).0 ∙ rw (has-text d w).1
 
-  answered-so : date_answer d t (length out) ≡ Done (length t)
+  answered-so : date_answer d t (length out) ≡ Ok (length t)
   unfolding answer measured decided pick
   answered-so = (else-as-before d t (has-text d w).0).1 (length out) ∙ rw ((has-text d w).1, le-leb (length t) (length out) h)
 
   front-so : take (length t) (date_afterwards d t out) ≡ t
   unfolding date_afterwards left
-  front-so = ap (λ (a : Written). take (length t) (left a t out)) answered-so ∙ take-append_seam t (drop (length t) out)
+  front-so = ap (λ (a : Result ℕ Refusal). take (length t) (left a t out)) answered-so ∙ take-append_seam t (drop (length t) out)
 
   stored : (Back : List ℕ → Type 0) → Back t → StoredAs d t out Back
   stored Back b = record { measures = measured-so; answers = answered-so; back = subst Back (sym front-so) b }

@@ -12,17 +12,13 @@ use Rattle.chars.proofs.Cases.{by-test}
 use Rattle.refusals.specs.declared.Kind.{Kind}
 use Rattle.refusals.specs.declared.Kind.TheVariants.{NotStrict}
 use Rattle.refusals.specs.Refusal.{number, file_span, refusal}
-use Rattle.chunks.specs.declared.Checked.{Checked}
-use Rattle.chunks.specs.declared.Checked.TheVariants.{Clean, Faulty}
+use Rattle.refusals.specs.declared.Refusal.{Refusal}
+use Rattle.std.specs.Prelude.{Option, Some, None, Result, Ok, Err}
 use Rattle.chunks.specs.Chunks.{Chunk, chunks_of, fits, is_short}
 use Rattle.chunks.specs.Characters.{characters}
 use Rattle.chunks.specs.Check.{fault_in, or_else, fault_of, checked}
 use Rattle.chunks.specs.Format.{formatted}
 use Rattle.dates.specs.declared.Date.{Date}
-use Rattle.refusals.specs.declared.ReadDate.{ReadDate}
-use Rattle.refusals.specs.declared.ReadDate.TheVariants.{Accepted, Refused}
-use Rattle.strict.specs.declared.Matched.{Matched}
-use Rattle.strict.specs.declared.Matched.TheVariants.{Strict, NotStrict as NoMatch}
 use Rattle.strict.specs.Grammar.{Text}
 use Rattle.strict.specs.Matcher.{strict}
 use Rattle.strict.proofs.Exact.{exact, refused}
@@ -37,9 +33,9 @@ pub data Fault : ℕ → Type 0 where
   bad_chunks : Fault 15
   too_long : Fault 16
 
-abbrev FaultIn : Checked → Type 0
-FaultIn Clean = Unit {0}
-FaultIn (Faulty e) = Fault (number e.kind)
+abbrev FaultIn : Result (Unit {0}) Refusal → Type 0
+FaultIn (Ok tt) = Unit {0}
+FaultIn (Err e) = Fault (number e.kind)
 
 of-characters : (p : ℕ) (l : List Decoded) → FaultIn (fault_in p l)
 unfolding fault_in refusal
@@ -48,10 +44,10 @@ of-characters p (Char c n ∷ l) = by-test FaultIn (is_admitted c) (λ _. of-cha
 of-characters p (Bad ∷ l) = bad_utf8
 of-characters p (End ∷ l) = tt
 
-of_either : (c d : Checked) → FaultIn c → FaultIn d → FaultIn (or_else c d)
+of_either : (c d : Result (Unit {0}) Refusal) → FaultIn c → FaultIn d → FaultIn (or_else c d)
 unfolding or_else
-of_either Clean d h k = k
-of_either (Faulty e) d h k = h
+of_either (Ok tt) d h k = k
+of_either (Err e) d h k = h
 
 of-chunks : (p : ℕ) (b : List ℕ) (cs : List Chunk) → FaultIn (fault_of p b cs)
 unfolding fault_of
@@ -64,23 +60,23 @@ of-list b table =
     by-test FaultIn (fits b table) (λ _. by-test FaultIn (is_short b table) (λ _. of-chunks 0 b (chunks_of table)) (λ _. too_long)) (λ _. bad_chunks)
 
 -- the number of a refusal; 0 for a Date
-abbrev told : ReadDate → ℕ
-told (Accepted d) = 0
-told (Refused e) = number e.kind
+abbrev told : Result Date Refusal → ℕ
+told (Ok d) = 0
+told (Err e) = number e.kind
 
-clean-or : (c : Checked) {r : ReadDate} (k : Kind) → FaultIn c → (Fault (number k) → ⊥) → on_clean c r ≡ Refused (refusal k (file_span 0 0)) → (c ≡ Clean) × (r ≡ Refused (refusal k (file_span 0 0)))
+clean-or : (c : Result (Unit {0}) Refusal) {r : Result Date Refusal} (k : Kind) → FaultIn c → (Fault (number k) → ⊥) → on_clean c r ≡ Err (refusal k (file_span 0 0)) → (c ≡ (Ok tt)) × (r ≡ Err (refusal k (file_span 0 0)))
 unfolding on_clean refusal
-clean-or Clean k h n e = (refl, e)
-clean-or (Faulty x) k h n e = absurd (n (subst Fault (ap told e) h))
+clean-or (Ok tt) k h n e = (refl, e)
+clean-or (Err x) k h n e = absurd (n (subst Fault (ap told e) h))
 
 -- what is accepted has no fault,
-pub clean-accepts : (c : Checked) {r : ReadDate} {d : Date} → on_clean c r ≡ Accepted d → (c ≡ Clean) × (r ≡ Accepted d)
+pub clean-accepts : (c : Result (Unit {0}) Refusal) {r : Result Date Refusal} {d : Date} → on_clean c r ≡ Ok d → (c ≡ (Ok tt)) × (r ≡ Ok d)
 unfolding on_clean
-clean-accepts Clean e = (refl, e)
-clean-accepts (Faulty x) e = let z : ◌≡◌ {A = ℕ} 0 1 = cc in absurd (omega arith)
+clean-accepts (Ok tt) e = (refl, e)
+clean-accepts (Err x) e = let z : ◌≡◌ {A = ℕ} 0 1 = cc in absurd (omega arith)
 
 -- and neither has what is refused with a number that no fault has
-pub clean-refuses : (b table : List ℕ) {r : ReadDate} (k : Kind) → (Fault (number k) → ⊥) → on_clean (checked b table) r ≡ Refused (refusal k (file_span 0 0)) → (checked b table ≡ Clean) × (r ≡ Refused (refusal k (file_span 0 0)))
+pub clean-refuses : (b table : List ℕ) {r : Result Date Refusal} (k : Kind) → (Fault (number k) → ⊥) → on_clean (checked b table) r ≡ Err (refusal k (file_span 0 0)) → (checked b table ≡ (Ok tt)) × (r ≡ Err (refusal k (file_span 0 0)))
 clean-refuses b table k n e = clean-or (checked b table) k (of-list b table) n e
 
 -- ---- by derivation
@@ -94,34 +90,34 @@ no-fault f = go f refl
     go bad_chunks e = omega arith
     go too_long e = omega arith
 
-matched-is : (m : Matched) {d : Date} → strictly m ≡ Accepted d → m ≡ Strict d
+matched-is : (m : Option Date) {d : Date} → strictly m ≡ Ok d → m ≡ Some d
 unfolding strictly
-matched-is (Strict c) e = cc
-matched-is NoMatch e = let z : ◌≡◌ {A = ℕ} 0 1 = cc in absurd (omega arith)
+matched-is (Some c) e = cc
+matched-is None e = let z : ◌≡◌ {A = ℕ} 0 1 = cc in absurd (omega arith)
 
-unmatched-is : (m : Matched) → strictly m ≡ Refused (refusal NotStrict (file_span 0 0)) → m ≡ NoMatch
+unmatched-is : (m : Option Date) → strictly m ≡ Err (refusal NotStrict (file_span 0 0)) → m ≡ None
 unfolding strictly
-unmatched-is (Strict c) e = let z : ◌≡◌ {A = ℕ} 0 1 = cc in absurd (omega arith)
-unmatched-is NoMatch e = refl
+unmatched-is (Some c) e = let z : ◌≡◌ {A = ℕ} 0 1 = cc in absurd (omega arith)
+unmatched-is None e = refl
 
 -- a Date is accepted exactly if the list passes the checks and the strict grammar derives that Date from its text
-pub strict-accepts : (b table : List ℕ) (d : Date) → (parsed_strict b table ≡ Accepted d) ↔ ((checked b table ≡ Clean) × Text (formatted b table) d)
+pub strict-accepts : (b table : List ℕ) (d : Date) → (parsed_strict b table ≡ Ok d) ↔ ((checked b table ≡ (Ok tt)) × Text (formatted b table) d)
 unfolding parsed_strict on_clean strictly
 strict-accepts b table d =
     let s = formatted b table in (
       λ e. let p = clean-accepts (checked b table) {r = strictly (strict s)} e in (p.0, (exact s d).0 (matched-is (strict s) p.1)),
-      λ (p : (checked b table ≡ Clean) × Text s d). rw (p.0, (exact s d).1 p.1),
+      λ (p : (checked b table ≡ (Ok tt)) × Text s d). rw (p.0, (exact s d).1 p.1),
     )
 
 -- NotStrict is answered exactly if the list passes the checks and nothing derives its text
-pub strict-refuses : (b table : List ℕ) → (parsed_strict b table ≡ Refused (refusal NotStrict (file_span 0 0))) ↔ ((checked b table ≡ Clean) × ((d : Date) → Text (formatted b table) d → ⊥))
+pub strict-refuses : (b table : List ℕ) → (parsed_strict b table ≡ Err (refusal NotStrict (file_span 0 0))) ↔ ((checked b table ≡ (Ok tt)) × ((d : Date) → Text (formatted b table) d → ⊥))
 unfolding parsed_strict on_clean strictly
 strict-refuses b table =
     let s = formatted b table in (
       λ e. let p = clean-refuses b table {r = strictly (strict s)} NotStrict no-fault e in (p.0, (refused s).0 (unmatched-is (strict s) p.1)),
-      λ (p : (checked b table ≡ Clean) × ((d : Date) → Text s d → ⊥)). rw (p.0, (refused s).1 p.1),
+      λ (p : (checked b table ≡ (Ok tt)) × ((d : Date) → Text s d → ⊥)). rw (p.0, (refused s).1 p.1),
     )
 
 -- the derivation of an accepted list's text
-pub derivation : (b table : List ℕ) {d : Date} → parsed_strict b table ≡ Accepted d → Text (formatted b table) d
+pub derivation : (b table : List ℕ) {d : Date} → parsed_strict b table ≡ Ok d → Text (formatted b table) d
 derivation b table {d} e = ((strict-accepts b table d).0 e).1

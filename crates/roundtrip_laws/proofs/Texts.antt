@@ -9,10 +9,9 @@ use borrow.Author.Tests.{ne_eqb}
 use lib.IntN.{ℤ, pos, negsuc, nat_abs}
 use lib.ListN.{length, length-append}
 use Rattle.chars.specs.Pick.{pick}
-use Rattle.dates.specs.declared.OptionMonth.{OptionMonth}
-use Rattle.dates.specs.declared.OptionMonth.TheVariants.{NoMonth, SomeMonth}
-use Rattle.dates.specs.declared.OptionDay.{OptionDay}
-use Rattle.dates.specs.declared.OptionDay.TheVariants.{NoDay, SomeDay}
+use Rattle.dates.specs.declared.Day.{Day}
+use Rattle.dates.specs.declared.Month.{Month}
+use Rattle.std.specs.Prelude.{Option, Some, None}
 use Rattle.dates.specs.declared.Datetime.{Datetime}
 use Rattle.dates.specs.Domain.{PartsIn, EndIn}
 use Rattle.dates.proofs.Lengths.{length_most}
@@ -45,17 +44,17 @@ unfolding hyphen_part part_text
 part-is n h = ap (λ (l : List ℕ). 45 ∷ l) (decimal-is 2 (n + 1) h)
 
 -- a month of twelve, and a day beside it that some month has
-abbrev pub PartsShort : OptionMonth → OptionDay → Type 0
-PartsShort NoMonth d = Unit {0}
-PartsShort (SomeMonth m) NoDay = m.0 < 12
-PartsShort (SomeMonth m) (SomeDay d) = (m.0 < 12) × (d.0 < 31)
+abbrev pub PartsShort : Option Month → Option Day → Type 0
+PartsShort None d = Unit {0}
+PartsShort (Some m) None = m.0 < 12
+PartsShort (Some m) (Some d) = (m.0 < 12) × (d.0 < 31)
 
-tail-is : (m : OptionMonth) (d : OptionDay) → PartsShort m d → parts_text (month_parts m d) ≡ tail_bytes m d
+tail-is : (m : Option Month) (d : Option Day) → PartsShort m d → parts_text (month_parts m d) ≡ tail_bytes m d
 unfolding parts_text month_parts day_parts written_month written_day pick
-tail-is NoMonth d h = refl
-tail-is (SomeMonth m) NoDay h =
+tail-is None d h = refl
+tail-is (Some m) None h =
     rw (ne_eqb m.0 255 (λ (e : m.0 ≡ 255). omega arith)) (part-is m.0 (omega arith))
-tail-is (SomeMonth m) (SomeDay d) h =
+tail-is (Some m) (Some d) h =
     rw (ne_eqb m.0 255 (λ (e : m.0 ≡ 255). omega (arith, h.0)), ne_eqb d.0 255 (λ (e : d.0 ≡ 255). omega (arith, h.1)))
     (rw (part-is m.0 (omega (arith, h.0)), part-is d.0 (omega (arith, h.1))))
 
@@ -64,10 +63,10 @@ pub text-short : (d : Datetime) → nat_abs d.year < 10000 → PartsShort d.mont
 unfolding datetime_text parts_of
 text-short d h l = rw (year_is d.year h, tail-is d.month d.day l)
 
-short-of : (y : ℤ) (m : OptionMonth) (d : OptionDay) → PartsIn y m d → PartsShort m d
-short-of y NoMonth d h = tt
-short-of y (SomeMonth m) NoDay h = h
-short-of y (SomeMonth m) (SomeDay d) h = let l = length_most m.0 y in (h.0, omega (arith, h.1))
+short-of : (y : ℤ) (m : Option Month) (d : Option Day) → PartsIn y m d → PartsShort m d
+short-of y None d h = tt
+short-of y (Some m) None h = h
+short-of y (Some m) (Some d) h = let l = length_most m.0 y in (h.0, omega (arith, h.1))
 
 pub text_is : (d : Datetime) → EndIn d → datetime_text d ≡ written d
 text_is d w = text-short d w.year_in (short-of d.year d.month d.day w.parts_in)
@@ -82,13 +81,13 @@ year-piece (negsuc n) =
 part-piece : (n : ℕ) → Piece 3 (part_bytes n)
 part-piece n = let p = bytes-piece (two (n + 1)) (two_digits (n + 1)) in record { in_point = more minus-in p.in_point; short = omega arith }
 
-day-piece : (d : OptionDay) → Piece 3 (day_bytes d)
-day-piece NoDay = empty
-day-piece (SomeDay d) = part-piece d.0
+day-piece : (d : Option Day) → Piece 3 (day_bytes d)
+day-piece None = empty
+day-piece (Some d) = part-piece d.0
 
-tail-piece : (m : OptionMonth) (d : OptionDay) → Piece 6 (tail_bytes m d)
-tail-piece NoMonth d = empty
-tail-piece (SomeMonth m) d = joined (part-piece m.0) (day-piece d)
+tail-piece : (m : Option Month) (d : Option Day) → Piece 6 (tail_bytes m d)
+tail-piece None d = empty
+tail-piece (Some m) d = joined (part-piece m.0) (day-piece d)
 
 year-long : (y : ℤ) → 4 ≤ length (year_bytes y)
 year-long (pos n) = omega arith

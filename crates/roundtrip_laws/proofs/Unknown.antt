@@ -24,13 +24,13 @@ use Rattle.numbers.proofs.Reading.{bytes, value as number, AreDigits, digit-whit
 use Rattle.dates.specs.declared.DateValue.{DateValue}
 use Rattle.dates.specs.Calendar.{month_length}
 use Rattle.dates.proofs.Lengths.{length_most}
-use Rattle.numbers.specs.declared.ParsedNumber.TheVariants.{Value}
+use Rattle.dates.specs.declared.Datetime.{Datetime}
+use Rattle.refusals.specs.declared.TextRefusal.{TextRefusal}
+use Rattle.std.specs.Prelude.{Some, Result, Ok}
 use Rattle.numbers.specs.Parse.{parse}
 use Rattle.points.proofs.Back.{two, two_digits, two-value, lead, three, four, four_digits, four-value}
-use Rattle.xranges.specs.declared.ReadRange.{ReadRange}
 use Rattle.xranges.specs.Range.{get_hyphen, on_hyphen, on_value, years, months, days, second_run, second_at, behind_months, end_of_days, day_run, behind_month, month_run, month, months_run, behind_year, year_run, digit_run, range_from, range_dates}
 use Rattle.xranges.proofs.Hyphens.{one-hyphen}
-use Rattle.datefield.specs.declared.ReadValue.TheVariants.{Read}
 use Rattle.datefield.specs.Value.{x_range, value}
 use Rattle.strict.specs.Grammar.{last_day, field, Unknown, dd_xx, ddd_x, dddd_XX, dddd_XX_XX}
 use Rattle.strict.specs.Grammar
@@ -75,7 +75,7 @@ module _ (d : ℕ) (ds : List ℕ) {s t : List ℕ} (h : AreDigits (d ∷ ds)) (
   unfolding range_dates range_from
   range-from = rw (digit-white h.0 f, ascii_run (d ∷ ds) h b f)
 
-  sure : (n : ℕ) → number 0 (d ∷ ds) ≡ n → n ≤ 9999 → parse 9999 (part s 0 (0 + length (d ∷ ds))) ≡ Value n
+  sure : (n : ℕ) → number 0 (d ∷ ds) ≡ n → n ≤ 9999 → parse 9999 (part s 0 (0 + length (d ∷ ds))) ≡ Some n
   sure n e l = rw (ascii-part (d ∷ ds) t f, parse-is d ds 9999 h (omega arith), e)
 
 three-value : (n : ℕ) → n < 1000 → number 0 (three n) ≡ n
@@ -115,7 +115,7 @@ whole-year n h f =
     )
 
 -- behind a hyphen: an X or a digit
-x-behind : {s t : List ℕ} {i : ℕ} (go : ℕ → ReadRange) → From s i (0x2D ∷ 0x58 ∷ t) → on_hyphen (get_hyphen s i) go ≡ go (i + 1)
+x-behind : {s t : List ℕ} {i : ℕ} (go : ℕ → Result (Datetime × Datetime) TextRefusal) → From s i (0x2D ∷ 0x58 ∷ t) → on_hyphen (get_hyphen s i) go ≡ go (i + 1)
 x-behind go f = one-hyphen go (lit< tt) (lit< tt) (λ (e : ◌≡◌ {A = ℕ} 0x58 0x2D). omega arith) f
 
 module _ {s : List ℕ} {i : ℕ} (f : From s i []) where
@@ -188,7 +188,7 @@ unfolding last_day
 last-is m n h = omega (arith, length_most m (pos n))
 
 module _ (span : FileSpan) where
-  pub days-said : (n m : ℕ) → n < 10000 → 1 + m ≤ 12 → value span (bytes (four n) ++ (0x2D ∷ bytes (two (1 + m)) ++ (0x2D ∷ 0x58 ∷ 0x58 ∷ []))) ≡ Read (days_upto n m 30)
+  pub days-said : (n m : ℕ) → n < 10000 → 1 + m ≤ 12 → value span (bytes (four n) ++ (0x2D ∷ bytes (two (1 + m)) ++ (0x2D ∷ 0x58 ∷ 0x58 ∷ []))) ≡ Ok (days_upto n m 30)
   unfolding x_range days
   days-said n m h l =
       let f = from_start (bytes (four n) ++ (0x2D ∷ bytes (two (1 + m)) ++ (0x2D ∷ 0x58 ∷ 0x58 ∷ []))) in
@@ -216,5 +216,5 @@ module _ (span : FileSpan) where
   unknown-value (Grammar.dddd_mm_XX n h (field m l)) =
       elim (dec_lt (month_length m (pos n)) 31) [
         | yes k ↦ inr (days_upto n m 30, dddd_mm_XX n h (field m l) k, days-said n m h l)
-        | no k ↦ inl (days-said n m h l ∙ ap (λ (d : ℕ). Read (days_upto n m d)) (last-is m n (omega (arith, k))))
+        | no k ↦ inl (days-said n m h l ∙ ap (λ (d : ℕ). Ok (days_upto n m d)) (last-is m n (omega (arith, k))))
       ]

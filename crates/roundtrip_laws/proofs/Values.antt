@@ -14,7 +14,7 @@ use Rattle.refusals.specs.declared.FileSpan.{FileSpan}
 use Rattle.refusals.specs.Offset.{offset, offset_second}
 use Rattle.dates.specs.declared.DateValue.TheVariants.{At, After, Before, Between}
 use Rattle.points.specs.Point.{point}
-use Rattle.datefield.specs.declared.ReadValue.TheVariants.{Read}
+use Rattle.std.specs.Prelude.{Ok}
 use Rattle.datefield.specs.Text.{first_of, is_dots, is_open}
 use Rattle.datefield.specs.Value.{moved, first_half, second_half, on_half, both_halves, halves, value}
 use Rattle.roundtrip_laws.proofs.Bytes.{each_append, IsClear, Without, value-clear, PointText, without-x, without-slash, point-clear, not_blank, first-none, first_some}
@@ -42,7 +42,7 @@ behind-slash : (u v : List ℕ) → drop (length u + 1) (u ++ 47 ∷ v) ≡ v
 behind-slash u v = drop-append-add u (47 ∷ v) 1
 
 module _ (span : FileSpan) where
-  no_x : (s : List ℕ) → Without 0x58 s → value span s ≡ pick (ltb (first_of 0x2F s) (length s)) (halves span s (first_of 0x2F s)) (on_half (moved (point s) λ e. offset e span.0) λ d. Read (At d))
+  no_x : (s : List ℕ) → Without 0x58 s → value span s ≡ pick (ltb (first_of 0x2F s) (length s)) (halves span s (first_of 0x2F s)) (on_half (moved (point s) λ e. offset e span.0) λ d. Ok (At d))
   unfolding value pick
   no_x s x = rw (first-none 0x58 x, le-ltb (length s) (length s) (omega arith))
 
@@ -53,22 +53,22 @@ module _ (span : FileSpan) where
       no_x (u ++ 47 ∷ v) (each_append x (more {x = 47} refl y))
       ∙ rw (first_some 0x2F v h, lt-ltb (length u) (length (u ++ 47 ∷ v)) (rw length-append (omega arith)))
 
-  pub alone-value : {s : List ℕ} → PointText s → value span s ≡ on_half (moved (point s) λ e. offset e span.0) λ a. Read (At a)
+  pub alone-value : {s : List ℕ} → PointText s → value span s ≡ on_half (moved (point s) λ e. offset e span.0) λ a. Ok (At a)
   unfolding pick
   alone-value {s} p = no_x s (without-x p.in_point) ∙ rw (first-none 0x2F (without-slash p.in_point), le-ltb (length s) (length s) (omega arith))
 
-  pub between-value : {s t : List ℕ} → PointText s → PointText t → value span (s ++ 47 ∷ t) ≡ on_half (moved (point s) λ e. offset e span.0) λ a. on_half (moved (point t) λ e. offset_second e span.0 (length s)) λ b. Read (Between a b)
+  pub between-value : {s t : List ℕ} → PointText s → PointText t → value span (s ++ 47 ∷ t) ≡ on_half (moved (point s) λ e. offset e span.0) λ a. on_half (moved (point t) λ e. offset_second e span.0 (length s)) λ b. Ok (Between a b)
   unfolding halves both_halves first_half second_half pick
   between-value {s} {t} p q =
       split s t (without-slash p.in_point) (without-x p.in_point) (without-x q.in_point) ∙ rw (before-slash s t, behind-slash s t, closed p, closed q)
 
-  pub after-value : {s : List ℕ} → PointText s → value span (s ++ 47 ∷ dots) ≡ on_half (moved (point s) λ e. offset e span.0) λ a. Read (After a)
+  pub after-value : {s : List ℕ} → PointText s → value span (s ++ 47 ∷ dots) ≡ on_half (moved (point s) λ e. offset e span.0) λ a. Ok (After a)
   unfolding halves first_half pick
   after-value {s} p =
       split s dots (without-slash p.in_point) (without-x p.in_point) (more {x = 46} refl (more {x = 46} refl none))
       ∙ rw (before-slash s dots, behind-slash s dots, closed p, dots-open)
 
-  pub before-value : {t : List ℕ} → PointText t → value span (dots ++ 47 ∷ t) ≡ on_half (moved (point t) λ e. offset_second e span.0 2) λ b. Read (Before b)
+  pub before-value : {t : List ℕ} → PointText t → value span (dots ++ 47 ∷ t) ≡ on_half (moved (point t) λ e. offset_second e span.0 2) λ b. Ok (Before b)
   unfolding halves second_half pick
   before-value {t} q =
       split dots t (more {x = 46} refl (more {x = 46} refl none)) (more {x = 46} refl (more {x = 46} refl none)) (without-x q.in_point)

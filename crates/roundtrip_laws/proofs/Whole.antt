@@ -10,11 +10,10 @@ use Rattle.refusals.specs.Offset.{offset_second}
 use Rattle.dates.specs.declared.Datetime.{Datetime}
 use Rattle.dates.specs.declared.DateValue.{DateValue}
 use Rattle.dates.specs.declared.DateValue.TheVariants.{At, After, Before, Between}
-use Rattle.points.specs.declared.ReadPoint.TheVariants.{Refused as NoPoint}
+use Rattle.std.specs.Prelude.{Ok, Err}
 use Rattle.points.specs.Point.{point}
 use Rattle.dates.specs.Domain.{EndIn}
 use Rattle.points.proofs.Back.{written, point-back}
-use Rattle.datefield.specs.declared.ReadValue.TheVariants.{Read, NoValue}
 use Rattle.datefield.specs.Value.{moved, on_half, value}
 use Rattle.writer.specs.Texts.{value_text}
 use Rattle.roundtrip_laws.specs.Domain.{InDomain}
@@ -23,7 +22,7 @@ use Rattle.roundtrip_laws.proofs.Values.{alone-value, between-value, after-value
 use Rattle.roundtrip_laws.proofs.Texts.{text_is, written-text}
 
 module _ (span : FileSpan) where
-  pub value-back : (v : DateValue) → InDomain v → value span (value_text v) ≡ Read v
+  pub value-back : (v : DateValue) → InDomain v → value span (value_text v) ≡ Ok v
   unfolding value_text moved on_half
   value-back (At a) w = rw (text_is a w, alone-value span (written-text a), point-back a w)
   value-back (After a) w = rw (text_is a w, after-value span (written-text a), point-back a w)
@@ -32,7 +31,7 @@ module _ (span : FileSpan) where
       rw (text_is a w.0, text_is b w.1, append_assoc (written a) (47 ∷ []) (written b), between-value span (written-text a) (written-text b), point-back a w.0, point-back b w.1)
 
   -- the second half is refused
-  pub second-refused : (a b : Datetime) {e : TextRefusal} → EndIn a → point (written b) ≡ NoPoint e → value span (written a ++ 47 ∷ written b) ≡ NoValue (offset_second e span.0 (length (written a)))
+  pub second-refused : (a b : Datetime) {e : TextRefusal} → EndIn a → point (written b) ≡ Err e → value span (written a ++ 47 ∷ written b) ≡ Err (offset_second e span.0 (length (written a)))
   unfolding moved on_half
   second-refused a b w r = rw (between-value span (written-text a) (written-text b), point-back a w, r)
 

@@ -1,7 +1,6 @@
 -- The Dates whose written text is read back, and those that are read and not so.
-use Rattle.std.specs.Prelude.{ℕ, ◌-◌, ◌<◌, ◌≡◌, Bool, List, ◌++◌, ◌⊎◌, pos}
+use Rattle.std.specs.Prelude.{ℕ, ◌-◌, ◌<◌, ◌≡◌, Bool, List, ◌++◌, ◌⊎◌, pos, None}
 use Prim.Native.Char.{code}
-use Rattle.dates.specs.declared.OptionTime.TheVariants.{NoTime}
 use Rattle.dates.specs.declared.Datetime.{Datetime}
 use Rattle.dates.specs.declared.DateValue.{DateValue}
 use Rattle.dates.specs.declared.DateValue.TheVariants.{Between}
@@ -21,12 +20,12 @@ InDomain v = EachEnd EndIn v
 
 -- no end of a Date has a time
 abbrev pub Untimed : DateValue → Type 0
-Untimed v = EachEnd (λ (a : Datetime). a.time ≡ NoTime) v
+Untimed v = EachEnd (λ (a : Datetime). a.time ≡ None) v
 
 -- a day-XX range in a month under 31 days, from the first to the 31st: the only Date without a time that is read and not of the domain
 pub data ShortMonthRange : DateValue → Type 0 where
   days_xx : (y m : ℕ) → y < 10000 → m < 12 → month_length m (pos y) < 31
-      → ShortMonthRange (Between (datetime (pos y) (month m) (day 0) NoTime) (datetime (pos y) (month m) (day 30) NoTime))
+      → ShortMonthRange (Between (datetime (pos y) (month m) (day 0) None) (datetime (pos y) (month m) (day 30) None))
 
 -- every end is a date of the calendar, with a good time or none
 abbrev pub AllDated : DateValue → Type 0
@@ -38,7 +37,7 @@ Known v = AllDated v ⊎ ShortMonthRange v
 
 -- the days of a month from the first to one of them
 abbrev pub days_upto : ℕ → ℕ → ℕ → DateValue
-days_upto y m last = Between (datetime (pos y) (month m) (day 0) NoTime) (datetime (pos y) (month m) (day last) NoTime)
+days_upto y m last = Between (datetime (pos y) (month m) (day 0) None) (datetime (pos y) (month m) (day last) None)
 
 -- a text dddd-mm-XX in a month under 31 days: the strict reader's range ends on the month's last day, the ported reader's on the 31st
 pub data ShortDays : List ℕ → DateValue → DateValue → Type 0 where

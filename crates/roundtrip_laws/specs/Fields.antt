@@ -1,11 +1,10 @@
 -- The fields of one end of a Date, as they are written and as they are read back.
-use Rattle.std.specs.Prelude.{ℕ, ◌+◌, Bool, true, false, List, [], ◌++◌}
-use Rattle.dates.specs.declared.OptionMonth.{OptionMonth}
-use Rattle.dates.specs.declared.OptionMonth.TheVariants.{NoMonth, SomeMonth}
-use Rattle.dates.specs.declared.OptionDay.{OptionDay}
-use Rattle.dates.specs.declared.OptionDay.TheVariants.{NoDay, SomeDay}
+use Rattle.std.specs.Prelude.{ℕ, ◌+◌, Bool, true, false, List, [], ◌++◌, Option, Some, None, Result}
+use Rattle.dates.specs.declared.Date.{Date}
+use Rattle.dates.specs.declared.Day.{Day}
+use Rattle.dates.specs.declared.Month.{Month}
+use Rattle.refusals.specs.declared.Refusal.{Refusal}
 use Rattle.dates.specs.declared.Datetime.{Datetime}
-use Rattle.refusals.specs.declared.ReadDate.{ReadDate}
 use Rattle.chunks.specs.Lent.{Three, lent, optional, three}
 use Rattle.reading_laws.specs.Fields.{three_fields}
 use Rattle.chars.specs.Ascii.{ascii}
@@ -14,24 +13,24 @@ use Rattle.writer.specs.Texts.{year_text, part_text}
 use Rattle.writer.specs.Fields.{line}
 
 -- whether there is a month field
-abbrev pub has_month : OptionMonth → Bool
-has_month NoMonth = false
-has_month (SomeMonth m) = true
+abbrev pub has_month : Option Month → Bool
+has_month None = false
+has_month (Some m) = true
 
 -- whether there is a day field
-abbrev pub has_day : OptionDay → Bool
-has_day NoDay = false
-has_day (SomeDay d) = true
+abbrev pub has_day : Option Day → Bool
+has_day None = false
+has_day (Some d) = true
 
 -- the month field's value: counted from one
-abbrev pub month_value : OptionMonth → List ℕ
-month_value NoMonth = []
-month_value (SomeMonth m) = part_text (m.0 + 1)
+abbrev pub month_value : Option Month → List ℕ
+month_value None = []
+month_value (Some m) = part_text (m.0 + 1)
 
 -- the day field's
-abbrev pub day_value : OptionDay → List ℕ
-day_value NoDay = []
-day_value (SomeDay d) = part_text (d.0 + 1)
+abbrev pub day_value : Option Day → List ℕ
+day_value None = []
+day_value (Some d) = part_text (d.0 + 1)
 
 -- a line, if there is such a field
 abbrev pub line_if : Bool → Bool → List ℕ → List ℕ → List ℕ
@@ -53,5 +52,5 @@ values_of d ys ye ms me ds de =
     (optional (has_day d.day) (day_value d.day) (one_chunk (day_value d.day) ds de))
 
 -- and read
-abbrev pub read_back : Datetime → ℕ → ℕ → ℕ → ℕ → ℕ → ℕ → ReadDate
+abbrev pub read_back : Datetime → ℕ → ℕ → ℕ → ℕ → ℕ → ℕ → Result Date Refusal
 read_back d ys ye ms me ds de = three_fields (values_of d ys ye ms me ds de)

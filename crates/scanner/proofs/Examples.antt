@@ -11,10 +11,8 @@ use Rattle.chars.specs.Classes.{within, is_whitespace, is_ascii_digit, is_numeri
 use Rattle.chars.specs.Utf8.{len_of, is_cont, is_surrogate, decode2, decode3, decode4, decode, first, decode_at}
 use Rattle.scanner.specs.declared.Class.{Class}
 use Rattle.scanner.specs.declared.Class.TheVariants.{Whitespace, PlainWhitespace, Numeric, AsciiDigit, AsciiAlphabetic, Alphanumeric, Sign, Separator, Is}
-use Rattle.scanner.specs.declared.EatIf.{EatIf}
-use Rattle.scanner.specs.declared.EatIf.TheVariants.{Past, Kept}
-use Rattle.scanner.specs.declared.Next.{Next}
-use Rattle.scanner.specs.declared.Next.TheVariants.{Ate, Nothing}
+use Rattle.scanner.specs.declared.Cursor.{Cursor}
+use Rattle.std.specs.Prelude.{Option, Some, None}
 use Rattle.scanner.specs.Class.{in_class}
 use Rattle.scanner.specs.Scan.{len_in, match_len, walk, eat_while, eat_if, begins, eat_text, eaten, eat_at, stands_at, done_at, part, run_at, next_run}
 
@@ -77,26 +75,26 @@ pub record EatExample : Type 0 where
   pub class : Class
   pub at : ℕ
   pub stands : Bool
-  pub one : EatIf
+  pub one : Option Cursor
   pub all : ℕ
 
 abbrev pub eats : List EatExample
 eats =
-    record { text = ascii "2020-01"; class = AsciiDigit; at = 0; stands = true; one = Past (record { 0 = 1 }); all = 4 }
-    ∷ record { text = ascii "2020-01"; class = AsciiDigit; at = 4; stands = false; one = Kept; all = 4 }
-    ∷ record { text = ascii "2020-01"; class = AsciiDigit; at = 5; stands = true; one = Past (record { 0 = 6 }); all = 7 }
+    record { text = ascii "2020-01"; class = AsciiDigit; at = 0; stands = true; one = Some (record { 0 = 1 }); all = 4 }
+    ∷ record { text = ascii "2020-01"; class = AsciiDigit; at = 4; stands = false; one = None; all = 4 }
+    ∷ record { text = ascii "2020-01"; class = AsciiDigit; at = 5; stands = true; one = Some (record { 0 = 6 }); all = 7 }
     -- a character of several bytes is eaten whole: ½, a no-break space, an en space
-    ∷ record { text = ascii "1" ++ (0xC2 ∷ 0xBD ∷ ascii "2x"); class = Numeric; at = 0; stands = true; one = Past (record { 0 = 1 }); all = 4 }
-    ∷ record { text = ascii "1" ++ (0xC2 ∷ 0xBD ∷ ascii "2x"); class = Numeric; at = 1; stands = true; one = Past (record { 0 = 3 }); all = 4 }
-    ∷ record { text = 0xC2 ∷ 0xA0 ∷ 0xE2 ∷ 0x80 ∷ 0x82 ∷ ascii "x"; class = Whitespace; at = 0; stands = true; one = Past (record { 0 = 2 }); all = 5 }
-    ∷ record { text = 0xC2 ∷ 0xA0 ∷ 0xE2 ∷ 0x80 ∷ 0x82 ∷ ascii "x"; class = Whitespace; at = 2; stands = true; one = Past (record { 0 = 5 }); all = 5 }
+    ∷ record { text = ascii "1" ++ (0xC2 ∷ 0xBD ∷ ascii "2x"); class = Numeric; at = 0; stands = true; one = Some (record { 0 = 1 }); all = 4 }
+    ∷ record { text = ascii "1" ++ (0xC2 ∷ 0xBD ∷ ascii "2x"); class = Numeric; at = 1; stands = true; one = Some (record { 0 = 3 }); all = 4 }
+    ∷ record { text = 0xC2 ∷ 0xA0 ∷ 0xE2 ∷ 0x80 ∷ 0x82 ∷ ascii "x"; class = Whitespace; at = 0; stands = true; one = Some (record { 0 = 2 }); all = 5 }
+    ∷ record { text = 0xC2 ∷ 0xA0 ∷ 0xE2 ∷ 0x80 ∷ 0x82 ∷ ascii "x"; class = Whitespace; at = 2; stands = true; one = Some (record { 0 = 5 }); all = 5 }
     -- within a character there is none, nor where a sequence is ill-formed
-    ∷ record { text = 0xC2 ∷ 0xA0 ∷ ascii " "; class = Whitespace; at = 1; stands = false; one = Kept; all = 1 }
-    ∷ record { text = ascii " " ++ (0xFF ∷ ascii " "); class = Whitespace; at = 0; stands = true; one = Past (record { 0 = 1 }); all = 1 }
+    ∷ record { text = 0xC2 ∷ 0xA0 ∷ ascii " "; class = Whitespace; at = 1; stands = false; one = None; all = 1 }
+    ∷ record { text = ascii " " ++ (0xFF ∷ ascii " "); class = Whitespace; at = 0; stands = true; one = Some (record { 0 = 1 }); all = 1 }
     -- at the end and past it there is nothing
-    ∷ record { text = ascii "-"; class = Sign; at = 1; stands = false; one = Kept; all = 1 }
-    ∷ record { text = ascii "-"; class = Sign; at = 9; stands = false; one = Kept; all = 9 }
-    ∷ record { text = []; class = Whitespace; at = 0; stands = false; one = Kept; all = 0 }
+    ∷ record { text = ascii "-"; class = Sign; at = 1; stands = false; one = None; all = 1 }
+    ∷ record { text = ascii "-"; class = Sign; at = 9; stands = false; one = None; all = 9 }
+    ∷ record { text = []; class = Whitespace; at = 0; stands = false; one = None; all = 0 }
     ∷ []
 
 pub stand-examples : map (λ (e : EatExample). stands_at e.class e.text e.at) eats ≡ map (λ (e : EatExample). e.stands) eats
@@ -115,17 +113,17 @@ all-examples = refl
 pub record NextExample : Type 0 where
   pub text : List ℕ
   pub at : ℕ
-  pub next : Next
+  pub next : Option (ℕ × Cursor)
   pub over : Bool
 
 abbrev pub nexts : List NextExample
 nexts =
-    record { text = ascii "Z"; at = 0; next = Ate (code "Z") (record { 0 = 1 }); over = false }
-    ∷ record { text = ascii "Z"; at = 1; next = Nothing; over = true }
-    ∷ record { text = ascii "Z"; at = 2; next = Nothing; over = true }
-    ∷ record { text = 0xC3 ∷ 0xA9 ∷ []; at = 0; next = Ate 0xE9 (record { 0 = 2 }); over = false }
-    ∷ record { text = 0xC3 ∷ 0xA9 ∷ []; at = 1; next = Nothing; over = false }
-    ∷ record { text = 0xF0 ∷ 0x9F ∷ 0x98 ∷ 0x80 ∷ []; at = 0; next = Ate 0x1F600 (record { 0 = 4 }); over = false }
+    record { text = ascii "Z"; at = 0; next = Some (code "Z", record { 0 = 1 }); over = false }
+    ∷ record { text = ascii "Z"; at = 1; next = None; over = true }
+    ∷ record { text = ascii "Z"; at = 2; next = None; over = true }
+    ∷ record { text = 0xC3 ∷ 0xA9 ∷ []; at = 0; next = Some (0xE9, record { 0 = 2 }); over = false }
+    ∷ record { text = 0xC3 ∷ 0xA9 ∷ []; at = 1; next = None; over = false }
+    ∷ record { text = 0xF0 ∷ 0x9F ∷ 0x98 ∷ 0x80 ∷ []; at = 0; next = Some (0x1F600, record { 0 = 4 }); over = false }
     ∷ []
 
 pub next-examples : map (λ (e : NextExample). eat_at e.text e.at) nexts ≡ map (λ (e : NextExample). e.next) nexts
@@ -141,17 +139,17 @@ pub record TextExample : Type 0 where
   pub text : List ℕ
   pub other : List ℕ
   pub at : ℕ
-  pub says : EatIf
+  pub says : Option Cursor
 
 abbrev pub eaten_texts : List TextExample
 eaten_texts =
-    record { text = ascii "5 BCE"; other = ascii "BC"; at = 2; says = Past (record { 0 = 4 }) }
-    ∷ record { text = ascii "5 BCE"; other = ascii "AD"; at = 2; says = Kept }
-    ∷ record { text = ascii "5 BCE"; other = ascii "BC"; at = 1; says = Kept }
-    ∷ record { text = ascii "5 B"; other = ascii "BC"; at = 2; says = Kept }
-    ∷ record { text = ascii "BC"; other = ascii "BC"; at = 0; says = Past (record { 0 = 2 }) }
-    ∷ record { text = ascii "BC"; other = []; at = 2; says = Past (record { 0 = 2 }) }
-    ∷ record { text = ascii "BC"; other = []; at = 3; says = Kept }
+    record { text = ascii "5 BCE"; other = ascii "BC"; at = 2; says = Some (record { 0 = 4 }) }
+    ∷ record { text = ascii "5 BCE"; other = ascii "AD"; at = 2; says = None }
+    ∷ record { text = ascii "5 BCE"; other = ascii "BC"; at = 1; says = None }
+    ∷ record { text = ascii "5 B"; other = ascii "BC"; at = 2; says = None }
+    ∷ record { text = ascii "BC"; other = ascii "BC"; at = 0; says = Some (record { 0 = 2 }) }
+    ∷ record { text = ascii "BC"; other = []; at = 2; says = Some (record { 0 = 2 }) }
+    ∷ record { text = ascii "BC"; other = []; at = 3; says = None }
     ∷ []
 
 pub text-examples : map (λ (e : TextExample). eat_text e.other e.text e.at) eaten_texts ≡ map (λ (e : TextExample). e.says) eaten_texts

@@ -1,15 +1,12 @@
 -- What the scanner's functions find from a place of a text on. A place is a count of bytes from the text's start.
-use Rattle.std.specs.Prelude.{ℕ, zero, suc, ◌+◌, ◌-◌, ◌≡◌, List, [], ◌∷◌, Bool, true, false, not, ◌&&◌, leb, eqb, length, take, drop}
+use Rattle.std.specs.Prelude.{ℕ, zero, suc, ◌+◌, ◌-◌, ◌≡◌, List, [], ◌∷◌, Bool, true, false, not, ◌&&◌, leb, eqb, length, take, drop, Option, Some, None}
 use Rattle.chars.specs.Pick.{pick}
 use Rattle.chars.specs.Utf8.{decode_at}
 use Rattle.chars.specs.declared.Decoded.{Decoded}
 use Rattle.chars.specs.declared.Decoded.TheVariants.{Char, Bad, End}
 use Rattle.scanner.specs.declared.Class.{Class}
 use Rattle.scanner.specs.declared.Class.TheVariants.{Whitespace}
-use Rattle.scanner.specs.declared.Next.{Next}
-use Rattle.scanner.specs.declared.Next.TheVariants.{Ate, Nothing}
-use Rattle.scanner.specs.declared.EatIf.{EatIf}
-use Rattle.scanner.specs.declared.EatIf.TheVariants.{Past, Kept}
+use Rattle.scanner.specs.declared.Cursor.{Cursor}
 use Rattle.scanner.specs.declared.Run.{Run}
 use Rattle.scanner.specs.Class.{in_class}
 
@@ -33,8 +30,8 @@ unfoldable pub eat_while : Class → List ℕ → ℕ → ℕ
 eat_while k s at = walk (match_len k s) (length s) at
 
 -- behind a character of the class, if one stands at the place
-unfoldable pub eat_if : Class → List ℕ → ℕ → EatIf
-eat_if k s at = pick (eqb (match_len k s at) 0) Kept (Past (record { 0 = at + match_len k s at }))
+unfoldable pub eat_if : Class → List ℕ → ℕ → Option Cursor
+eat_if k s at = pick (eqb (match_len k s at) 0) None (Some (record { 0 = at + match_len k s at }))
 
 -- whether the second text begins with the first
 unfoldable pub begins : List ℕ → List ℕ → Bool
@@ -43,17 +40,17 @@ begins (x ∷ t) [] = false
 begins (x ∷ t) (y ∷ s) = eqb x y && begins t s
 
 -- behind the text t, if it stands at the place; a place past the end has nothing
-unfoldable pub eat_text : List ℕ → List ℕ → ℕ → EatIf
-eat_text t s at = pick (leb at (length s)) (pick (begins t (drop at s)) (Past (record { 0 = at + length t })) Kept) Kept
+unfoldable pub eat_text : List ℕ → List ℕ → ℕ → Option Cursor
+eat_text t s at = pick (leb at (length s)) (pick (begins t (drop at s)) (Some (record { 0 = at + length t })) None) None
 
 -- the character at a place, and the place behind it
-unfoldable pub eaten : Decoded → ℕ → Next
-eaten (Char code len) at = Ate code (record { 0 = at + len })
-eaten Bad at = Nothing
-eaten End at = Nothing
+unfoldable pub eaten : Decoded → ℕ → Option (ℕ × Cursor)
+eaten (Char code len) at = Some (code, record { 0 = at + len })
+eaten Bad at = None
+eaten End at = None
 
 -- the character at a place of a text, and the place behind it
-unfoldable pub eat_at : List ℕ → ℕ → Next
+unfoldable pub eat_at : List ℕ → ℕ → Option (ℕ × Cursor)
 eat_at s at = eaten (decode_at s at) at
 
 -- whether a character of the class stands at the place

@@ -39,20 +39,6 @@ pub enum Class {
     Is(u32),
 }
 
-// Whether something was eaten: the place behind it, or not.
-#[derive(Clone, Copy)]
-pub enum EatIf {
-    Past(Cursor),
-    Kept,
-}
-
-// The next character and the place behind it, if there is one.
-#[derive(Clone, Copy)]
-pub enum Next {
-    Ate(u32, Cursor),
-    Nothing,
-}
-
 // Whether the character is of the class.
 fn in_class(class: Class, code: u32) -> bool
     ensures { result ≡ in_class class code }
@@ -110,6 +96,7 @@ fn eat_each(s: &[u8], at: usize, class: Class) -> usize
     ensures { result ≡ spec.eat_while class s.now at }
 {
     let mut i = at;
+    // Kept as a loop: a step is as long as its character, and a `for` over places goes on by the same step each time.
     loop {
         let n = match_len(s, i, class);
         if n == 0 {
@@ -155,8 +142,7 @@ fn one_byte(c: u32) -> Bytes
 fn eat_bytes(s: &[u8], at: usize, lo: u8, hi: u8) -> usize
     ensures { (k : Class) → Quick k lo hi → spec.eat_while k s.now result ≡ spec.eat_while k s.now at }
 {
-    let mut i = at;
-    while i < s.len() {
+    for i in at..s.len() {
         let b = s[i];
         if b < lo {
             return i;
@@ -164,9 +150,8 @@ fn eat_bytes(s: &[u8], at: usize, lo: u8, hi: u8) -> usize
         if hi < b {
             return i;
         }
-        i = i + 1;
     }
-    i
+    at.max(s.len())
 }
 
 // Past the run of characters of the class at the cursor: quickly over ASCII, then character by character.
@@ -184,10 +169,8 @@ fn are_spaces(s: &[u8], at: usize) -> bool
     ensures { result ≡ true → spec.eat_while Whitespace s.now (at + 64) ≡ spec.eat_while Whitespace s.now at }
 {
     let mut ok = true;
-    let mut i = 0;
-    while i < 64 {
+    for i in 0..64 {
         ok = ok & (s[at + i] == b' ');
-        i = i + 1;
     }
     ok
 }
@@ -196,18 +179,12 @@ fn are_spaces(s: &[u8], at: usize) -> bool
 fn eat_spaces(s: &[u8], at: usize) -> usize
     ensures { spec.eat_while Whitespace s.now result ≡ spec.eat_while Whitespace s.now at }
 {
-    let mut i = at;
-    while i < s.len() {
-        if s.len() - i < 64 {
-            return i;
-        }
-        if are_spaces(s, i) {
-            i = i + 64;
-        } else {
+    for i in (at..s.len()).step_by(64) {
+        if s.len() - i < 64 || !are_spaces(s, i) {
             return i;
         }
     }
-    i
+    at.max(s.len())
 }
 
 // The place behind white space: there may be many spaces. A character of two bytes from U+00C0 on is none.
@@ -243,56 +220,46 @@ pub fn eat_whitespace(s: &[u8], c: Cursor) -> Cursor
 }
 
 // Past the character at the cursor, if it is of the class.
-pub fn eat_if(s: &[u8], c: Cursor, class: Class) -> EatIf
+pub fn eat_if(s: &[u8], c: Cursor, class: Class) -> Option<Cursor>
     ensures { result ≡ spec.eat_if class s.now c.0 }
 {
     let at = c.0;
     let n = match_len(s, at, class);
     if n == 0 {
-        return EatIf::Kept;
+        return None;
     }
-    EatIf::Past(Cursor(at + n))
+    Some(Cursor(at + n))
 }
 
 // Byte by byte: what is asked for is ASCII, and no part of a longer character is.
 fn begins(s: &[u8], t: &[u8]) -> bool
     ensures { result ≡ spec.begins t.now s.now }
 {
-    let mut i = 0;
-    while i < t.len() {
-        if s.len() <= i {
-            return false;
-        }
-        if t[i] != s[i] {
-            return false;
-        }
-        i = i + 1;
-    }
-    true
+    s.starts_with(t)
 }
 
 // Past the text t, if it stands at the cursor.
-pub fn eat_text(s: &[u8], c: Cursor, t: &[u8]) -> EatIf
+pub fn eat_text(s: &[u8], c: Cursor, t: &[u8]) -> Option<Cursor>
     ensures { result ≡ spec.eat_text t.now s.now c.0 }
 {
     let at = c.0;
     if at <= s.len() {
         if begins(&s[at..], t) {
-            return EatIf::Past(Cursor(at + t.len()));
+            return Some(Cursor(at + t.len()));
         }
     }
-    EatIf::Kept
+    None
 }
 
 // The next character, and past it.
-pub fn eat(s: &[u8], c: Cursor) -> Next
+pub fn eat(s: &[u8], c: Cursor) -> Option<(u32, Cursor)>
     ensures { result ≡ spec.eat_at s.now c.0 }
 {
     let at = c.0;
     match chars::decode_at(s, at) {
-        Decoded::Char { code, len } => Next::Ate(code, Cursor(at + len)),
-        Decoded::Bad => Next::Nothing,
-        Decoded::End => Next::Nothing,
+        Decoded::Char { code, len } => Some((code, Cursor(at + len))),
+        Decoded::Bad => None,
+        Decoded::End => None,
     }
 }
 

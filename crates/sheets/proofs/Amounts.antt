@@ -13,8 +13,8 @@ use Rattle.verdicts.specs.Dates.{date_verdict}
 use Rattle.findings.specs.Words.{capped}
 use Rattle.headers.specs.declared.Columns.{Columns}
 use Rattle.sheets.specs.declared.Tally.{Tally}
-use Rattle.sheets.specs.declared.Checked.{Checked}
-use Rattle.sheets.specs.declared.Checked.TheVariants.{Good, Bad}
+use Rattle.headers.specs.declared.RowFault.{RowFault}
+use Rattle.std.specs.Prelude.{Result, Ok, Err}
 use Rattle.sheets.specs.Tallies.{one_strict, one_otherwise, one_refused, one_row, one_bad, one_date}
 use Rattle.sheets.specs.Rows.{text_at, dates_counted, six_of, row_counted, checked_counted}
 use Rattle.sheets.specs.Steps.{no_tally}
@@ -195,10 +195,10 @@ module _ (c : Columns) (cs : List (List ℕ)) where
       (then-amount (then-amount (date-amount (date_verdict (text_at cs c.date))) (date-amount (date_verdict (text_at cs c.origdate)))) (date-amount (date_verdict (text_at cs c.eventdate))))
       (date-amount (date_verdict (text_at cs c.urldate)))
 
-  pub checked-amount : (k : Checked) → Amount (checked_counted c cs k)
+  pub checked-amount : (k : Result (Unit {0}) RowFault) → Amount (checked_counted c cs k)
   unfolding checked_counted row_counted
-  checked-amount Good = then-amount row-amount (then-amount dates-amount (date-amount (six_of c cs)))
-  checked-amount (Bad f) = bad-amount
+  checked-amount (Ok tt) = then-amount row-amount (then-amount dates-amount (date-amount (six_of c cs)))
+  checked-amount (Err f) = bad-amount
 
 pub raised_by : {k n n' : ℕ} → Raised k n n' → n' < 4294967295 → n' ≡ n + k
 raised_by {k} {n} {n'} r h = omega (arith, r.sum, capped_is n', capped_is (n + k))

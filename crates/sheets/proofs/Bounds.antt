@@ -41,8 +41,7 @@ use Rattle.headers.specs.declared.Columns.{Columns}
 use Prim.Native.Nat.{◌+◌, ◌<◌, ℕ, ◌≤◌}
 use Rattle.findings.specs.declared.Column.{Column}
 use Rattle.findings.specs.declared.Column.TheVariants.{Date, Origdate, Eventdate, Urldate}
-use Rattle.sheets.specs.declared.Checked.{Checked}
-use Rattle.sheets.specs.declared.Checked.TheVariants.{Good, Bad}
+use Rattle.std.specs.Prelude.{Result, Ok, Err}
 use Rattle.headers.specs.declared.RowFault.{RowFault}
 
 module _ (line : ℕ) (small : line < 4294967296) (c : Columns) (cs : List (List ℕ)) (h : Short c cs) where
@@ -73,11 +72,11 @@ module _ (line : ℕ) (small : line < 4294967296) (c : Columns) (cs : List (List
       let f = six-most in
       simp length-append (omega arith)
 
-good-said : (line : ℕ) (c : Columns) (cs : List (List ℕ)) → line < 4294967296 → Short c cs → length (checked_said line c cs Good) ≤ 262144
+good-said : (line : ℕ) (c : Columns) (cs : List (List ℕ)) → line < 4294967296 → Short c cs → length (checked_said line c cs (Ok tt)) ≤ 262144
 unfolding checked_said
 good-said line c cs small h = row-most line small c cs h
 
-bad-said : (line : ℕ) (c : Columns) (cs : List (List ℕ)) (f : RowFault) → line < 4294967296 → length (checked_said line c cs (Bad f)) ≤ 262144
+bad-said : (line : ℕ) (c : Columns) (cs : List (List ℕ)) (f : RowFault) → line < 4294967296 → length (checked_said line c cs (Err f)) ≤ 262144
 unfolding checked_said
 bad-said line c cs f small = omega (arith, bad-row-most line f small)
 
@@ -85,9 +84,9 @@ bad-said line c cs f small = omega (arith, bad-row-most line f small)
 pub checked-most : (line : ℕ) (c : Columns) (width : ℕ) (s : List ℕ) (end count : ℕ) (cs : List (List ℕ)) → line < 4294967296
     → length (checked_said line c cs (checked_row c width s end count cs)) ≤ 262144
 checked-most line c width s end count cs small = by-check (checked_row c width s end count cs) refl where
-  by-check : (x : Checked) → checked_row c width s end count cs ≡ x → length (checked_said line c cs x) ≤ 262144
-  by-check Good e = good-said line c cs small (good-short c cs width s end count e)
-  by-check (Bad f) e = bad-said line c cs f small
+  by-check : (x : Result (Unit {0}) RowFault) → checked_row c width s end count cs ≡ x → length (checked_said line c cs x) ≤ 262144
+  by-check (Ok tt) e = good-said line c cs small (good-short c cs width s end count e)
+  by-check (Err f) e = bad-said line c cs f small
 
 -- the line and the counts of a state are numbers of 32 bits, as in every state that the code can hold
 pub record Low (st : State) : Type 0 where

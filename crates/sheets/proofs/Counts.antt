@@ -36,8 +36,7 @@ use Rattle.sheets.specs.declared.Phase.{Phase}
 use Rattle.sheets.specs.declared.Phase.TheVariants.{Start, Rows, Skipping}
 use Rattle.sheets.specs.declared.Tally.{Tally}
 use Rattle.sheets.specs.declared.State.{State}
-use Rattle.sheets.specs.declared.Checked.{Checked}
-use Rattle.sheets.specs.declared.Checked.TheVariants.{Good, Bad}
+use Rattle.std.specs.Prelude.{Result, Ok, Err}
 use Rattle.sheets.specs.Tallies.{one_strict, one_row, one_bad, one_date}
 use Rattle.sheets.specs.Rows.{text_at, key_column, checked_row, windowed_if, date_said, dates_said, dates_counted, six_of, six_said, lines_by, row_said, row_counted, checked_said, checked_counted}
 use Rattle.sheets.specs.Steps.{behind, no_tally, start_step, row_step, skip_step, step_in, next, fresh}
@@ -159,10 +158,10 @@ module _ (line : ℕ) (c : Columns) (cs : List (List ℕ)) where
   unfolding row_said lines_by row_counted
   row_told t = then-told (dates-told (text_at cs (key_column c)) t) (six-told (text_at cs (key_column c)) (dates_counted c cs t))
 
-  checked-told : (k : Checked) (t : Tally) → Tells (checked_said line c cs k) t (checked_counted c cs k t)
+  checked-told : (k : Result (Unit {0}) RowFault) (t : Tally) → Tells (checked_said line c cs k) t (checked_counted c cs k t)
   unfolding checked_said checked_counted
-  checked-told Good t = then-told {s = []} (counted-told t) (row_told (one_row t))
-  checked-told (Bad f) t = bad-told line f t
+  checked-told (Ok tt) t = then-told {s = []} (counted-told t) (row_told (one_row t))
+  checked-told (Err f) t = bad-told line f t
 
 -- an outcome counts the lines that it says
 data Told (t : Tally) : Outcome State → Type 0 where

@@ -14,9 +14,7 @@ use Rattle.chars.specs.Classes.{within, is_admitted}
 use Rattle.chars.specs.Utf8.{len_of, is_cont, is_surrogate, decode2, decode3, decode4, decode, first, decode_at, len_d}
 use Rattle.refusals.specs.declared.Kind.TheVariants.{InvalidFormat}
 use Rattle.refusals.specs.Refusal.{refusal, nowhere}
-use Rattle.dates.specs.declared.OptionMonth.TheVariants.{NoMonth}
-use Rattle.dates.specs.declared.OptionDay.TheVariants.{NoDay}
-use Rattle.dates.specs.declared.OptionTime.TheVariants.{NoTime}
+use Rattle.std.specs.Prelude.{None, Ok, Err}
 use Rattle.dates.specs.declared.DateValue.TheVariants.{At}
 use Rattle.dates.specs.declared.Date.{Date as DateOf}
 use Rattle.dates.specs.Value.{datetime, date}
@@ -52,7 +50,6 @@ use Rattle.headers.specs.Header.{own_of, row_cells, names_in, names_by, with_cel
 use Rattle.sheets.specs.declared.Phase.TheVariants.{Start, Rows, Skipping}
 use Rattle.sheets.specs.declared.Tally.{Tally}
 use Rattle.sheets.specs.declared.State.{State}
-use Rattle.sheets.specs.declared.Checked.TheVariants.{Good, Bad}
 use Rattle.sheets.specs.declared.Taken.TheVariants.{More, NoRoom, Took, Over}
 use Rattle.sheets.specs.Tallies.{one_strict, one_otherwise, one_refused, one_row, one_bad, one_date}
 use Rattle.sheets.specs.Rows.{key_column, long_six, any_long, checked_row, windowed_if, date_said, dates_said, dates_counted, six_of, six_said, lines_by, row_said, row_counted, checked_said, checked_counted}
@@ -71,7 +68,7 @@ tally rows strict otherwise refused bad = record { rows = rows; strict = strict;
 
 -- a Date, of whichever is said that it is not strict
 abbrev some_date : DateOf
-some_date = date (At (datetime (pos 2000) NoMonth NoDay NoTime)) false false
+some_date = date (At (datetime (pos 2000) None None None)) false false
 
 abbrev verdicts : List Verdict
 verdicts = NoDate ∷ Full ∷ NotStrict some_date ∷ ShortYear some_date ∷ Unread ∷ Refused (nowhere InvalidFormat) ∷ []
@@ -164,7 +161,7 @@ behind_cells zero cell = cell ∷ []
 behind_cells (suc n) cell = [] ∷ behind_cells n cell
 
 -- a cell of 4,096 bytes is read, and of one more no row is; but where it is not looked at it may be so long
-pub long-cells : (checked_row few 1 [] 0 1 (bytes 4096 ∷ []) ≡ Good) × (checked_row few 1 [] 0 1 (bytes 4097 ∷ []) ≡ Bad LongCell) × (checked_row few 2 [] 0 2 ([] ∷ bytes 4097 ∷ []) ≡ Good)
+pub long-cells : (checked_row few 1 [] 0 1 (bytes 4096 ∷ []) ≡ Ok tt) × (checked_row few 1 [] 0 1 (bytes 4097 ∷ []) ≡ Err LongCell) × (checked_row few 2 [] 0 2 ([] ∷ bytes 4097 ∷ []) ≡ Ok tt)
 unfolding checked_row any_long long_six key_column utf8_end utf8_from pick
 long-cells = (refl, refl, refl)
 
@@ -174,7 +171,7 @@ unfolding any_long long_six key_column pick
 all-looked-at = refl
 
 -- too few cells, too many, and bytes that are not UTF-8: the place is counted from the row's start, and what is behind the row is not looked at
-pub bad-rows : (checked_row few 3 (ascii "a,b") 3 2 (ascii "a" ∷ ascii "b" ∷ []) ≡ Bad (Cells 2 3)) × (checked_row few 1 (ascii "a,b") 3 2 (ascii "a" ∷ ascii "b" ∷ []) ≡ Bad (Cells 2 1)) × (checked_row few 2 (ascii "a," ++ 0xC3 ∷ 10 ∷ []) 4 2 (ascii "a" ∷ (0xC3 ∷ []) ∷ []) ≡ Bad (BadUtf8 2)) × (checked_row few 1 (ascii "a\n" ++ 0xC3 ∷ []) 2 1 (ascii "a" ∷ []) ≡ Good)
+pub bad-rows : (checked_row few 3 (ascii "a,b") 3 2 (ascii "a" ∷ ascii "b" ∷ []) ≡ Err (Cells 2 3)) × (checked_row few 1 (ascii "a,b") 3 2 (ascii "a" ∷ ascii "b" ∷ []) ≡ Err (Cells 2 1)) × (checked_row few 2 (ascii "a," ++ 0xC3 ∷ 10 ∷ []) 4 2 (ascii "a" ∷ (0xC3 ∷ []) ∷ []) ≡ Err (BadUtf8 2)) × (checked_row few 1 (ascii "a\n" ++ 0xC3 ∷ []) 2 1 (ascii "a" ∷ []) ≡ Ok tt)
 unfolding checked_row any_long long_six key_column utf8_end utf8_from first decode decode2 decode3 decode4 len_of is_cont is_surrogate len_d pick
 bad-rows = (refl, refl, refl, refl)
 
@@ -197,11 +194,11 @@ unfolding row_counted dates_counted six_of undoubled date_verdict by_readers par
 row-counted = refl
 
 -- of a row whose cells are empty nothing is said or counted but the row
-pub row-empty : (checked_said 5 all (behind_cells 10 []) Good ≡ []) × (checked_counted all (behind_cells 10 []) Good (tally 1 2 3 4 5) ≡ tally 2 2 3 4 5)
+pub row-empty : (checked_said 5 all (behind_cells 10 []) (Ok tt) ≡ []) × (checked_counted all (behind_cells 10 []) (Ok tt) (tally 1 2 3 4 5) ≡ tally 2 2 3 4 5)
 unfolding checked_said checked_counted row_said lines_by dates_said date_said windowed_if six_said six_of key_column undoubled row_counted dates_counted date_verdict six_verdict some_given date_line six_line verdict_line is_said one_date one_row capped pick
 row-empty = (refl, refl)
 
-pub row-bad : (checked_said 5 few [] (Bad LongCell) ≡ ascii "5\t\t\t\tbad row\ta cell of more than 4,096 bytes\n") × (checked_counted few [] (Bad LongCell) (tally 1 2 3 4 5) ≡ tally 2 2 3 4 6)
+pub row-bad : (checked_said 5 few [] (Err LongCell) ≡ ascii "5\t\t\t\tbad row\ta cell of more than 4,096 bytes\n") × (checked_counted few [] (Err LongCell) (tally 1 2 3 4 5) ≡ tally 2 2 3 4 6)
 unfolding checked_said checked_counted bad_row_line finding row_words escaped decimal width digit_count count one_bad capped pick
 row-bad = (refl, refl)
 

@@ -1,5 +1,4 @@
 -- Texts that are put one behind the other into the output, and what is counted with them. Assumes nothing.
-use Rattle.chars.specs.Classes.{within}
 use mathlib.Core.Path.{◌≡◌, refl, ap, ◌∙◌}
 use mathlib.Core.Bool.{false}
 use mathlib.Core.List.{List, [], ◌++◌}
@@ -8,8 +7,8 @@ use native.Mathlib.Nat.{zero-add}
 use native.Mathlib.Omega.{arith}
 use borrow.Rule.Slice.PartMut.{put_mid}
 use lib.ListN.{length, take, drop}
-use Rattle.puts.specs.declared.Written.{Written}
-use Rattle.puts.specs.declared.Written.TheVariants.{Done, Refused}
+use Rattle.refusals.specs.declared.Refusal.{Refusal}
+use Rattle.std.specs.Prelude.{Result, Ok, Err}
 use Rattle.puts.specs.Answers.{answer, afterwards, Put}
 use Rattle.puts.proofs.Puts.{nothing, first_fits, kept, room, both, at_front}
 use Rattle.puts.proofs.Lent.{in-range, put-done, put-none}
@@ -25,7 +24,7 @@ none_going : {t out out' : List ℕ} {p : ℕ} → p ≤ length out → length o
 none_going h k e = record { put = λ g. absurd (omega (arith, g, k)); within = rw e h; same = ap length e }
 
 -- what a writer put into the output from a place on
-module _ (t out : List ℕ) (p : ℕ) (h : p ≤ length out) {l' : List ℕ} {w : Written}
+module _ (t out : List ℕ) (p : ℕ) (h : p ≤ length out) {l' : List ℕ} {w : Result ℕ Refusal}
     (ew : w ≡ answer false t (length (take (length out - p) (drop p out)))) (el : l' ≡ afterwards false t (take (length out - p) (drop p out))) where
   pub in-64 : length out ≤ 18446744073709551615 → InRange p w
   in-64 k = λ n e. omega (arith, in-range t out p h ew el e)
@@ -33,9 +32,9 @@ module _ (t out : List ℕ) (p : ℕ) (h : p ≤ length out) {l' : List ℕ} {w 
   pub going : {r : ℕ} → r ≡ advanced_by p w → Going t out p (put_mid p (length out - p) out l') r
   unfolding advanced_by
   going {r} e = by-writer w refl where
-    by-writer : (x : Written) → w ≡ x → Going t out p (put_mid p (length out - p) out l') r
-    by-writer (Done n) q = let k : r ≡ p + n = e ∙ ap (advanced_by p) q in rw k (put_going (in-range t out p h ew el q) (put-done t out p h ew el q))
-    by-writer (Refused x) q = let k : r ≡ p = e ∙ ap (advanced_by p) q in let z = put-none t out p h ew el q in rw k (none_going h z.0 z.1)
+    by-writer : (x : Result ℕ Refusal) → w ≡ x → Going t out p (put_mid p (length out - p) out l') r
+    by-writer (Ok n) q = let k : r ≡ p + n = e ∙ ap (advanced_by p) q in rw k (put_going (in-range t out p h ew el q) (put-done t out p h ew el q))
+    by-writer (Err x) q = let k : r ≡ p = e ∙ ap (advanced_by p) q in let z = put-none t out p h ew el q in rw k (none_going h z.0 z.1)
 
 -- nothing is put
 pub going-none : (out : List ℕ) (p : ℕ) → p ≤ length out → Going [] out p out p

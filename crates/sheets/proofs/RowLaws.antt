@@ -7,7 +7,6 @@ use Rattle.chars.proofs.Cases.{of_test}
 use borrow.Author.Tests.{ltb-false}
 use lib.ListN.{length, take}
 use lib.Dec.{eqb, ltb}
-use Rattle.dates.specs.Value.{date, day, month}
 use Rattle.findings.specs.Lines.{bad_row_line}
 use native.Mathlib.Omega.{arith}
 use Rattle.sheets.specs.Rows.{any_long, checked_counted, checked_row, checked_said, is_long, key_column, long_six, own_at, row_counted, row_said, lines_by}
@@ -18,14 +17,14 @@ use Rattle.sheets.specs.Inside.{RowTold, Short, Told, at_start}
 use mathlib.Core.List.{List}
 use Rattle.headers.specs.declared.Columns.{Columns}
 use mathlib.Core.Bool.{Bool, false, false≢true, true, ◌||◌}
-use Rattle.sheets.specs.declared.Checked.TheVariants.{Good, Bad}
+use Rattle.std.specs.Prelude.{Result, Ok, Err}
 use Rattle.headers.specs.declared.RowFault.{RowFault}
 
 or-false : (p q : Bool) → p || q ≡ false → (p ≡ false) × (q ≡ false)
 or-false true q e = absurd (false≢true (sym e))
 or-false false q e = (refl, e)
 
-good-not-bad : {f : RowFault} → Bad f ≡ Good → ⊥
+good-not-bad : {f : RowFault} → ◌≡◌ {A = Result (Unit {0}) RowFault} (Err f) (Ok tt) → ⊥
 good-not-bad e = let z : ◌≡◌ {A = ℕ} 0 1 = cc in omega arith
 
 module _ (c : Columns) (cs : List (List ℕ)) where
@@ -60,7 +59,7 @@ module _ (c : Columns) (cs : List (List ℕ)) where
       }
 
   -- a good row has no long cell
-  pub good-short : (width : ℕ) (s : List ℕ) (end count : ℕ) → checked_row c width s end count cs ≡ Good → Short c cs
+  pub good-short : (width : ℕ) (s : List ℕ) (end count : ℕ) → checked_row c width s end count cs ≡ Ok tt → Short c cs
   unfolding checked_row pick
   good-short width s end count e =
       of_test (eqb count width)
@@ -72,13 +71,13 @@ module _ (c : Columns) (cs : List (List ℕ)) where
 
   module _ (line width : ℕ) (s : List ℕ) (end count : ℕ) {out out' : List ℕ} {t : Tally} {r : Said} where
     -- what is said of a good row
-    pub told-good : checked_row c width s end count cs ≡ Good → {q : Said} → q ≡ at_start (one_row t) → Told (row_said line c cs) (row_counted c cs) out q out' r
+    pub told-good : checked_row c width s end count cs ≡ Ok tt → {q : Said} → q ≡ at_start (one_row t) → Told (row_said line c cs) (row_counted c cs) out q out' r
         → RowTold line c width s end count cs out t out' r
     unfolding checked_said checked_counted
     told-good e p x = let y = rw p at x in rw e (record { text = y.text; tally = y.tally })
 
     -- of a bad one
-    pub told-bad : {f : RowFault} → checked_row c width s end count cs ≡ Bad f → Told (bad_row_line line f) one_bad out (at_start t) out' r
+    pub told-bad : {f : RowFault} → checked_row c width s end count cs ≡ Err f → Told (bad_row_line line f) one_bad out (at_start t) out' r
         → RowTold line c width s end count cs out t out' r
     unfolding checked_said checked_counted
     told-bad e x = rw e x

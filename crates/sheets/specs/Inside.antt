@@ -9,9 +9,8 @@ use Rattle.sheets.specs.declared.State.{State}
 use Rattle.sheets.specs.declared.Taken.{Taken}
 use Rattle.sheets.specs.Steps.{behind, row_step}
 use Rattle.sheets.specs.Reports.{said, answered}
-use Rattle.std.specs.Prelude.{ℕ, ◌+◌, ◌≤◌, ◌≡◌, List, ◌++◌, length, drop}
-use Rattle.puts.specs.declared.Written.{Written}
-use Rattle.puts.specs.declared.Written.TheVariants.{Done, Refused}
+use Rattle.std.specs.Prelude.{ℕ, ◌+◌, ◌≤◌, ◌≡◌, List, ◌++◌, length, drop, Result, Ok, Err}
+use Rattle.refusals.specs.declared.Refusal.{Refusal}
 use Rattle.puts.specs.Answers.{Put}
 use Rattle.csv_rows.specs.Texts.{undoubled}
 use Rattle.verdicts.specs.declared.Verdict.{Verdict}
@@ -65,13 +64,13 @@ pub record Short (c : Columns) (cs : List (List ℕ)) : Type 0 where
   pub endday : length (own_at cs c.endday) ≤ 4096
 
 -- the place behind what a writer wrote
-unfoldable pub advanced_by : ℕ → Written → ℕ
-advanced_by p (Done n) = p + n
-advanced_by p (Refused e) = p
+unfoldable pub advanced_by : ℕ → Result ℕ Refusal → ℕ
+advanced_by p (Ok n) = p + n
+advanced_by p (Err e) = p
 
 -- it is a number of 64 bits
-abbrev pub InRange : ℕ → Written → Type 0
-InRange p w = (n : ℕ) → w ≡ Done n → p + n ≤ 18446744073709551615
+abbrev pub InRange : ℕ → Result ℕ Refusal → Type 0
+InRange p w = (n : ℕ) → w ≡ Ok n → p + n ≤ 18446744073709551615
 
 -- the count of a date
 abbrev pub counting : Verdict → Tally → Tally

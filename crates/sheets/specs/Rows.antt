@@ -1,5 +1,5 @@
 -- What is said of a row: its lines, and what it counts. A row is given by the own bytes of its cells.
-use Rattle.std.specs.Prelude.{ℕ, Bool, false, ◌||◌, List, [], ◌++◌, eqb, ltb, length, get_or, take}
+use Rattle.std.specs.Prelude.{ℕ, Bool, false, ◌||◌, List, [], ◌++◌, eqb, ltb, length, get_or, take, Result, Ok, Err}
 use Rattle.chars.specs.Pick.{pick}
 use Rattle.csv_rows.specs.Bytes.{utf8_end}
 use Rattle.csv_rows.specs.Texts.{undoubled}
@@ -14,8 +14,7 @@ use Rattle.headers.specs.declared.RowFault.TheVariants.{Cells, BadUtf8, LongCell
 use Rattle.findings.specs.Lines.{date_line, six_line, bad_row_line}
 use Rattle.headers.specs.declared.Columns.{Columns}
 use Rattle.sheets.specs.declared.Tally.{Tally}
-use Rattle.sheets.specs.declared.Checked.{Checked}
-use Rattle.sheets.specs.declared.Checked.TheVariants.{Good, Bad}
+use Rattle.headers.specs.declared.RowFault.{RowFault}
 use Rattle.sheets.specs.Tallies.{one_row, one_bad, one_date}
 
 -- the own bytes of the cell of a column; none where there is no such column
@@ -44,10 +43,10 @@ any_long c cs =
     is_long cs (key_column c) || (is_long cs c.date || (is_long cs c.origdate || (is_long cs c.eventdate || (is_long cs c.urldate || long_six c cs))))
 
 -- whether a row can be used: it has as many cells as the header, is UTF-8, and no cell that is looked at is too long; `width` is the header's number of cells
-unfoldable pub checked_row : Columns → ℕ → List ℕ → ℕ → ℕ → List (List ℕ) → Checked
+unfoldable pub checked_row : Columns → ℕ → List ℕ → ℕ → ℕ → List (List ℕ) → Result (Unit {0}) RowFault
 checked_row c width s end count cs =
-    pick (eqb count width) (pick (ltb (utf8_end (take end s)) end) (Bad (BadUtf8 (utf8_end (take end s)))) (pick (any_long c cs) (Bad LongCell) Good))
-    (Bad (Cells count width))
+    pick (eqb count width) (pick (ltb (utf8_end (take end s)) end) (Err (BadUtf8 (utf8_end (take end s)))) (pick (any_long c cs) (Err LongCell) (Ok tt)))
+    (Err (Cells count width))
 
 -- of a date that is not strict it is asked whether its year was windowed
 unfoldable pub windowed_if : Verdict → List ℕ → Bool
@@ -100,11 +99,11 @@ unfoldable pub row_counted : Columns → List (List ℕ) → Tally → Tally
 row_counted c cs t = one_date (dates_counted c cs t) (six_of c cs)
 
 -- the lines of a row that was checked
-unfoldable pub checked_said : ℕ → Columns → List (List ℕ) → Checked → List ℕ
-checked_said line c cs Good = row_said line c cs
-checked_said line c cs (Bad f) = bad_row_line line f
+unfoldable pub checked_said : ℕ → Columns → List (List ℕ) → Result (Unit {0}) RowFault → List ℕ
+checked_said line c cs (Ok tt) = row_said line c cs
+checked_said line c cs (Err f) = bad_row_line line f
 
 -- and what it counts
-unfoldable pub checked_counted : Columns → List (List ℕ) → Checked → Tally → Tally
-checked_counted c cs Good t = row_counted c cs (one_row t)
-checked_counted c cs (Bad f) t = one_bad t
+unfoldable pub checked_counted : Columns → List (List ℕ) → Result (Unit {0}) RowFault → Tally → Tally
+checked_counted c cs (Ok tt) t = row_counted c cs (one_row t)
+checked_counted c cs (Err f) t = one_bad t

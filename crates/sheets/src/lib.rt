@@ -18,10 +18,10 @@ ghost use Rattle.sheets.specs.declared.Phase.TheVariants as Phase;
 ghost use Rattle.sheets.specs.Inside as inside;
 ghost use Rattle.sheets.specs.Inside.{Going, Told, Short};
 
-use csv_rows::{Copied, Fault, RowRead, Separator, Skipped};
+use csv_rows::{Fault, RowRead, Separator, Skipped};
 use findings::Column;
 use headers::{Columns, Header, RowFault, Unusable};
-use puts::Written;
+use refusals::Refusal;
 use verdicts::Verdict;
 
 // What is read next: the header, a row, or the rest of a line that is skipped.
@@ -67,13 +67,6 @@ pub enum Taken {
     Over {
         put: usize,
     },
-}
-
-// Whether a row can be used.
-#[derive(Clone, Copy)]
-enum Checked {
-    Good,
-    Bad(RowFault),
 }
 
 // How much of the output was put, and what was counted.
@@ -156,6 +149,7 @@ fn one_bad(t: Tally) -> Tally
 }
 
 // Counts a date.
+#[tactic(auto, unfolding(crate::specs::Tallies::one_date))]
 fn one_date(t: Tally, v: Verdict) -> Tally
     ensures { result ≡ tallies.one_date t v }
 {
@@ -185,12 +179,10 @@ fn cell_of<'a, 'b>(s: &'a [u8], table: &'b [usize; 512], count: usize, k: usize)
 fn has_quote(s: &[u8]) -> bool
     ensures { result ≡ false → undoubled s.now ≡ s.now }
 {
-    let mut i = 0;
-    while i < s.len() {
-        if s[i] == 34 {
+    for b in s {
+        if *b == 34 {
             return true;
         }
-        i += 1;
     }
     false
 }
@@ -200,10 +192,7 @@ fn copy(own: &[u8], text: &mut [u8; 4096]) -> usize
     requires { length own.now ≤ 4096 }
     ensures { (take result text.new ≡ undoubled own.now) × (result ≤ length text.new) }
 {
-    match csv_rows::copy_text(own, text) {
-        Copied::Text(n) => n,
-        Copied::NoRoom => 0,
-    }
+    csv_rows::copy_text(own, text).unwrap_or(0)
 }
 
 // The column of the key.
@@ -274,33 +263,34 @@ fn check_row(
     count: usize,
     c: Columns,
     width: usize,
-) -> Checked
+) -> Result<(), RowFault>
     requires { end ≤ length s.now }
     ensures { result ≡ rows_specs.checked_row c width s.now end count (tables.cells_from s.now table.now 0 count) }
 {
     if count == width {
         let good = csv_rows::utf8_end(&s[..end]);
         if good < end {
-            return Checked::Bad(RowFault::BadUtf8(good));
+            return Err(RowFault::BadUtf8(good));
         }
         if any_long(s, table, count, c) {
-            return Checked::Bad(RowFault::LongCell);
+            return Err(RowFault::LongCell);
         }
-        return Checked::Good;
+        return Ok(());
     }
-    Checked::Bad(RowFault::Cells(count, width))
+    Err(RowFault::Cells(count, width))
 }
 
 // ---- lines
 
 // The place behind what a writer wrote.
-fn advanced(p: usize, w: Written) -> usize
+#[tactic(auto, unfolding(crate::specs::Inside::advanced_by))]
+fn advanced(p: usize, w: Result<usize, Refusal>) -> usize
     requires { inside.InRange p w }
     ensures { result ≡ inside.advanced_by p w }
 {
     match w {
-        Written::Done(n) => p + n,
-        Written::Refused(_) => p,
+        Ok(n) => p + n,
+        Err(_) => p,
     }
 }
 
@@ -359,6 +349,7 @@ fn put_unread(why: Unusable, out: &mut [u8], p: usize) -> usize
 // ---- a date in one cell
 
 // Of a date that is not strict it is asked whether its year was windowed.
+#[tactic(auto, unfolding(crate::specs::Rows::windowed_if))]
 fn windowed_if(v: Verdict, cell: &[u8]) -> bool
     ensures { result ≡ rows_specs.windowed_if v cell.now }
 {
@@ -769,14 +760,14 @@ fn checked_lines(
     ensures { inside.RowTold line c width block.now end count (tables.cells_from block.now table.now 0 count) out.old t out.new result }
 {
     match check_row(block, table, end, count, c, width) {
-        Checked::Good => {
+        Ok(()) => {
             let s = Said {
                 put: 0,
                 tally: one_row(t),
             };
             row_lines(line, block, table, count, c, out, s)
         }
-        Checked::Bad(f) => bad_row(line, f, out, t),
+        Err(f) => bad_row(line, f, out, t),
     }
 }
 

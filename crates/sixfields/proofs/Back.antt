@@ -9,8 +9,9 @@ use Rattle.dates.specs.declared.Datetime.{Datetime}
 use Rattle.dates.specs.declared.DateValue.{DateValue}
 use Rattle.dates.specs.declared.DateValue.TheVariants.{At, After, Before, Between}
 use Rattle.dates.specs.Value.{date, from_datetime}
-use Rattle.refusals.specs.declared.ReadDate.{ReadDate}
-use Rattle.refusals.specs.declared.ReadDate.TheVariants.{Accepted}
+use Rattle.dates.specs.declared.Date.{Date}
+use Rattle.refusals.specs.declared.Refusal.{Refusal}
+use Rattle.std.specs.Prelude.{Result, Ok}
 use Rattle.chunks.specs.Lent.{Three}
 use Rattle.reading_laws.specs.Fields.{three_fields}
 use Rattle.reading_laws.specs.Single.{Single, one, none}
@@ -23,7 +24,7 @@ use Rattle.sixfields.specs.Back.{Places, is_closed, value_lines_of, read_back}
 use Rattle.sixfields.proofs.Filled.{filled}
 
 -- a single date goes through as it is
-same : {r : ReadDate} → Single r → on_three r (λ a. unmarked (At a)) ≡ r
+same : {r : Result Date Refusal} → Single r → on_three r (λ a. unmarked (At a)) ≡ r
 unfolding on_three single unmarked
 same (one a) = refl
 same none = refl
@@ -34,7 +35,7 @@ unfolding six_fields with_end pick
 without_end start end = same (three-single start)
 
 -- an end that was read makes a range
-ends : (a b : Datetime) (end : Three) → three_fields end ≡ Accepted (from_datetime b) → with_end a true end ≡ Accepted (date (Between a b) false false)
+ends : (a b : Datetime) (end : Three) → three_fields end ≡ Ok (from_datetime b) → with_end a true end ≡ Ok (date (Between a b) false false)
 unfolding with_end pick on_end_year between on_three single unmarked
 ends a b end e = rw (filled end e, e)
 
@@ -47,7 +48,7 @@ lines_are (Before a) u k w = three.lines_are false a w
 lines_are (Between a b) u k w = rw (three.lines_are false a w.0, three.lines_are true b w.1)
 
 -- and the values, read as six fields from any places of a file, give the Date, if it is a single date or a range with both ends and has no mark
-pub fields_back : (v : DateValue) → InDomain v → is_closed v ≡ true → (p q : Places) → read_back v p q ≡ Accepted (date v false false)
+pub fields_back : (v : DateValue) → InDomain v → is_closed v ≡ true → (p q : Places) → read_back v p q ≡ Ok (date v false false)
 unfolding six_fields on_three single
 fields_back (At a) w c p q =
     without_end _ _

@@ -10,15 +10,13 @@ use lib.ListN.{length}
 use Rattle.chars.specs.Ascii.{ascii}
 use Rattle.refusals.specs.declared.Kind.{Kind}
 use Rattle.refusals.specs.declared.Kind.TheVariants.{InvalidFormat, RustPanics, BadUtf8, UnsupportedChar}
-use Rattle.dates.specs.declared.OptionMonth.TheVariants.{NoMonth}
-use Rattle.dates.specs.declared.OptionDay.TheVariants.{NoDay}
-use Rattle.dates.specs.declared.OptionTime.TheVariants.{NoTime}
+use Rattle.dates.specs.declared.Date.{Date}
+use Rattle.refusals.specs.declared.Refusal.{Refusal}
+use Rattle.std.specs.Prelude.{None, Result, Ok, Err}
 use Rattle.dates.specs.declared.Datetime.{Datetime}
 use Rattle.dates.specs.declared.DateValue.{DateValue}
 use Rattle.dates.specs.declared.DateValue.TheVariants.{At, After, Between}
 use Rattle.dates.specs.Value.{datetime, date, month, day}
-use Rattle.refusals.specs.declared.ReadDate.{ReadDate}
-use Rattle.refusals.specs.declared.ReadDate.TheVariants.{Accepted, Refused}
 use Rattle.refusals.specs.Refusal.{file_span}
 use Rattle.chunks.specs.Lent.{Lent, Optional, lent, optional, absent, three}
 use Rattle.sixfields.specs.Six.{six_fields}
@@ -65,18 +63,18 @@ abbrev bad : List ℕ
 bad = 0xFF ∷ []
 
 -- a year without an end year list, and with a bad end month
-abbrev alone : String → ReadDate
+abbrev alone : String → Result Date Refusal
 alone y = six_fields (three (one (ascii y)) absent absent) false (three (lent [] []) (given bad) absent)
 
 -- a year, an end year list, and an end month
-abbrev listed : String → List ℕ → List ℕ → List ℕ → ReadDate
+abbrev listed : String → List ℕ → List ℕ → List ℕ → Result Date Refusal
 listed y end end_table m = six_fields (three (one (ascii y)) absent absent) true (three (lent end end_table) (given m) absent)
 
-abbrev upto : String → List ℕ → List ℕ → ReadDate
+abbrev upto : String → List ℕ → List ℕ → Result Date Refusal
 upto y end m = listed y end (table end) m
 
 -- a year and a month, an end year, an end month and an end day
-abbrev whole : String → String → String → String → String → ReadDate
+abbrev whole : String → String → String → String → String → Result Date Refusal
 whole y m ey em ed =
     six_fields
     (three (one (ascii y)) (given (ascii m)) absent)
@@ -85,19 +83,19 @@ whole y m ey em ed =
 
 -- a year alone, as a Datetime and as a Date
 abbrev year : ℤ → Datetime
-year y = datetime y NoMonth NoDay NoTime
+year y = datetime y None None None
 
-abbrev says : DateValue → ReadDate
-says v = Accepted (date v false false)
+abbrev says : DateValue → Result Date Refusal
+says v = Ok (date v false false)
 
 -- a refusal from a place to another
-abbrev refuses : Kind → ℕ → ℕ → ReadDate
-refuses k start end = Refused (record { kind = k; place = file_span start end })
+abbrev refuses : Kind → ℕ → ℕ → Result Date Refusal
+refuses k start end = Err (record { kind = k; place = file_span start end })
 
 -- what is read, and what it says
 pub record Example : Type 0 where
-  pub read : ReadDate
-  pub is : ReadDate
+  pub read : Result Date Refusal
+  pub is : Result Date Refusal
 
 pub examples : List Example
 examples =
@@ -116,9 +114,9 @@ examples =
     ∷ record { read = upto "2000" (ascii " " ++ chars_utf8.encode 0x20AC) (ascii "1"); is = refuses UnsupportedChar 1 4 }
     ∷ record { read = upto "2000" (ascii "x") bad; is = refuses BadUtf8 0 1 }
     ∷ record { read = upto "2000" (ascii "x") (ascii "1"); is = refuses InvalidFormat 0 0 }
-    ∷ record { read = whole "2000" "2" "2001" "mar" "4"; is = says (Between (datetime (pos 2000) (month 1) NoDay NoTime) (datetime (pos 2001) (month 2) (day 3) NoTime)) }
+    ∷ record { read = whole "2000" "2" "2001" "mar" "4"; is = says (Between (datetime (pos 2000) (month 1) None None) (datetime (pos 2001) (month 2) (day 3) None)) }
     -- the start may be after the end
-    ∷ record { read = upto "2000" (ascii "1999") (ascii "12"); is = says (Between (year (pos 2000)) (datetime (pos 1999) (month 11) NoDay NoTime)) }
+    ∷ record { read = upto "2000" (ascii "1999") (ascii "12"); is = says (Between (year (pos 2000)) (datetime (pos 1999) (month 11) None None)) }
     ∷ []
 
 pub examples-hold : map (λ (e : Example). e.read) examples ≡ map (λ (e : Example). e.is) examples

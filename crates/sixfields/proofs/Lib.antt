@@ -4,3 +4,4 @@ pub mod Back
 pub mod Refusals
 pub mod Examples
 pub mod Seasons
+pub mod Flags

@@ -7,60 +7,56 @@ use Prim.Native.Nat.{ℕ}
 use native.Mathlib.Omega.{arith}
 use Rattle.chars.specs.Pick.{pick}
 use Rattle.refusals.specs.declared.Refusal.{Refusal}
-use Rattle.chunks.specs.declared.Checked.{Checked}
-use Rattle.chunks.specs.declared.Checked.TheVariants.{Clean, Faulty}
+use Rattle.std.specs.Prelude.{Result, Ok, Err}
 use Rattle.chunks.specs.Check.{or_else}
 use Rattle.dates.specs.declared.Datetime.{Datetime}
 use Rattle.dates.specs.declared.DateValue.TheVariants.{After}
 use Rattle.dates.specs.declared.Date.{Date}
-use Rattle.refusals.specs.declared.ReadDate.{ReadDate}
-use Rattle.refusals.specs.declared.ReadDate.TheVariants.{Accepted, Refused}
 use Rattle.reading_laws.specs.Field.{on_clean}
 use Rattle.chunks.specs.Lent.{Three, check_of}
 use Rattle.reading_laws.specs.Fields.{fields_checked, three_fields}
-use Rattle.sixfields.specs.declared.EndYear.TheVariants.{Blank, Filled, FaultyYear}
 use Rattle.sixfields.specs.Six.{blank, judged, end_year_of, single, unmarked, on_three, between, on_end_year, with_end, six_fields}
 use Rattle.sixfields.specs.Refusals.{OfEnd}
 
 -- what is accepted is not refused
-not-both : {d : Date} {e : Refusal} → Accepted d ≡ Refused e → ⊥
+not-both : {d : Date} {e : Refusal} → Ok d ≡ Err e → ⊥
 not-both h = let z : ◌≡◌ {A = ℕ} 0 1 = cc in omega arith
 
 -- what has a text is not blank, nor is what has a fault
-filled-not : Filled ≡ Blank → ⊥
+filled-not : ◌≡◌ {A = Result Bool Refusal} (Ok true) (Ok false) → ⊥
 filled-not h = let z : ◌≡◌ {A = ℕ} 0 1 = cc in omega arith
 
-faulty-not : {f : Refusal} → FaultyYear f ≡ Blank → ⊥
+faulty-not : {f : Refusal} → ◌≡◌ {A = Result Bool Refusal} (Err f) (Ok false) → ⊥
 faulty-not h = let z : ◌≡◌ {A = ℕ} 0 1 = cc in omega arith
 
 -- a refused range has a refused end
-between-refused : (a : Datetime) (r : ReadDate) {e : Refusal} → between a r ≡ Refused e → r ≡ Refused e
+between-refused : (a : Datetime) (r : Result Date Refusal) {e : Refusal} → between a r ≡ Err e → r ≡ Err e
 unfolding between on_three unmarked
-between-refused a (Accepted d) h = absurd (not-both h)
-between-refused a (Refused f) h = h
+between-refused a (Ok d) h = absurd (not-both h)
+between-refused a (Err f) h = h
 
 -- a fault of the year list is what three fields are refused for
-faulty-refused : (t : Three) {f : Refusal} → check_of t.year ≡ Faulty f → three_fields t ≡ Refused f
+faulty-refused : (t : Three) {f : Refusal} → check_of t.year ≡ Err f → three_fields t ≡ Err f
 unfolding three_fields fields_checked or_else on_clean
 faulty-refused t c = rw c
 
 -- an end
 module _ (t : Three) {e : Refusal} where
-  judged-refused : (a : Datetime) (k : Checked) (w : Bool) → check_of t.year ≡ k → on_end_year (judged k w) (unmarked (After a)) (between a (three_fields t)) ≡ Refused e
-      → (judged k w ≡ Blank → ⊥) × (three_fields t ≡ Refused e)
+  judged-refused : (a : Datetime) (k : Result (Unit {0}) Refusal) (w : Bool) → check_of t.year ≡ k → on_end_year (judged k w) (unmarked (After a)) (between a (three_fields t)) ≡ Err e
+      → (judged k w ≡ (Ok false) → ⊥) × (three_fields t ≡ Err e)
   unfolding judged on_end_year unmarked pick
-  judged-refused a Clean true c h = absurd (not-both h)
-  judged-refused a Clean false c h = (filled-not, between-refused a _ h)
-  judged-refused a (Faulty f) w c h = (faulty-not, faulty-refused t c ∙ h)
+  judged-refused a (Ok tt) true c h = absurd (not-both h)
+  judged-refused a (Ok tt) false c h = (filled-not, between-refused a _ h)
+  judged-refused a (Err f) w c h = (faulty-not, faulty-refused t c ∙ h)
 
-  refused-judged : (a : Datetime) (k : Checked) (w : Bool) → check_of t.year ≡ k → (judged k w ≡ Blank → ⊥) → three_fields t ≡ Refused e
-      → on_end_year (judged k w) (unmarked (After a)) (between a (three_fields t)) ≡ Refused e
+  refused-judged : (a : Datetime) (k : Result (Unit {0}) Refusal) (w : Bool) → check_of t.year ≡ k → (judged k w ≡ (Ok false) → ⊥) → three_fields t ≡ Err e
+      → on_end_year (judged k w) (unmarked (After a)) (between a (three_fields t)) ≡ Err e
   unfolding judged on_end_year between on_three pick
-  refused-judged a Clean true c n h = absurd (n refl)
-  refused-judged a Clean false c n h = rw h
-  refused-judged a (Faulty f) w c n h = sym (faulty-refused t c) ∙ h
+  refused-judged a (Ok tt) true c n h = absurd (n refl)
+  refused-judged a (Ok tt) false c n h = rw h
+  refused-judged a (Err f) w c n h = sym (faulty-refused t c) ∙ h
 
-  end_refused : (a : Datetime) (has : Bool) → with_end a has t ≡ Refused e → (has ≡ true) × (end_year_of t.year ≡ Blank → ⊥) × (three_fields t ≡ Refused e)
+  end_refused : (a : Datetime) (has : Bool) → with_end a has t ≡ Err e → (has ≡ true) × (end_year_of t.year ≡ (Ok false) → ⊥) × (three_fields t ≡ Err e)
   unfolding with_end end_year_of unmarked pick
   end_refused a true h =
       let j = judged-refused a (check_of t.year) (blank t.year) refl h in
@@ -68,26 +64,26 @@ module _ (t : Three) {e : Refusal} where
   end_refused a false h = absurd (not-both h)
 
 -- three fields that are refused, or what goes on behind them
-either : (r : ReadDate) (go : Datetime → ReadDate) {B : Type 0} {e : Refusal} → ((d : Date) → r ≡ Accepted d → go (single d.value) ≡ Refused e → B) → on_three r go ≡ Refused e → (r ≡ Refused e) ⊎ B
+either : (r : Result Date Refusal) (go : Datetime → Result Date Refusal) {B : Type 0} {e : Refusal} → ((d : Date) → r ≡ Ok d → go (single d.value) ≡ Err e → B) → on_three r go ≡ Err e → (r ≡ Err e) ⊎ B
 unfolding on_three
-either (Accepted d) go g h = inr (g d refl h)
-either (Refused f) go g h = inl h
+either (Ok d) go g h = inr (g d refl h)
+either (Err f) go g h = inl h
 
 -- Six fields.
 module _ (start : Three) (has : Bool) (end : Three) {e : Refusal} where
   -- what the start is refused for comes first
-  pub start_first : three_fields start ≡ Refused e → six_fields start has end ≡ Refused e
+  pub start_first : three_fields start ≡ Err e → six_fields start has end ≡ Err e
   unfolding six_fields on_three
   start_first h = rw h
 
   -- behind a start that was read, and with an end year list that is not blank, comes what the end is refused for
-  pub end-second : OfEnd start has end e → six_fields start has end ≡ Refused e
+  pub end-second : OfEnd start has end e → six_fields start has end ≡ Err e
   unfolding six_fields on_three with_end end_year_of pick
   end-second w =
       rw (w.start_read, w.there) (refused-judged end _ (check_of end.year) (blank end.year) refl w.not_blank w.end_refused)
 
   -- and no refusal is new: each is one of these two
-  pub none-new : six_fields start has end ≡ Refused e → (three_fields start ≡ Refused e) ⊎ OfEnd start has end e
+  pub none-new : six_fields start has end ≡ Err e → (three_fields start ≡ Err e) ⊎ OfEnd start has end e
   unfolding six_fields
   none-new h =
       either (three_fields start) _

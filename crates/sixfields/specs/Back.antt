@@ -1,10 +1,11 @@
 -- The fields of a Date, as they are written and as they are read back.
-use Rattle.std.specs.Prelude.{ℕ, Bool, true, false, List, [], ◌++◌}
+use Rattle.std.specs.Prelude.{ℕ, Bool, true, false, List, [], ◌++◌, Result}
 use Rattle.refusals.specs.declared.FileSpan.{FileSpan}
 use Rattle.dates.specs.declared.Datetime.{Datetime}
 use Rattle.dates.specs.declared.DateValue.{DateValue}
 use Rattle.dates.specs.declared.DateValue.TheVariants.{At, After, Before, Between}
-use Rattle.refusals.specs.declared.ReadDate.{ReadDate}
+use Rattle.dates.specs.declared.Date.{Date}
+use Rattle.refusals.specs.declared.Refusal.{Refusal}
 use Rattle.chunks.specs.Lent.{Three, lent, absent, three}
 use Rattle.roundtrip_laws.specs.Fields.{lines_of, values_of}
 use Rattle.sixfields.specs.Six.{six_fields}
@@ -37,15 +38,15 @@ abbrev pub values_at : Datetime → Places → Three
 values_at a p = values_of a p.year.0 p.year.1 p.month.0 p.month.1 p.day.0 p.day.1
 
 -- those of one end as six fields: there is no end year
-abbrev pub one_back : Datetime → Places → ReadDate
+abbrev pub one_back : Datetime → Places → Result Date Refusal
 one_back a p = six_fields (values_at a p) false (three (lent [] []) absent absent)
 
 -- those of both ends
-abbrev pub both_back : Datetime → Places → Datetime → Places → ReadDate
+abbrev pub both_back : Datetime → Places → Datetime → Places → Result Date Refusal
 both_back a p b q = six_fields (values_at a p) true (values_at b q)
 
 -- the values of a Date's lines, read as six fields
-abbrev pub read_back : DateValue → Places → Places → ReadDate
+abbrev pub read_back : DateValue → Places → Places → Result Date Refusal
 read_back (At a) p q = one_back a p
 read_back (After a) p q = one_back a p
 read_back (Before a) p q = one_back a p

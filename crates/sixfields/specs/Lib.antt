@@ -1,3 +1,4 @@
 pub mod Six
 pub mod Refusals
 pub mod Back
+pub mod Ends

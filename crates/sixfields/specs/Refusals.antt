@@ -1,11 +1,9 @@
 -- What six fields are refused for behind a start that was read.
-use Rattle.std.specs.Prelude.{◌≡◌, Bool, true}
+use Rattle.std.specs.Prelude.{◌≡◌, Bool, true, Ok, Err, false}
 use Rattle.refusals.specs.declared.Refusal.{Refusal}
 use Rattle.dates.specs.declared.Date.{Date}
-use Rattle.refusals.specs.declared.ReadDate.TheVariants.{Accepted, Refused}
 use Rattle.chunks.specs.Lent.{Three}
 use Rattle.reading_laws.specs.Fields.{three_fields}
-use Rattle.sixfields.specs.declared.EndYear.TheVariants.{Blank}
 use Rattle.sixfields.specs.Six.{end_year_of}
 
 -- it is the end that a refusal is of
@@ -13,10 +11,10 @@ pub record OfEnd (start : Three) (has_end : Bool) (end : Three) (e : Refusal) : 
   -- the Date of the start,
   pub date : Date
   -- which was read
-  pub start_read : three_fields start ≡ Accepted date
+  pub start_read : three_fields start ≡ Ok date
   -- there is an end year list
   pub there : has_end ≡ true
   -- it is not blank: it has a fault, or a text
-  pub not_blank : end_year_of end.year ≡ Blank → ⊥
+  pub not_blank : end_year_of end.year ≡ (Ok false) → ⊥
   -- and this is what the end is refused for as three fields
-  pub end_refused : three_fields end ≡ Refused e
+  pub end_refused : three_fields end ≡ Err e

@@ -1,25 +1,20 @@
 // The fields of a start and of an end: three lists each, read by the rules of three fields. The lists are lent for reading only.
 #![tactic(auto)]
 
-ghost use Rattle.std.specs.Prelude.{◌≡◌, true, ◌≤◌, length};
+ghost use Rattle.std.specs.Prelude.{◌≡◌, true, ◌≤◌, length, is_some};
 ghost use Rattle.chunks.specs.Chunks.{is_short};
 ghost use Rattle.chunks.specs.Answer.{room_of};
 ghost use Rattle.datefield.specs.Text as text;
-ghost use Rattle.chunks.specs.Lent.{lent, optional, three};
+ghost use Rattle.chunks.specs.Lent.{lent_of};
+ghost use Rattle.reader.specs.Fields.{three_of};
+ghost use Rattle.sixfields.specs.Ends.{end_of};
 ghost use Rattle.sixfields.specs.Six as six;
 
-use chunks::Formatted;
+use chunks::ChunksRef;
 use dates::{Date, DateValue, Datetime};
-use refusals::{ReadDate, Refusal};
+use reader::ThreeFields;
+use refusals::Refusal;
 use scanner::Cursor;
-
-// An end year list: blank, with a text, or what is wrong with it.
-#[derive(Clone, Copy)]
-enum EndYear {
-    Blank,
-    Filled,
-    FaultyYear(Refusal),
-}
 
 // Whether a text is white space alone, or nothing.
 fn is_blank(s: &[u8]) -> bool
@@ -29,34 +24,27 @@ fn is_blank(s: &[u8]) -> bool
     scanner::done(s, c)
 }
 
-// An end year list, formatted into a buffer with room for it.
-fn end_year_in(bytes: &[u8], table: &[u64], buf: &mut [u8]) -> EndYear
-    requires { is_short bytes.now table.now ≡ true → room_of bytes.now table.now ≤ length buf.old }
-    ensures { result ≡ six.end_year_of (lent bytes.now table.now) }
+// Whether an end year list has more than white space, formatted into a buffer with room for it; or what is wrong with it.
+fn end_year_in(year: ChunksRef<'_>, buf: &mut [u8]) -> Result<bool, Refusal>
+    requires { is_short year.bytes.now year.table.now ≡ true → room_of year.bytes.now year.table.now ≤ length buf.old }
+    ensures { result ≡ six.end_year_of (lent_of year.entry) }
 {
-    match chunks::format_verbatim(bytes, table, buf) {
-        Formatted::Text(n) => {
-            if is_blank(&buf[..n]) {
-                return EndYear::Blank;
-            }
-            EndYear::Filled
-        }
-        Formatted::Refused(e) => EndYear::FaultyYear(e),
-    }
+    let n = year.format_verbatim(buf)?;
+    Ok(!is_blank(&buf[..n]))
 }
 
-// An end year list. A short one is formatted into a small array, which costs less to clear.
-fn end_year_of(bytes: &[u8], table: &[u64]) -> EndYear
-    ensures { result ≡ six.end_year_of (lent bytes.now table.now) }
+// The same. A short list is formatted into a small array, which costs less to clear.
+fn end_year_of(year: ChunksRef<'_>) -> Result<bool, Refusal>
+    ensures { result ≡ six.end_year_of (lent_of year.entry) }
 {
-    if bytes.len() <= 56 {
-        if table.len() <= 16 {
+    if year.bytes.len() <= 56 {
+        if year.table.len() <= 16 {
             let mut small = [0u8; 64];
-            return end_year_in(bytes, table, &mut small);
+            return end_year_in(year, &mut small);
         }
     }
     let mut buf = [0u8; 4224];
-    end_year_in(bytes, table, &mut buf)
+    end_year_in(year, &mut buf)
 }
 
 // The Datetime of a single date, which is what three fields give.
@@ -73,10 +61,10 @@ fn single(d: Date) -> Datetime
 }
 
 // Six fields have no mark.
-fn unmarked(value: DateValue) -> ReadDate
+fn unmarked(value: DateValue) -> Result<Date, Refusal>
     ensures { result ≡ six.unmarked value }
 {
-    ReadDate::Accepted(Date {
+    Ok(Date {
         value,
         uncertain: false,
         approximate: false,
@@ -84,97 +72,39 @@ fn unmarked(value: DateValue) -> ReadDate
 }
 
 // A range from a start to an end that three fields gave.
-fn between(start: Datetime, end: ReadDate) -> ReadDate
+#[tactic(auto, unfolding(crate::specs::Six::between, crate::specs::Six::on_three))]
+fn between(start: Datetime, end: Result<Date, Refusal>) -> Result<Date, Refusal>
     ensures { result ≡ six.between start end }
 {
+    let d = end?;
+    unmarked(DateValue::Between(start, single(d)))
+}
+
+// A start that was read, and the end. With a blank end year list no other list of the end is looked at.
+#[tactic(auto, unfolding(crate::specs::Six::with_end, crate::specs::Six::on_end_year, chars::specs::Pick::pick))]
+fn with_end(start: Datetime, end: Option<ThreeFields<'_>>) -> Result<Date, Refusal>
+    ensures { result ≡ six.with_end start (is_some end.entry) (end_of end.entry) }
+{
     match end {
-        ReadDate::Accepted(d) => unmarked(DateValue::Between(start, single(d))),
-        ReadDate::Refused(e) => ReadDate::Refused(e),
+        Some(fields) => {
+            if !end_year_of(fields.year)? {
+                return unmarked(DateValue::After(start));
+            }
+            between(start, reader::parse_three_fields(fields))
+        }
+        None => unmarked(DateValue::At(start)),
     }
 }
 
-// A start that was read, and the end. Without an end year list, or with a blank one, no other list of the end is looked at.
-fn with_end(
-    start: Datetime,
-    has_year: bool,
-    year: &[u8],
-    year_table: &[u64],
-    has_month: bool,
-    month: &[u8],
-    month_table: &[u64],
-    has_day: bool,
-    day: &[u8],
-    day_table: &[u64],
-) -> ReadDate
-    ensures { result ≡ six.with_end start has_year (three (lent year.now year_table.now) (optional has_month month.now month_table.now) (optional has_day day.now day_table.now)) }
-{
-    if has_year {
-        return match end_year_of(year, year_table) {
-            EndYear::Blank => unmarked(DateValue::After(start)),
-            EndYear::Filled => between(
-                start,
-                reader::parse_three_fields(
-                    year,
-                    year_table,
-                    has_month,
-                    month,
-                    month_table,
-                    has_day,
-                    day,
-                    day_table,
-                ),
-            ),
-            EndYear::FaultyYear(e) => ReadDate::Refused(e),
-        };
-    }
-    unmarked(DateValue::At(start))
-}
-
-// The fields year, month, day, endyear, endmonth and endday. The start is checked and read before any list of the end is looked at. A list
-// that is not present is not looked at, whatever is passed for it; nor is one behind an end year list that is not present or is blank.
+// The fields year, month, day, endyear, endmonth and endday. The start is checked and read before any list of the end is looked at. Without an
+// end year list there is no end, and behind a blank one no other list of it is looked at.
+#[tactic(auto, unfolding(crate::specs::Six::six_fields, crate::specs::Six::on_three))]
 pub fn parse_six_fields(
-    year: &[u8],
-    year_table: &[u64],
-    has_month: bool,
-    month: &[u8],
-    month_table: &[u64],
-    has_day: bool,
-    day: &[u8],
-    day_table: &[u64],
-    has_end_year: bool,
-    end_year: &[u8],
-    end_year_table: &[u64],
-    has_end_month: bool,
-    end_month: &[u8],
-    end_month_table: &[u64],
-    has_end_day: bool,
-    end_day: &[u8],
-    end_day_table: &[u64],
-) -> ReadDate
-    ensures { result ≡ six.six_fields (three (lent year.now year_table.now) (optional has_month month.now month_table.now) (optional has_day day.now day_table.now)) has_end_year (three (lent end_year.now end_year_table.now) (optional has_end_month end_month.now end_month_table.now) (optional has_end_day end_day.now end_day_table.now)) }
+    start: ThreeFields<'_>,
+    end: Option<ThreeFields<'_>>,
+) -> Result<Date, Refusal>
+    ensures { result ≡ six.six_fields (three_of start.entry) (is_some end.entry) (end_of end.entry) }
 {
-    match reader::parse_three_fields(
-        year,
-        year_table,
-        has_month,
-        month,
-        month_table,
-        has_day,
-        day,
-        day_table,
-    ) {
-        ReadDate::Accepted(d) => with_end(
-            single(d),
-            has_end_year,
-            end_year,
-            end_year_table,
-            has_end_month,
-            end_month,
-            end_month_table,
-            has_end_day,
-            end_day,
-            end_day_table,
-        ),
-        ReadDate::Refused(e) => ReadDate::Refused(e),
-    }
+    let d = reader::parse_three_fields(start)?;
+    with_end(single(d), end)
 }

@@ -14,21 +14,14 @@ use borrow.Author.Tests.{eqb-true, ne_eqb, le-leb, lt-leb, leb-true}
 use Rattle.chars.specs.Pick.{pick}
 use Rattle.chars.specs.Classes.{is_ascii_digit, within}
 use Rattle.chars.proofs.Cases.{by-test, and-true}
-use Rattle.dates.specs.declared.OptionMonth.{OptionMonth}
-use Rattle.dates.specs.declared.OptionMonth.TheVariants.{NoMonth}
-use Rattle.dates.specs.declared.OptionDay.{OptionDay}
-use Rattle.dates.specs.declared.OptionDay.TheVariants.{NoDay}
-use Rattle.dates.specs.declared.OptionTime.{OptionTime}
-use Rattle.dates.specs.declared.OptionTime.TheVariants.{NoTime}
+use Rattle.dates.specs.declared.Day.{Day}
+use Rattle.dates.specs.declared.Month.{Month}
+use Rattle.dates.specs.declared.Time.{Time}
+use Rattle.std.specs.Prelude.{Option, Some, None}
 use Rattle.dates.specs.declared.Datetime.{Datetime}
 use Rattle.dates.specs.declared.DateValue.{DateValue}
 use Rattle.dates.specs.declared.Date.{Date}
 use Rattle.dates.specs.Value.{datetime, season_of}
-use Rattle.strict.specs.declared.OptionTwo.TheVariants.{NoTwo}
-use Rattle.strict.specs.declared.ReadPoint.{ReadPoint}
-use Rattle.strict.specs.declared.ReadPoint.TheVariants.{Upto}
-use Rattle.strict.specs.declared.ReadUnknown.TheVariants.{NoUnknown}
-use Rattle.strict.specs.declared.Matched.TheVariants.{Strict, NotStrict}
 use Rattle.strict.specs.Digits.{digits}
 use Rattle.strict.specs.Grammar.{Year, dddd, -dddd, Field, InYear, no_month, -mm, Point, text, Value, alone, between, after, before, unknown, Text}
 use Rattle.strict.specs.Grammar
@@ -49,16 +42,16 @@ use Rattle.strict.proofs.Exact.{exact-of, refused-of, unique-of}
 -- ---- what is derived is read
 
 module _ {r : List ℕ} (e : Ends r) {s : List ℕ} {at : ℕ} (y : ℤ) where
-  no-season : {t : List ℕ} {m : OptionMonth} {d : OptionDay} {c : OptionTime} → InYear y t m d c → From s at (t ++ r) → field 45 21 24 (drop at s) ≡ NoTwo
+  no-season : {t : List ℕ} {m : Option Month} {d : Option Day} {c : Option Time} → InYear y t m d c → From s at (t ++ r) → field 45 21 24 (drop at s) ≡ None
   unfolding field counted on pick
   no-season no_month f = no_field 45 21 24 f e.dash
   no-season (-mm {t = b} (Grammar.field m h) d) f = rw (f.is, two_back (1 + m) (b ++ r) (omega arith), lt-leb 21 (1 + m) (omega arith))
 
-  strict-read : {t : List ℕ} {m : OptionMonth} {d : OptionDay} {c : OptionTime} → InYear y t m d c → From s at (t ++ r) → Before s r (λ n. level_year s at y ≡ Upto (datetime y m d c) n)
+  strict-read : {t : List ℕ} {m : Option Month} {d : Option Day} {c : Option Time} → InYear y t m d c → From s at (t ++ r) → Before s r (λ n. level_year s at y ≡ Some (datetime y m d c, n))
   unfolding level_year on
   strict-read p f = let o = month_read e y p f in record { place = o.place; left = o.left; reads = rw (no-season p f) o.reads }
 
-  season-read : {t : List ℕ} {n : ℕ} → Field 45 21 24 t n → From s at (t ++ r) → Before s r (λ k. level_year s at y ≡ Upto (season_of y (season_at n)) k)
+  season-read : {t : List ℕ} {n : ℕ} → Field 45 21 24 t n → From s at (t ++ r) → Before s r (λ k. level_year s at y ≡ Some (season_of y (season_at n), k))
   unfolding level_year on
   season-read p f = record { place = at + 3; left = field-behind p r f; reads = rw (field_at p r f (lit< tt)) }
 
@@ -94,7 +87,7 @@ module _ {s r : List ℕ} (e : Ends r) (at w n : ℕ) (negative : Bool) (lo : 4 
   not-nought : eqb (get_or s at 0) 48 ≡ false
   not-nought = rw byte-first (ne_eqb (48 + (front w n h k).d) 48 (λ (z : 48 + (front w n h k).d ≡ 48). omega (arith, (front w n h k).low)))
 
-  long-read : Before s r (λ j. long_at s at negative ≡ Upto (datetime (signed negative n) NoMonth NoDay NoTime) j)
+  long-read : Before s r (λ j. long_at s at negative ≡ Some (datetime (signed negative n) None None None, j))
   unfolding long_at pick
   long-read =
       record {
@@ -107,7 +100,7 @@ module _ {s r : List ℕ} (e : Ends r) (at w n : ℕ) (negative : Bool) (lo : 4 
 digit_not : (d c : ℕ) → d ≤ 9 → 57 < c → eqb (48 + d) c ≡ false
 digit_not d c h k = ne_eqb (48 + d) c (λ (e : 48 + d ≡ c). omega arith)
 
-pub level-read : {s t r : List ℕ} {a : Datetime} → Ends r → LevelPoint t a → Split s t r → Before s r (λ n. level_point s ≡ Upto a n)
+pub level-read : {s t r : List ℕ} {a : Datetime} → Ends r → LevelPoint t a → Split s t r → Before s r (λ n. level_point s ≡ Some (a, n))
 unfolding level_point level_at on_four signed pick
 level-read {s} {r = r} e (strictly (Grammar.point {t = t} (dddd n h) p)) f =
     let g : From s 0 (digits 4 n ++ (t ++ r)) = record { is = f.is } in
@@ -153,7 +146,7 @@ level-read {s} {r = r} e (long (Y_d w n lo hi h k)) f =
 
 -- ---- no range by X starts like such a point, nor does an open end
 
-pub level-known : {s t r : List ℕ} {a : Datetime} → Ends r → LevelPoint t a → Split s t r → matcher.unknown s ≡ NoUnknown
+pub level-known : {s t r : List ℕ} {a : Datetime} → Ends r → LevelPoint t a → Split s t r → matcher.unknown s ≡ None
 unfolding matcher.unknown on_four unknown_parts field counted on pick is_ascii_digit within
 level-known e (strictly p) f = point-known e p f
 level-known {s} {r = r} e (season {t = t} (dddd n h) (Grammar.field m k)) f =
@@ -173,9 +166,9 @@ level-closed (long (Y_d w n lo hi h k)) f = ap (λ (l : List ℕ). is 46 l 0) f.
 -- ---- what is read is derived
 
 module _ (s : List ℕ) where
-  data YearAt (at : ℕ) (y : ℤ) : ReadPoint → Type 0 where
-    of_month : {r : ReadPoint} → MonthAt s at y r → YearAt at y r
-    of_season : {t : List ℕ} {n : ℕ} → Field 45 21 24 t n → Split (drop at s) t (drop (at + 3) s) → YearAt at y (Upto (season_of y (season_at n)) (at + 3))
+  data YearAt (at : ℕ) (y : ℤ) : Option (Datetime × ℕ) → Type 0 where
+    of_month : {r : Option (Datetime × ℕ)} → MonthAt s at y r → YearAt at y r
+    of_season : {t : List ℕ} {n : ℕ} → Field 45 21 24 t n → Split (drop at s) t (drop (at + 3) s) → YearAt at y (Some (season_of y (season_at n), at + 3))
 
   year-taken : (at : ℕ) (y : ℤ) → YearAt at y (level_year s at y)
   unfolding level_year
@@ -191,7 +184,7 @@ module _ (s : List ℕ) where
       by-four (Derived LevelPoint s) (four (drop at s)) nothing λ n e.
       whole n (four-inv (drop at s) e) (year-taken (at + 4) (signed negative n))
     where
-      whole : (n : ℕ) {r : ReadPoint} → (n < 10000) × Split (drop at s) (digits 4 n) (drop 4 (drop at s)) → YearAt (at + 4) (signed negative n) r → Derived LevelPoint s r
+      whole : (n : ℕ) {r : Option (Datetime × ℕ)} → (n < 10000) × Split (drop at s) (digits 4 n) (drop 4 (drop at s)) → YearAt (at + 4) (signed negative n) r → Derived LevelPoint s r
       whole n p (of_month (month_at d g)) =
           let h : Split (drop at s) (digits 4 n) (drop (at + 4) s) = record { is = p.1.is ∙ ap (λ (r : List ℕ). digits 4 n ++ r) (drop-drop 4 at s) } in
           upto (strictly (Grammar.point (year n p.0) d)) (joined (joined f h) g)
@@ -213,10 +206,10 @@ module _ (s : List ℕ) where
       some (run-taken 10 (drop at s)) (leb-true 5 k p.0) (leb-true k 9 q.0) q.1)
       (λ _. nothing)
     where
-      some : {k : ℕ} → Ran (drop at s) k → 5 ≤ k → k ≤ 9 → not (is 48 s at) ≡ true → Derived LevelPoint s (Upto (datetime (signed negative (value_from 0 (take k (drop at s)))) NoMonth NoDay NoTime) (at + k))
+      some : {k : ℕ} → Ran (drop at s) k → 5 ≤ k → k ≤ 9 → not (is 48 s at) ≡ true → Derived LevelPoint s (Some (datetime (signed negative (value_from 0 (take k (drop at s)))) None None None, at + k))
       some {k} g lo hi z = go k lo hi g.text g.all g.size g.split
         where
-          go : (k : ℕ) → 5 ≤ k → k ≤ 9 → (t : List ℕ) → AllDigits t → length t ≡ k → Split (drop at s) t (drop k (drop at s)) → Derived LevelPoint s (Upto (datetime (signed negative (value_from 0 (take k (drop at s)))) NoMonth NoDay NoTime) (at + k))
+          go : (k : ℕ) → 5 ≤ k → k ≤ 9 → (t : List ℕ) → AllDigits t → length t ≡ k → Split (drop at s) t (drop k (drop at s)) → Derived LevelPoint s (Some (datetime (signed negative (value_from 0 (take k (drop at s)))) None None None, at + k))
           go k lo hi [] none e h = absurd (omega arith)
           go k lo hi (x ∷ l) (more d a) e h =
               let n = value_from 0 (x ∷ l) in
@@ -227,7 +220,7 @@ module _ (s : List ℕ) where
               let low : 10 ^ length l ≤ n = first-lowest x a big in
               let high : n < 10 ^ suc (length l) = highest (more d a) in
               let part : Split (drop at s) (digits (suc (length l)) n) (drop (at + k) s) = record { is = h.is ∙ ap (λ (m : List ℕ). m ++ drop k (drop at s)) (sym shape) ∙ ap (λ (m : List ℕ). digits (suc (length l)) n ++ m) (drop-drop k at s) } in
-              subst (λ (m : List ℕ). Derived LevelPoint s (Upto (datetime (signed negative (value_from 0 m)) NoMonth NoDay NoTime) (at + k))) (sym taken)
+              subst (λ (m : List ℕ). Derived LevelPoint s (Some (datetime (signed negative (value_from 0 m)) None None None, at + k))) (sym taken)
               (upto (long (year (length l) n (omega arith) (omega arith) low high)) (joined f part))
 
   pub level-taken : Derived LevelPoint s (level_point s)
@@ -249,11 +242,11 @@ module _ (s : List ℕ) where
 pub level-points : Exact LevelPoint level_point
 level-points = record { sound = λ s. level-taken s; complete = λ e p f. level-read e p f; known = λ e p f. level-known e p f; closed = λ p f. level-closed p f }
 
-pub level-exact : (s : List ℕ) (d : Date) → (level s ≡ Strict d) ↔ LevelText s d
+pub level-exact : (s : List ℕ) (d : Date) → (level s ≡ Some d) ↔ LevelText s d
 unfolding level
 level-exact s d = exact-of level-points s d
 
-pub level-refused : (s : List ℕ) → (level s ≡ NotStrict) ↔ ((d : Date) → LevelText s d → ⊥)
+pub level-refused : (s : List ℕ) → (level s ≡ None) ↔ ((d : Date) → LevelText s d → ⊥)
 unfolding level
 level-refused s = refused-of level-points s
 

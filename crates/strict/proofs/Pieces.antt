@@ -11,10 +11,7 @@ use borrow.Author.Tests.{le-leb, leb-true, eq-eqb, eqb-true}
 use Rattle.chars.specs.Pick.{pick}
 use Rattle.chars.specs.Classes.{is_ascii_digit, within}
 use Rattle.chars.proofs.Cases.{by-test, and-true}
-use Rattle.strict.specs.declared.OptionTwo.{OptionTwo}
-use Rattle.strict.specs.declared.OptionTwo.TheVariants.{NoTwo, SomeTwo}
-use Rattle.strict.specs.declared.OptionFour.{OptionFour}
-use Rattle.strict.specs.declared.OptionFour.TheVariants.{NoFour, SomeFour}
+use Rattle.std.specs.Prelude.{Option, Some, None}
 use Rattle.strict.specs.Digits.{digits}
 use Rattle.strict.specs.Grammar.{Field}
 use Rattle.strict.specs.Grammar
@@ -29,28 +26,28 @@ pub written : (n : ℕ) → is_ascii_digit (48 + n % 10) ≡ true
 unfolding is_ascii_digit within
 written n = rw (le-leb 48 (48 + n % 10) (omega arith), le-leb (48 + n % 10) 57 (omega arith))
 
-pub pair : (a b : ℕ) (r : List ℕ) → two ((48 + a % 10) ∷ (48 + b % 10) ∷ r) ≡ SomeTwo (a % 10 * 10 + b % 10)
+pub pair : (a b : ℕ) (r : List ℕ) → two ((48 + a % 10) ∷ (48 + b % 10) ∷ r) ≡ Some (a % 10 * 10 + b % 10)
 unfolding two pick
-pair a b r = rw (written a, written b) (ap SomeTwo (omega arith))
+pair a b r = rw (written a, written b) (ap Some (omega arith))
 
-pub two_back : (n : ℕ) (r : List ℕ) → n < 100 → two (digits 2 n ++ r) ≡ SomeTwo n
-two_back n r h = pair (n / 10) n r ∙ ap SomeTwo (omega arith)
+pub two_back : (n : ℕ) (r : List ℕ) → n < 100 → two (digits 2 n ++ r) ≡ Some n
+two_back n r h = pair (n / 10) n r ∙ ap Some (omega arith)
 
-pub four-back : (n : ℕ) (r : List ℕ) → n < 10000 → four (digits 4 n ++ r) ≡ SomeFour n
+pub four-back : (n : ℕ) (r : List ℕ) → n < 10000 → four (digits 4 n ++ r) ≡ Some n
 unfolding four on
 four-back n r h =
     rw (pair (n / 10 / 10 / 10) (n / 10 / 10) ((48 + n / 10 % 10) ∷ (48 + n % 10) ∷ r), pair (n / 10) n r)
-    (ap SomeFour (omega arith))
+    (ap Some (omega arith))
 
 -- a field at the front of what follows
-pub field_back : {c low high n : ℕ} {t : List ℕ} → Field c low high t n → high < 100 → (r : List ℕ) → field c low high (t ++ r) ≡ SomeTwo n
+pub field_back : {c low high n : ℕ} {t : List ℕ} → Field c low high t n → high < 100 → (r : List ℕ) → field c low high (t ++ r) ≡ Some n
 unfolding field counted on pick
 field_back {c} {low} {high} (Grammar.field n h) top r =
     rw (eq-eqb c c refl, two_back (low + n) r (omega arith), le-leb low (low + n) (omega arith), le-leb (low + n) high h)
-    (ap SomeTwo (omega arith))
+    (ap Some (omega arith))
 
 module _ {c low high n at : ℕ} {s t : List ℕ} (d : Field c low high t n) (r : List ℕ) (f : From s at (t ++ r)) where
-  pub field_at : high < 100 → field c low high (drop at s) ≡ SomeTwo n
+  pub field_at : high < 100 → field c low high (drop at s) ≡ Some n
   field_at top = ap (field c low high) f.is ∙ field_back d top r
 
   -- the byte at its place
@@ -68,27 +65,27 @@ module _ {c low high n at : ℕ} {s t : List ℕ} (d : Field c low high t n) (r 
       go (Grammar.field n h) = refl
 
 -- another byte stands at the front
-pub no_field : (c low high : ℕ) {s r : List ℕ} {at : ℕ} → From s at r → is c r 0 ≡ false → field c low high (drop at s) ≡ NoTwo
+pub no_field : (c low high : ℕ) {s r : List ℕ} {at : ℕ} → From s at r → is c r 0 ≡ false → field c low high (drop at s) ≡ None
 unfolding field pick
 no_field c low high f e = rw (f.is, e)
 
 -- ---- what is read was written so
 
 -- a number of two digits goes on or does not
-pub by_two : {A : Type 0} (Q : A → Type 0) (o : OptionTwo) {none : A} {go : ℕ → A} → Q none → ((n : ℕ) → o ≡ SomeTwo n → Q (go n)) → Q (on o none go)
+pub by_two : {A : Type 0} (Q : A → Type 0) (o : Option ℕ) {none : A} {go : ℕ → A} → Q none → ((n : ℕ) → o ≡ Some n → Q (go n)) → Q (on o none go)
 unfolding on
-by_two Q NoTwo p f = p
-by_two Q (SomeTwo n) p f = f n refl
+by_two Q None p f = p
+by_two Q (Some n) p f = f n refl
 
-pub by-four : {A : Type 0} (Q : A → Type 0) (o : OptionFour) {none : A} {go : ℕ → A} → Q none → ((n : ℕ) → o ≡ SomeFour n → Q (go n)) → Q (on_four o none go)
+pub by-four : {A : Type 0} (Q : A → Type 0) (o : Option ℕ) {none : A} {go : ℕ → A} → Q none → ((n : ℕ) → o ≡ Some n → Q (go n)) → Q (on_four o none go)
 unfolding on_four
-by-four Q NoFour p f = p
-by-four Q (SomeFour n) p f = f n refl
+by-four Q None p f = p
+by-four Q (Some n) p f = f n refl
 
 -- what two digits say, and what is left
-data Two (l : List ℕ) : OptionTwo → Type 0 where
-  no_two : Two l NoTwo
-  some_two : {n : ℕ} → n < 100 → Split l (digits 2 n) (drop 2 l) → Two l (SomeTwo n)
+data Two (l : List ℕ) : Option ℕ → Type 0 where
+  no_two : Two l None
+  some_two : {n : ℕ} → n < 100 → Split l (digits 2 n) (drop 2 l) → Two l (Some n)
 
 cons2 : {a b c d : ℕ} (r : List ℕ) → a ≡ c → b ≡ d → ◌≡◌ {A = List ℕ} (a ∷ b ∷ r) (c ∷ d ∷ r)
 cons2 r e f = cc
@@ -106,10 +103,10 @@ two-taken (a ∷ b ∷ r) =
     some_two {n = (a - 48) * 10 + (b - 48)} (omega arith) (record { is = cons2 r (omega arith) (omega arith) }))
     (λ e. no_two)
 
-pub two-inv : (l : List ℕ) {n : ℕ} → two l ≡ SomeTwo n → (n < 100) × Split l (digits 2 n) (drop 2 l)
+pub two-inv : (l : List ℕ) {n : ℕ} → two l ≡ Some n → (n < 100) × Split l (digits 2 n) (drop 2 l)
 two-inv l {n} e = go (subst (Two l) e (two-taken l))
   where
-    go : {n : ℕ} → Two l (SomeTwo n) → (n < 100) × Split l (digits 2 n) (drop 2 l)
+    go : {n : ℕ} → Two l (Some n) → (n < 100) × Split l (digits 2 n) (drop 2 l)
     go (some_two h f) = (h, f)
 
 cons4 : {a b c d p q x y : ℕ} (r : List ℕ) → a ≡ p → b ≡ q → c ≡ x → d ≡ y → ◌≡◌ {A = List ℕ} (a ∷ b ∷ c ∷ d ∷ r) (p ∷ q ∷ x ∷ y ∷ r)
@@ -119,9 +116,9 @@ four_digits : (a b : ℕ) (r : List ℕ) → a < 100 → b < 100 → digits 2 a 
 four_digits a b r h k = cons4 r (omega arith) (omega arith) (omega arith) (omega arith)
 
 -- what four digits say, and what is left
-data Four (l : List ℕ) : OptionFour → Type 0 where
-  no_four : Four l NoFour
-  some_four : {n : ℕ} → n < 10000 → Split l (digits 4 n) (drop 4 l) → Four l (SomeFour n)
+data Four (l : List ℕ) : Option ℕ → Type 0 where
+  no_four : Four l None
+  some_four : {n : ℕ} → n < 10000 → Split l (digits 4 n) (drop 4 l) → Four l (Some n)
 
 four-taken : (l : List ℕ) → Four l (four l)
 unfolding four
@@ -144,19 +141,19 @@ pub record Taken (D : List ℕ → Type 0) (l r : List ℕ) : Type 0 where
   pub derived : D text
   pub split : Split l text r
 
-pub four-inv : (l : List ℕ) {n : ℕ} → four l ≡ SomeFour n → (n < 10000) × Split l (digits 4 n) (drop 4 l)
+pub four-inv : (l : List ℕ) {n : ℕ} → four l ≡ Some n → (n < 10000) × Split l (digits 4 n) (drop 4 l)
 four-inv l {n} e = go (subst (Four l) e (four-taken l))
   where
-    go : {n : ℕ} → Four l (SomeFour n) → (n < 10000) × Split l (digits 4 n) (drop 4 l)
+    go : {n : ℕ} → Four l (Some n) → (n < 10000) × Split l (digits 4 n) (drop 4 l)
     go (some_four h f) = (h, f)
 
 -- what a field says, and what is left
-data FieldTaken (c low high : ℕ) (l : List ℕ) : OptionTwo → Type 0 where
-  no_field_taken : FieldTaken c low high l NoTwo
-  some_field : {n : ℕ} {t : List ℕ} → Field c low high t n → Split l t (drop 3 l) → FieldTaken c low high l (SomeTwo n)
+data FieldTaken (c low high : ℕ) (l : List ℕ) : Option ℕ → Type 0 where
+  no_field_taken : FieldTaken c low high l None
+  some_field : {n : ℕ} {t : List ℕ} → Field c low high t n → Split l t (drop 3 l) → FieldTaken c low high l (Some n)
 
 module _ (c low high : ℕ) where
-  field-some : (l : List ℕ) (v : ℕ) → is c l 0 ≡ true → two (drop 1 l) ≡ SomeTwo v → low ≤ v → v ≤ high → FieldTaken c low high l (SomeTwo (v - low))
+  field-some : (l : List ℕ) (v : ℕ) → is c l 0 ≡ true → two (drop 1 l) ≡ Some v → low ≤ v → v ≤ high → FieldTaken c low high l (Some (v - low))
   unfolding two pick is_ascii_digit within
   field-some [] v e f lo hi = absurd (let h : ◌≡◌ {A = ℕ} 0 1 = cc in omega arith)
   field-some (a ∷ l) v e f lo hi =
@@ -179,14 +176,14 @@ module _ (c low high : ℕ) where
       (λ _. no_field_taken)
 
   -- at a place
-  pub field-inv : (s : List ℕ) (at : ℕ) {n : ℕ} → field c low high (drop at s) ≡ SomeTwo n → Taken (λ t. Field c low high t n) (drop at s) (drop (at + 3) s)
+  pub field-inv : (s : List ℕ) (at : ℕ) {n : ℕ} → field c low high (drop at s) ≡ Some n → Taken (λ t. Field c low high t n) (drop at s) (drop (at + 3) s)
   field-inv s at {n} e = go (subst (FieldTaken c low high (drop at s)) e (field-taken (drop at s)))
     where
-      go : {n : ℕ} → FieldTaken c low high (drop at s) (SomeTwo n) → Taken (λ t. Field c low high t n) (drop at s) (drop (at + 3) s)
+      go : {n : ℕ} → FieldTaken c low high (drop at s) (Some n) → Taken (λ t. Field c low high t n) (drop at s) (drop (at + 3) s)
       go (some_field {t = t} d f) = record { text = t; derived = d; split = record { is = f.is ∙ ap (λ (r : List ℕ). t ++ r) (drop-drop 3 at s) } }
 
   -- a number that was read is in its range
-  pub field-within : (s : List ℕ) {n : ℕ} → field c low high s ≡ SomeTwo n → low + n ≤ high
+  pub field-within : (s : List ℕ) {n : ℕ} → field c low high s ≡ Some n → low + n ≤ high
   field-within s e = go (field-inv s 0 e).derived
     where
       go : {t : List ℕ} {n : ℕ} → Field c low high t n → low + n ≤ high

@@ -7,9 +7,7 @@ use mathlib.Core.List.{List}
 use lib.ListN.{get_or, drop}
 use Rattle.chars.specs.Classes.{is_ascii_digit}
 use Rattle.dates.specs.declared.Datetime.{Datetime}
-use Rattle.strict.specs.declared.ReadPoint.{ReadPoint}
-use Rattle.strict.specs.declared.ReadPoint.TheVariants.{Upto, NoPoint}
-use Rattle.strict.specs.declared.ReadUnknown.TheVariants.{NoUnknown}
+use Rattle.std.specs.Prelude.{Option, Some, None}
 use Rattle.strict.specs.Matcher.{is, unknown}
 use Rattle.strict.proofs.Places.{From, Split}
 
@@ -28,16 +26,16 @@ pub record Before (s r : List ℕ) (says : ℕ → Type 0) : Type 0 where
   pub reads : says place
 
 -- an answer that a derivation stands behind
-pub data Derived (P : List ℕ → Datetime → Type 0) (s : List ℕ) : ReadPoint → Type 0 where
-  nothing : Derived P s NoPoint
-  upto : {t : List ℕ} {a : Datetime} {next : ℕ} → P t a → Split s t (drop next s) → Derived P s (Upto a next)
+pub data Derived (P : List ℕ → Datetime → Type 0) (s : List ℕ) : Option (Datetime × ℕ) → Type 0 where
+  nothing : Derived P s None
+  upto : {t : List ℕ} {a : Datetime} {next : ℕ} → P t a → Split s t (drop next s) → Derived P s (Some (a, next))
 
-pub record Exact (P : List ℕ → Datetime → Type 0) (read : List ℕ → ReadPoint) : Type 0 where
+pub record Exact (P : List ℕ → Datetime → Type 0) (read : List ℕ → Option (Datetime × ℕ)) : Type 0 where
   -- what it reads is derived
   pub sound : (s : List ℕ) → Derived P s (read s)
   -- what is derived it reads
-  pub complete : {s t r : List ℕ} {a : Datetime} → Ends r → P t a → Split s t r → Before s r (λ n. read s ≡ Upto a n)
+  pub complete : {s t r : List ℕ} {a : Datetime} → Ends r → P t a → Split s t r → Before s r (λ n. read s ≡ Some (a, n))
   -- no range by X starts like a point
-  pub known : {s t r : List ℕ} {a : Datetime} → Ends r → P t a → Split s t r → unknown s ≡ NoUnknown
+  pub known : {s t r : List ℕ} {a : Datetime} → Ends r → P t a → Split s t r → unknown s ≡ None
   -- nor does an open end
   pub closed : {s t r : List ℕ} {a : Datetime} → P t a → Split s t r → is (code ".") s 0 ≡ false

@@ -12,15 +12,12 @@ use borrow.Author.Tests.{ne_eqb, eqb-true}
 use Rattle.chars.proofs.Cases.{by-test, and-true}
 use Rattle.chars.specs.Pick.{pick}
 use Rattle.chars.specs.Classes.{is_ascii_digit, within}
-use Rattle.dates.specs.declared.OptionMonth.{OptionMonth}
-use Rattle.dates.specs.declared.OptionDay.{OptionDay}
-use Rattle.dates.specs.declared.OptionTime.{OptionTime}
+use Rattle.dates.specs.declared.Day.{Day}
+use Rattle.dates.specs.declared.Month.{Month}
+use Rattle.dates.specs.declared.Time.{Time}
+use Rattle.std.specs.Prelude.{Option, Some, None}
 use Rattle.dates.specs.declared.Datetime.{Datetime}
 use Rattle.dates.specs.declared.DateValue.{DateValue}
-use Rattle.strict.specs.declared.ReadUnknown.{ReadUnknown}
-use Rattle.strict.specs.declared.ReadUnknown.TheVariants.{Within, NoUnknown}
-use Rattle.strict.specs.declared.OptionTwo.TheVariants.{NoTwo, SomeTwo}
-use Rattle.strict.specs.declared.OptionFour.TheVariants.{SomeFour}
 use Rattle.strict.specs.Digits.{digits}
 use Rattle.strict.specs.Grammar.{Field, dddd, -dddd, InMonth, no_day, -dd, InYear, no_month, -mm, Point, Unknown, dd_xx, ddd_x, dddd_XX, dddd_XX_XX, dddd_mm_XX}
 use Rattle.strict.specs.Grammar
@@ -40,32 +37,32 @@ pub field-xx : {low high n : ℕ} {t : List ℕ} → Field 45 low high t n → (
 unfolding dash_xx
 field-xx {low} (Grammar.field n h) l = rw (ne_eqb (48 + (low + n) / 10 % 10) 88 (λ e. omega arith))
 
-no-field-here : (c low high : ℕ) (l : List ℕ) → is c l 0 ≡ false → field c low high l ≡ NoTwo
+no-field-here : (c low high : ℕ) (l : List ℕ) → is c l 0 ≡ false → field c low high l ≡ None
 no-field-here c low high l e = no_field c low high {s = l} {at = 0} (record { is = refl }) e
 
 -- ---- a point is no range by X
 
 -- a text that starts with no digit is none
-pub no_digit : (s : List ℕ) → is_ascii_digit (get_or s 0 0) ≡ false → unknown s ≡ NoUnknown
+pub no_digit : (s : List ℕ) → is_ascii_digit (get_or s 0 0) ≡ false → unknown s ≡ None
 unfolding unknown four two on on_four pick
 no_digit s h = go (is 88 s 3)
   where
-    go : (t : Bool) → pick t (on (two s) NoUnknown λ n. unknown_years s n) (on_four (four s) NoUnknown λ n. unknown_parts s n) ≡ NoUnknown
+    go : (t : Bool) → pick t (on (two s) None λ n. unknown_years s n) (on_four (four s) None λ n. unknown_parts s n) ≡ None
     go true = rw h
     go false = rw h
 
 module _ {r : List ℕ} (e : Ends r) {y : ℤ} where
-  behind-month : {m : ℕ} {t : List ℕ} {d : OptionDay} {c : OptionTime} → InMonth y m t d c → dash_xx (t ++ r) ≡ false
+  behind-month : {m : ℕ} {t : List ℕ} {d : Option Day} {c : Option Time} → InMonth y m t d c → dash_xx (t ++ r) ≡ false
   behind-month no_day = no-xx r e.dash
   behind-month (-dd {s = a} {t = b} d c) = rw (append_assoc a b r) (field-xx d (b ++ r))
 
-  behind-year : (n : ℕ) {t : List ℕ} {m : OptionMonth} {d : OptionDay} {c : OptionTime} → InYear y t m d c → unknown_parts (digits 4 n ++ (t ++ r)) n ≡ NoUnknown
+  behind-year : (n : ℕ) {t : List ℕ} {m : Option Month} {d : Option Day} {c : Option Time} → InYear y t m d c → unknown_parts (digits 4 n ++ (t ++ r)) n ≡ None
   unfolding unknown_parts on pick
   behind-year n no_month = rw (no-xx r e.dash, no-field-here 45 1 12 r e.dash)
   behind-year n (-mm {t = b} (Grammar.field m h) d) =
       rw (field-xx {low = 1} (Grammar.field m h) (b ++ r), field_back {c = 45} {low = 1} (Grammar.field m h) (omega arith) (b ++ r), behind-month d)
 
-pub point-known : {s t r : List ℕ} {a : Datetime} → Ends r → Point t a → Split s t r → unknown s ≡ NoUnknown
+pub point-known : {s t r : List ℕ} {a : Datetime} → Ends r → Point t a → Split s t r → unknown s ≡ None
 unfolding unknown on_four pick is_ascii_digit within
 point-known {s} {r = r} e (Grammar.point {t = t} (dddd n h) p) f =
     ap unknown f.is ∙ rw (ne_eqb (48 + n % 10) 88 (λ e. omega arith), four-back n (t ++ r) h, behind-year e n p)
@@ -79,9 +76,9 @@ point-closed {s} {r = r} (Grammar.point {t = t} (-dddd n h) p) f = ap (λ (l : L
 -- ---- what is read is derived
 
 -- an answer that a derivation stands behind
-pub data Ranged (s : List ℕ) : ReadUnknown → Type 0 where
-  no_range : Ranged s NoUnknown
-  range : {t : List ℕ} {v : DateValue} {next : ℕ} → Unknown t v → Split s t (drop next s) → Ranged s (Within v next)
+pub data Ranged (s : List ℕ) : Option (DateValue × ℕ) → Type 0 where
+  no_range : Ranged s None
+  range : {t : List ℕ} {v : DateValue} {next : ℕ} → Unknown t v → Split s t (drop next s) → Ranged s (Some (v, next))
 
 xx-taken : (s : List ℕ) (at : ℕ) → dash_xx (drop at s) ≡ true → Split (drop at s) (45 ∷ 88 ∷ 88 ∷ []) (drop (at + 3) s)
 unfolding dash_xx
@@ -100,7 +97,7 @@ third n c r h d = cons3 r (omega arith) (omega arith) (omega arith)
     cons3 r e f g = cc
 
 module _ (s : List ℕ) where
-  years-taken : (n : ℕ) → is 88 s 3 ≡ true → two s ≡ SomeTwo n → Ranged s (unknown_years s n)
+  years-taken : (n : ℕ) → is 88 s 3 ≡ true → two s ≡ Some n → Ranged s (unknown_years s n)
   unfolding unknown_years years
   years-taken n e f =
       let p = two-inv s f in
@@ -116,7 +113,7 @@ module _ (s : List ℕ) where
       (record { is = p.1.is ∙ ap (λ (r : List ℕ). digits 2 n ++ r) o.is ∙ third n (get_or s 2 0) (88 ∷ drop 4 s) p.0 d }))
       (λ _. no_range))
 
-  parts-taken : (n : ℕ) → four s ≡ SomeFour n → Ranged s (unknown_parts s n)
+  parts-taken : (n : ℕ) → four s ≡ Some n → Ranged s (unknown_parts s n)
   unfolding unknown_parts months days
   parts-taken n e =
       let p = four-inv s e in
@@ -144,7 +141,7 @@ module _ (s : List ℕ) where
 three : (n : ℕ) → n < 1000 → (n / 10 / 10 % 10 * 10 + n / 10 % 10) * 10 + (48 + n % 10 - 48) ≡ n
 three n h = omega arith
 
-pub unknown-read : {s t r : List ℕ} {v : DateValue} → Ends r → Unknown t v → Split s t r → Before s r (λ n. unknown s ≡ Within v n)
+pub unknown-read : {s t r : List ℕ} {v : DateValue} → Ends r → Unknown t v → Split s t r → Before s r (λ n. unknown s ≡ Some (v, n))
 unfolding unknown unknown_years unknown_parts years months days on on_four pick dash_xx
 unknown-read {r = r} e (dd_xx n h) f =
     record { place = 4; left = record { is = ap (drop 4) f.is }; reads = ap unknown f.is ∙ rw (two_back n (88 ∷ 88 ∷ r) h) }

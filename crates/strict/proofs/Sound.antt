@@ -11,16 +11,15 @@ use lib.Seq.{drop-drop}
 use borrow.Author.Tests.{eqb-true}
 use Rattle.chars.proofs.Cases.{by-test}
 use Rattle.dates.specs.declared.TimeOffset.TheVariants.{Offset}
-use Rattle.dates.specs.declared.OptionMonth.{OptionMonth}
-use Rattle.dates.specs.declared.OptionDay.{OptionDay}
-use Rattle.dates.specs.declared.OptionTime.{OptionTime}
-use Rattle.dates.specs.declared.OptionOffset.TheVariants.{SomeOffset}
+use Rattle.dates.specs.declared.Datetime.{Datetime}
+use Rattle.dates.specs.declared.Day.{Day}
+use Rattle.dates.specs.declared.Month.{Month}
+use Rattle.dates.specs.declared.Time.{Time}
+use Rattle.std.specs.Prelude.{Option, Some}
 use Rattle.dates.specs.Value.{datetime, month}
 use Rattle.dates.specs.Calendar.{month_length}
 use Rattle.strict.specs.declared.ReadOffset.{ReadOffset}
 use Rattle.strict.specs.declared.ReadTime.{ReadTime}
-use Rattle.strict.specs.declared.ReadPoint.{ReadPoint}
-use Rattle.strict.specs.declared.ReadPoint.TheVariants.{Upto}
 use Rattle.strict.specs.Digits.{digits}
 use Rattle.strict.specs.Grammar.{Field, Year, dddd, -dddd, Zone, no_zone, z, ahead, behind, Clock, no_time, hh:mm:ss, InMonth, no_day, -dd, InYear, no_month, -mm, Point}
 use Rattle.strict.specs.Grammar
@@ -43,7 +42,7 @@ module _ (s : List ℕ) where
   no_offset_lem at = record { text = []; derived = no_zone; split = none-taken }
 
   module _ (at sign : ℕ) (positive : Bool)
-      (zone : (t u : List ℕ) (h m : ℕ) → Field sign 0 23 t h → Field 58 0 59 u m → Zone (t ++ u) (SomeOffset (Offset positive h m))) where
+      (zone : (t u : List ℕ) (h m : ℕ) → Field sign 0 23 t h → Field 58 0 59 u m → Zone (t ++ u) (Some (Offset positive h m))) where
     shift-taken : OffsetAt at (shift_at s at sign positive)
     unfolding shift_at OffsetAt
     shift-taken =
@@ -83,8 +82,8 @@ module _ (s : List ℕ) where
         split = joined p.split (joined (same (at + 3 + 3) (at + 6) (omega arith) q.split) (joined (same (at + 6 + 3) (at + 9) (omega arith) r.split) o.split));
       }
 
-  data DayAt (at : ℕ) (y : ℤ) (m : ℕ) : ReadPoint → Type 0 where
-    day_at : {t : List ℕ} {d : OptionDay} {c : OptionTime} {next : ℕ} → InMonth y m t d c → Split (drop at s) t (drop next s) → DayAt at y m (Upto (datetime y (month m) d c) next)
+  data DayAt (at : ℕ) (y : ℤ) (m : ℕ) : Option (Datetime × ℕ) → Type 0 where
+    day_at : {t : List ℕ} {d : Option Day} {c : Option Time} {next : ℕ} → InMonth y m t d c → Split (drop at s) t (drop next s) → DayAt at y m (Some (datetime y (month m) d c, next))
 
   day-taken : (at : ℕ) (y : ℤ) (m : ℕ) → DayAt at y m (behind_month s at y m)
   unfolding behind_month TimeAt
@@ -94,8 +93,8 @@ module _ (s : List ℕ) where
       let o = time-taken (at + 3) in
       day_at (-dd p.derived o.derived) (joined p.split o.split)
 
-  pub data MonthAt (at : ℕ) (y : ℤ) : ReadPoint → Type 0 where
-    month_at : {t : List ℕ} {m : OptionMonth} {d : OptionDay} {c : OptionTime} {next : ℕ} → InYear y t m d c → Split (drop at s) t (drop next s) → MonthAt at y (Upto (datetime y m d c) next)
+  pub data MonthAt (at : ℕ) (y : ℤ) : Option (Datetime × ℕ) → Type 0 where
+    month_at : {t : List ℕ} {m : Option Month} {d : Option Day} {c : Option Time} {next : ℕ} → InYear y t m d c → Split (drop at s) t (drop next s) → MonthAt at y (Some (datetime y m d c, next))
 
   pub month-taken : (at : ℕ) (y : ℤ) → MonthAt at y (behind_year s at y)
   unfolding behind_year
@@ -103,7 +102,7 @@ module _ (s : List ℕ) where
       by_two (MonthAt at y) (field 45 1 12 (drop at s)) (month_at no_month none-taken) λ m e.
       behind (field-inv 45 1 12 s at e) (day-taken (at + 3) y m)
     where
-      behind : {at m : ℕ} {r : ReadPoint} → Taken (λ t. Field 45 1 12 t m) (drop at s) (drop (at + 3) s) → DayAt (at + 3) y m r → MonthAt at y r
+      behind : {at m : ℕ} {r : Option (Datetime × ℕ)} → Taken (λ t. Field 45 1 12 t m) (drop at s) (drop (at + 3) s) → DayAt (at + 3) y m r → MonthAt at y r
       behind p (day_at d f) = month_at (-mm p.derived d) (joined p.split f)
 
   -- the digits of a point at a place, behind a sign or none
@@ -114,7 +113,7 @@ module _ (s : List ℕ) where
       by-four (Derived Point s) (four (drop at s)) nothing λ n e.
       whole n (four-inv (drop at s) e) (month-taken (at + 4) (signed negative n))
     where
-      whole : (n : ℕ) {r : ReadPoint} → (n < 10000) × Split (drop at s) (digits 4 n) (drop 4 (drop at s)) → MonthAt (at + 4) (signed negative n) r → Derived Point s r
+      whole : (n : ℕ) {r : Option (Datetime × ℕ)} → (n < 10000) × Split (drop at s) (digits 4 n) (drop 4 (drop at s)) → MonthAt (at + 4) (signed negative n) r → Derived Point s r
       whole n p (month_at d g) =
           let h : Split (drop at s) (digits 4 n) (drop (at + 4) s) = record { is = p.1.is ∙ ap (λ (r : List ℕ). digits 4 n ++ r) (drop-drop 4 at s) } in
           upto (Grammar.point (year n p.0) d) (joined (joined f h) g)

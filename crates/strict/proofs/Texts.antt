@@ -15,13 +15,10 @@ use Rattle.dates.specs.declared.DateValue.{DateValue}
 use Rattle.dates.specs.declared.DateValue.TheVariants.{At, After, Before as Until, Between}
 use Rattle.dates.specs.declared.Date.{Date}
 use Rattle.dates.specs.Value.{date}
-use Rattle.strict.specs.declared.ReadPoint.{ReadPoint}
-use Rattle.strict.specs.declared.ReadUnknown.{ReadUnknown}
-use Rattle.strict.specs.declared.Matched.{Matched}
-use Rattle.strict.specs.declared.Matched.TheVariants.{Strict, NotStrict}
+use Rattle.std.specs.Prelude.{Option, Some, None}
 use Rattle.strict.specs.Grammar.{Value, alone, between, after, before, Mark, no_mark, uncertain, approximate, both, TextOf, text}
 use Rattle.strict.specs.Grammar
-use Rattle.strict.specs.Matcher.{is, unknown, strictly, marked, ending, is_open, on_point, behind_open, behind_slash, from_point, of_points, on_unknown, text_of}
+use Rattle.strict.specs.Matcher.{is, strictly, marked, ending, is_open, on_point, behind_open, behind_slash, from_point, of_points, on_unknown, text_of}
 use Rattle.strict.proofs.Places.{Split, first, further, joined, one-taken}
 use Rattle.strict.proofs.Points.{Ends, Exact, Derived, nothing, upto}
 use Rattle.strict.proofs.Ranges.{no_digit, unknown-read, Ranged, no_range, range, unknown-taken}
@@ -52,7 +49,7 @@ mark-ending v uncertain = refl
 mark-ending v approximate = refl
 mark-ending v both = refl
 
-module _ {P : List ℕ → Datetime → Type 0} {read : List ℕ → ReadPoint} (x : Exact P read) {m : List ℕ} {u a : Bool} (mark : Mark m u a) where
+module _ {P : List ℕ → Datetime → Type 0} {read : List ℕ → Option (Datetime × ℕ)} (x : Exact P read) {m : List ℕ} {u a : Bool} (mark : Mark m u a) where
   -- a point and the mark
   last-point : {s : List ℕ} {d : Datetime} (v : Datetime → DateValue) → P s d → on_point (read (s ++ m)) (λ b next. ending (v b) (drop next (s ++ m))) ≡ strictly (v d) u a
   unfolding on_point
@@ -91,14 +88,14 @@ module _ {P : List ℕ → Datetime → Type 0} {read : List ℕ → ReadPoint} 
       let b = unknown-read (mark-ends mark) p (record { is = refl }) in
       rw (b.reads, b.left.is) (mark-ending _ mark)
 
-pub text-read : {P : List ℕ → Datetime → Type 0} {read : List ℕ → ReadPoint} → Exact P read → {s : List ℕ} {d : Date} → TextOf P s d → text_of read s ≡ Strict d
+pub text-read : {P : List ℕ → Datetime → Type 0} {read : List ℕ → Option (Datetime × ℕ)} → Exact P read → {s : List ℕ} {d : Date} → TextOf P s d → text_of read s ≡ Some d
 text-read x (text v mark) = value_read x mark v
 
 -- ---- what is accepted has a derivation
 
-pub data Accepted (P : List ℕ → Datetime → Type 0) (s : List ℕ) : Matched → Type 0 where
-  refused : Accepted P s NotStrict
-  accepted : {d : Date} → TextOf P s d → Accepted P s (Strict d)
+pub data Accepted (P : List ℕ → Datetime → Type 0) (s : List ℕ) : Option Date → Type 0 where
+  refused : Accepted P s None
+  accepted : {d : Date} → TextOf P s d → Accepted P s (Some d)
 
 open-taken : (l : List ℕ) → is_open l ≡ true → Split l (46 ∷ 46 ∷ []) (drop 2 l)
 unfolding is_open
@@ -127,13 +124,13 @@ module _ {P : List ℕ → Datetime → Type 0} (s : List ℕ) where
   ending-taken (b ∷ c ∷ r) d f = refused
 
   -- a point behind what was read before it
-  last_taken : {t l : List ℕ} {r : ReadPoint} (v : Datetime → DateValue) → Split s t l → ((u : List ℕ) (a : Datetime) → P u a → Value P (t ++ u) (v a))
+  last_taken : {t l : List ℕ} {r : Option (Datetime × ℕ)} (v : Datetime → DateValue) → Split s t l → ((u : List ℕ) (a : Datetime) → P u a → Value P (t ++ u) (v a))
       → Derived P l r → Accepted P s (on_point r (λ a next. ending (v a) (drop next l)))
   unfolding on_point
   last_taken v f d nothing = refused
   last_taken {l = l} v f d (upto {t = u} {a = a} {next = next} p g) = ending-taken (drop next l) (d u a p) (joined f g)
 
-module _ {P : List ℕ → Datetime → Type 0} {read : List ℕ → ReadPoint} (x : Exact P read) (s : List ℕ) where
+module _ {P : List ℕ → Datetime → Type 0} {read : List ℕ → Option (Datetime × ℕ)} (x : Exact P read) (s : List ℕ) where
   slash-taken : {t : List ℕ} {a : Datetime} (l : List ℕ) → P t a → Split s t (47 ∷ l) → Accepted P s (behind_slash read a l)
   unfolding behind_slash
   slash-taken {t} {a} l p f =
@@ -144,7 +141,7 @@ module _ {P : List ℕ → Datetime → Type 0} {read : List ℕ → ReadPoint} 
       second : (u : List ℕ) (b : Datetime) → P u b → Value P ((t ++ (47 ∷ [])) ++ u) (Between a b)
       second u b q = subst (λ (r : List ℕ). Value P r (Between a b)) (sym (append_assoc t (47 ∷ []) u)) (between p q)
 
-  from-taken : {r : ReadPoint} → Derived P s r → Accepted P s (on_point r λ a next. pick (is 47 s next) (behind_slash read a (drop (next + 1) s)) (ending (At a) (drop next s)))
+  from-taken : {r : Option (Datetime × ℕ)} → Derived P s r → Accepted P s (on_point r λ a next. pick (is 47 s next) (behind_slash read a (drop (next + 1) s)) (ending (At a) (drop next s)))
   unfolding on_point
   from-taken nothing = refused
   from-taken (upto {t = t} {a = a} {next = next} p f) =
@@ -166,6 +163,6 @@ module _ {P : List ℕ → Datetime → Type 0} {read : List ℕ → ReadPoint} 
   unfolding text_of on_unknown
   text-taken = go (unknown-taken s)
     where
-      go : {r : ReadUnknown} → Ranged s r → Accepted P s (on_unknown r (of_points read s) λ v next. ending v (drop next s))
+      go : {r : Option (DateValue × ℕ)} → Ranged s r → Accepted P s (on_unknown r (of_points read s) λ v next. ending v (drop next s))
       go no_range = points-taken
       go (range {next = next} u f) = ending-taken s (drop next s) (Grammar.unknown u) f

@@ -11,43 +11,19 @@ ghost use Rattle.strict.specs.Level as levels;
 ghost use Rattle.strict.specs.LevelMatcher as matcher;
 
 use chars::{byte_at, is_digit};
-use dates::{
-    Date, DateValue, Datetime, Day, Month, OptionDay, OptionMonth, OptionOffset, OptionSeason,
-    OptionTime, Time, TimeOffset, days_in_month,
-};
-
-// What the strict grammar says of a text, or the one of level one.
-#[derive(Clone, Copy)]
-pub enum Matched {
-    Strict(Date),
-    NotStrict,
-}
-
-// A number of two digits.
-#[derive(Clone, Copy)]
-enum OptionTwo {
-    NoTwo,
-    SomeTwo(u8),
-}
-
-// A number of four digits.
-#[derive(Clone, Copy)]
-enum OptionFour {
-    NoFour,
-    SomeFour(u16),
-}
+use dates::{Date, DateValue, Datetime, Day, Month, Season, Time, TimeOffset, days_in_month};
 
 // An offset, and the place behind it; if there is none, the place is where it would start.
 #[derive(Clone, Copy)]
 struct ReadOffset {
-    offset: OptionOffset,
+    offset: Option<TimeOffset>,
     next: usize,
 }
 
 // A time, and the place behind it; if there is none, the place is where it would start.
 #[derive(Clone, Copy)]
 struct ReadTime {
-    time: OptionTime,
+    time: Option<Time>,
     next: usize,
 }
 
@@ -58,22 +34,8 @@ struct ReadDigits {
     number: u64,
 }
 
-// A point at the front of a text, as long as it goes, and the place behind it.
-#[derive(Clone, Copy)]
-enum ReadPoint {
-    Upto { value: Datetime, next: usize },
-    NoPoint,
-}
-
-// A range by X at the front of a text, and the place behind it.
-#[derive(Clone, Copy)]
-enum ReadUnknown {
-    Within { value: DateValue, next: usize },
-    NoUnknown,
-}
-
 // The number that two digits at a place write.
-fn two_at(s: &[u8], at: usize) -> OptionTwo
+fn two_at(s: &[u8], at: usize) -> Option<u8>
     requires { at < 100 }
     ensures { result ≡ spec.two (drop at s.now) }
 {
@@ -81,10 +43,10 @@ fn two_at(s: &[u8], at: usize) -> OptionTwo
     let b = byte_at(s, at + 1);
     if is_digit(a) {
         if is_digit(b) {
-            return OptionTwo::SomeTwo((a - b'0') * 10 + (b - b'0'));
+            return Some((a - b'0') * 10 + (b - b'0'));
         }
     }
-    OptionTwo::NoTwo
+    None
 }
 
 fn wide(n: u8) -> u16
@@ -94,77 +56,70 @@ fn wide(n: u8) -> u16
 }
 
 // The number that four digits at a place write.
-fn four_at(s: &[u8], at: usize) -> OptionFour
+#[tactic(auto, unfolding(crate::specs::Matcher::four, crate::specs::Matcher::on))]
+fn four_at(s: &[u8], at: usize) -> Option<u16>
     requires { at < 90 }
     ensures { result ≡ spec.four (drop at s.now) }
 {
-    match two_at(s, at) {
-        OptionTwo::NoTwo => OptionFour::NoFour,
-        OptionTwo::SomeTwo(a) => match two_at(s, at + 2) {
-            OptionTwo::NoTwo => OptionFour::NoFour,
-            OptionTwo::SomeTwo(b) => OptionFour::SomeFour(wide(a) * 100 + wide(b)),
-        },
-    }
+    let a = two_at(s, at)?;
+    let b = two_at(s, at + 2)?;
+    Some(wide(a) * 100 + wide(b))
 }
 
 // A number from the first to the last one given, counted from the first.
-fn counted(n: OptionTwo, first: u8, last: u8) -> OptionTwo
+#[tactic(auto, unfolding(crate::specs::Matcher::counted, crate::specs::Matcher::on, chars::specs::Pick::pick))]
+fn counted(n: Option<u8>, first: u8, last: u8) -> Option<u8>
     ensures { result ≡ spec.counted first last n }
 {
-    match n {
-        OptionTwo::NoTwo => OptionTwo::NoTwo,
-        OptionTwo::SomeTwo(v) => {
-            if first <= v {
-                if v <= last {
-                    return OptionTwo::SomeTwo(v - first);
-                }
-            }
-            OptionTwo::NoTwo
+    let v = n?;
+    if first <= v {
+        if v <= last {
+            return Some(v - first);
         }
     }
+    None
 }
 
 // A byte and two digits at a place, a number from the first to the last one given; it is counted from the first.
-fn field_at(s: &[u8], at: usize, c: u8, first: u8, last: u8) -> OptionTwo
+fn field_at(s: &[u8], at: usize, c: u8, first: u8, last: u8) -> Option<u8>
     requires { at < 90 }
     ensures { result ≡ spec.field c first last (drop at s.now) }
 {
     if byte_at(s, at) == c {
         return counted(two_at(s, at + 1), first, last);
     }
-    OptionTwo::NoTwo
+    None
 }
 
 fn no_offset(at: usize) -> ReadOffset
     ensures { result ≡ spec.without_offset at }
 {
     ReadOffset {
-        offset: OptionOffset::NoOffset,
+        offset: None,
         next: at,
     }
 }
 
 // A sign and hh:mm at a place.
+#[tactic(auto, unfolding(crate::specs::Matcher::shift_at, crate::specs::Matcher::on))]
 fn shift_at(s: &[u8], at: usize, sign: u8, positive: bool) -> ReadOffset
     requires { at < 80 }
     ensures { result ≡ spec.shift_at s.now at sign positive }
 {
-    match field_at(s, at, sign, 0, 23) {
-        OptionTwo::NoTwo => no_offset(at),
-        OptionTwo::SomeTwo(hours) => match field_at(s, at + 3, b':', 0, 59) {
-            OptionTwo::NoTwo => no_offset(at),
-            OptionTwo::SomeTwo(minutes) => {
-                let shift = TimeOffset::Offset {
-                    positive,
-                    hours,
-                    minutes,
-                };
-                ReadOffset {
-                    offset: OptionOffset::SomeOffset(shift),
-                    next: at + 6,
-                }
-            }
-        },
+    let Some(hours) = field_at(s, at, sign, 0, 23) else {
+        return no_offset(at);
+    };
+    let Some(minutes) = field_at(s, at + 3, b':', 0, 59) else {
+        return no_offset(at);
+    };
+    let shift = TimeOffset::Offset {
+        positive,
+        hours,
+        minutes,
+    };
+    ReadOffset {
+        offset: Some(shift),
+        next: at + 6,
     }
 }
 
@@ -176,7 +131,7 @@ fn offset_at(s: &[u8], at: usize) -> ReadOffset
     let c = byte_at(s, at);
     if c == b'Z' {
         return ReadOffset {
-            offset: OptionOffset::SomeOffset(TimeOffset::Utc),
+            offset: Some(TimeOffset::Utc),
             next: at + 1,
         };
     }
@@ -190,7 +145,7 @@ fn no_time(at: usize) -> ReadTime
     ensures { result ≡ spec.without_time at }
 {
     ReadTime {
-        time: OptionTime::NoTime,
+        time: None,
         next: at,
     }
 }
@@ -207,80 +162,62 @@ fn timed(hour: u8, minute: u8, second: u8, zone: ReadOffset) -> ReadTime
         offset,
     };
     ReadTime {
-        time: OptionTime::SomeTime(time),
+        time: Some(time),
         next: zone.next,
     }
 }
 
 // Thh:mm:ss at a place, then perhaps an offset.
+#[tactic(auto, unfolding(crate::specs::Matcher::time_at, crate::specs::Matcher::on))]
 fn time_at(s: &[u8], at: usize) -> ReadTime
     requires { at < 70 }
     ensures { result ≡ spec.time_at s.now at }
 {
-    match field_at(s, at, b'T', 0, 23) {
-        OptionTwo::NoTwo => no_time(at),
-        OptionTwo::SomeTwo(hour) => match field_at(s, at + 3, b':', 0, 59) {
-            OptionTwo::NoTwo => no_time(at),
-            OptionTwo::SomeTwo(minute) => match field_at(s, at + 6, b':', 0, 59) {
-                OptionTwo::NoTwo => no_time(at),
-                OptionTwo::SomeTwo(second) => timed(hour, minute, second, offset_at(s, at + 9)),
-            },
-        },
-    }
+    let Some(hour) = field_at(s, at, b'T', 0, 23) else {
+        return no_time(at);
+    };
+    let Some(minute) = field_at(s, at + 3, b':', 0, 59) else {
+        return no_time(at);
+    };
+    let Some(second) = field_at(s, at + 6, b':', 0, 59) else {
+        return no_time(at);
+    };
+    timed(hour, minute, second, offset_at(s, at + 9))
 }
 
 // A year, a month and a day, with the time that was read behind them.
-fn on_day(year: i32, month: Month, day: Day, clock: ReadTime) -> ReadPoint
+fn on_day(year: i32, month: Month, day: Day, clock: ReadTime) -> Option<(Datetime, usize)>
     ensures { result ≡ spec.day_point year month.0 day.0 clock }
 {
     let time = clock.time;
-    ReadPoint::Upto {
-        value: Datetime::new(
-            year,
-            OptionMonth::SomeMonth(month),
-            OptionDay::SomeDay(day),
-            time,
-        ),
-        next: clock.next,
-    }
+    Some((
+        Datetime::new(year, Some(month), Some(day), time),
+        clock.next,
+    ))
 }
 
 // Behind a year and a month: -dd that the month has, then perhaps a time.
-fn behind_month(s: &[u8], at: usize, year: i32, month: Month) -> ReadPoint
+#[tactic(auto, unfolding(crate::specs::Matcher::behind_month, crate::specs::Matcher::on))]
+fn behind_month(s: &[u8], at: usize, year: i32, month: Month) -> Option<(Datetime, usize)>
     requires { at < 60 }
     ensures { result ≡ spec.behind_month s.now at year month.0 }
 {
-    match field_at(s, at, b'-', 1, days_in_month(month, year)) {
-        OptionTwo::NoTwo => ReadPoint::Upto {
-            value: Datetime::new(
-                year,
-                OptionMonth::SomeMonth(month),
-                OptionDay::NoDay,
-                OptionTime::NoTime,
-            ),
-            next: at,
-        },
-        OptionTwo::SomeTwo(day) => on_day(year, month, Day(day), time_at(s, at + 3)),
-    }
+    let Some(day) = field_at(s, at, b'-', 1, days_in_month(month, year)) else {
+        return Some((Datetime::new(year, Some(month), None, None), at));
+    };
+    on_day(year, month, Day(day), time_at(s, at + 3))
 }
 
 // Behind a year: -mm, then perhaps a day.
-fn behind_year(s: &[u8], at: usize, year: i32) -> ReadPoint
+#[tactic(auto, unfolding(crate::specs::Matcher::behind_year, crate::specs::Matcher::on))]
+fn behind_year(s: &[u8], at: usize, year: i32) -> Option<(Datetime, usize)>
     requires { at < 50 }
     ensures { result ≡ spec.behind_year s.now at year }
 {
-    match field_at(s, at, b'-', 1, 12) {
-        OptionTwo::NoTwo => ReadPoint::Upto {
-            value: Datetime::new(
-                year,
-                OptionMonth::NoMonth,
-                OptionDay::NoDay,
-                OptionTime::NoTime,
-            ),
-            next: at,
-        },
-        OptionTwo::SomeTwo(m) => behind_month(s, at + 3, year, Month(m)),
-    }
+    let Some(m) = field_at(s, at, b'-', 1, 12) else {
+        return Some((Datetime::new(year, None, None, None), at));
+    };
+    behind_month(s, at + 3, year, Month(m))
 }
 
 // The year of four digits and a sign.
@@ -292,18 +229,17 @@ fn signed(negative: bool, n: u16) -> i32
 }
 
 // A point whose digits start at a place.
-fn point_at(s: &[u8], at: usize, negative: bool) -> ReadPoint
+#[tactic(auto, unfolding(crate::specs::Matcher::point_at, crate::specs::Matcher::on_four))]
+fn point_at(s: &[u8], at: usize, negative: bool) -> Option<(Datetime, usize)>
     requires { at < 2 }
     ensures { result ≡ spec.point_at s.now at negative }
 {
-    match four_at(s, at) {
-        OptionFour::NoFour => ReadPoint::NoPoint,
-        OptionFour::SomeFour(n) => behind_year(s, at + 4, signed(negative, n)),
-    }
+    let n = four_at(s, at)?;
+    behind_year(s, at + 4, signed(negative, n))
 }
 
 // A point at the front of a text.
-fn point(s: &[u8]) -> ReadPoint
+fn point(s: &[u8]) -> Option<(Datetime, usize)>
     ensures { result ≡ spec.point s.now }
 {
     if byte_at(s, 0) == b'-' {
@@ -313,40 +249,37 @@ fn point(s: &[u8]) -> ReadPoint
 }
 
 // The season of a number that is counted from 21.
-fn season_at(n: u8) -> OptionSeason
+fn season_at(n: u8) -> Option<Season>
     ensures { result ≡ levels.season_at n }
 {
     match n {
-        0 => OptionSeason::Spring,
-        1 => OptionSeason::Summer,
-        2 => OptionSeason::Autumn,
-        _ => OptionSeason::Winter,
+        0 => Some(Season::Spring),
+        1 => Some(Season::Summer),
+        2 => Some(Season::Autumn),
+        _ => Some(Season::Winter),
     }
 }
 
 // Behind a year of four digits: -21 to -24 is a season, else what a strict point has.
-fn level_year(s: &[u8], at: usize, year: i32) -> ReadPoint
+#[tactic(auto, unfolding(crate::specs::LevelMatcher::level_year, crate::specs::Matcher::on))]
+fn level_year(s: &[u8], at: usize, year: i32) -> Option<(Datetime, usize)>
     requires { at < 50 }
     ensures { result ≡ matcher.level_year s.now at year }
 {
-    match field_at(s, at, b'-', 21, 24) {
-        OptionTwo::NoTwo => behind_year(s, at, year),
-        OptionTwo::SomeTwo(n) => ReadPoint::Upto {
-            value: Datetime::of_season(year, season_at(n)),
-            next: at + 3,
-        },
-    }
+    let Some(n) = field_at(s, at, b'-', 21, 24) else {
+        return behind_year(s, at, year);
+    };
+    Some((Datetime::of_season(year, season_at(n)), at + 3))
 }
 
 // A point of level one whose four digits start at a place.
-fn level_at(s: &[u8], at: usize, negative: bool) -> ReadPoint
+#[tactic(auto, unfolding(crate::specs::LevelMatcher::level_at, crate::specs::Matcher::on_four))]
+fn level_at(s: &[u8], at: usize, negative: bool) -> Option<(Datetime, usize)>
     requires { at < 2 }
     ensures { result ≡ matcher.level_at s.now at negative }
 {
-    match four_at(s, at) {
-        OptionFour::NoFour => ReadPoint::NoPoint,
-        OptionFour::SomeFour(n) => level_year(s, at + 4, signed(negative, n)),
-    }
+    let n = four_at(s, at)?;
+    level_year(s, at + 4, signed(negative, n))
 }
 
 // The digits at a place, as far as they go; ten are too many for any year.
@@ -356,22 +289,19 @@ fn digits_at(s: &[u8], at: usize) -> ReadDigits
     ensures number_value { result.number ≡ matcher.value_from 0 (take result.count (drop at s.now)) }
     ensures count_bound { (result.count ≤ 10) × (result.number < 10 ^ result.count) }
 {
-    let mut n = 0;
     let mut v = 0u64;
-    while n < 10 {
+    for n in 0..10 {
         let c = byte_at(s, at + n);
-        if is_digit(c) {
-            v = v * 10 + (c - b'0') as u64;
-            n += 1;
-        } else {
+        if !is_digit(c) {
             return ReadDigits {
                 count: n,
                 number: v,
             };
         }
+        v = v * 10 + (c - b'0') as u64;
     }
     ReadDigits {
-        count: n,
+        count: 10,
         number: v,
     }
 }
@@ -386,7 +316,7 @@ fn signed_long(negative: bool, n: u64) -> i32
 }
 
 // A long year whose digits start at a place: five to nine of them, the first not zero.
-fn long_at(s: &[u8], at: usize, negative: bool) -> ReadPoint
+fn long_at(s: &[u8], at: usize, negative: bool) -> Option<(Datetime, usize)>
     requires { at < 3 }
     ensures { result ≡ matcher.long_at s.now at negative }
 {
@@ -394,23 +324,18 @@ fn long_at(s: &[u8], at: usize, negative: bool) -> ReadPoint
     if 5 <= d.count {
         if d.count <= 9 {
             if byte_at(s, at) != b'0' {
-                return ReadPoint::Upto {
-                    value: Datetime::new(
-                        signed_long(negative, d.number),
-                        OptionMonth::NoMonth,
-                        OptionDay::NoDay,
-                        OptionTime::NoTime,
-                    ),
-                    next: at + d.count,
-                };
+                return Some((
+                    Datetime::new(signed_long(negative, d.number), None, None, None),
+                    at + d.count,
+                ));
             }
         }
     }
-    ReadPoint::NoPoint
+    None
 }
 
 // A point of level one at the front of a text.
-fn level_point(s: &[u8]) -> ReadPoint
+fn level_point(s: &[u8]) -> Option<(Datetime, usize)>
     ensures { result ≡ matcher.level_point s.now }
 {
     let c = byte_at(s, 0);
@@ -427,7 +352,7 @@ fn level_point(s: &[u8]) -> ReadPoint
 }
 
 // A point of level one or a strict one.
-fn point_of(level: bool, s: &[u8]) -> ReadPoint
+fn point_of(level: bool, s: &[u8]) -> Option<(Datetime, usize)>
     ensures { result ≡ matcher.point_of level s.now }
 {
     if level {
@@ -450,34 +375,28 @@ fn dash_xx_at(s: &[u8], at: usize) -> bool
 }
 
 // A year without a sign, perhaps with a month and a day.
-fn plain(n: u16, month: OptionMonth, day: OptionDay) -> Datetime
+fn plain(n: u16, month: Option<Month>, day: Option<Day>) -> Datetime
     ensures { result ≡ grammar.plain n month day }
 {
-    Datetime::new(signed(false, n), month, day, OptionTime::NoTime)
+    Datetime::new(signed(false, n), month, day, None)
 }
 
 // The years from the first to the last, which four characters stand for.
-fn years(first: u16, last: u16) -> ReadUnknown
+fn years(first: u16, last: u16) -> Option<(DateValue, usize)>
     ensures { result ≡ spec.years first last }
 {
-    let start = plain(first, OptionMonth::NoMonth, OptionDay::NoDay);
-    let end = plain(last, OptionMonth::NoMonth, OptionDay::NoDay);
-    ReadUnknown::Within {
-        value: DateValue::Between(start, end),
-        next: 4,
-    }
+    let start = plain(first, None, None);
+    let end = plain(last, None, None);
+    Some((DateValue::Between(start, end), 4))
 }
 
 // All months of a year.
-fn months(n: u16, next: usize) -> ReadUnknown
+fn months(n: u16, next: usize) -> Option<(DateValue, usize)>
     ensures { result ≡ spec.months n next }
 {
-    let start = plain(n, OptionMonth::SomeMonth(Month(0)), OptionDay::NoDay);
-    let end = plain(n, OptionMonth::SomeMonth(Month(11)), OptionDay::NoDay);
-    ReadUnknown::Within {
-        value: DateValue::Between(start, end),
-        next,
-    }
+    let start = plain(n, Some(Month(0)), None);
+    let end = plain(n, Some(Month(11)), None);
+    Some((DateValue::Between(start, end), next))
 }
 
 // The last day of a month of a year, counted from zero.
@@ -489,21 +408,18 @@ fn last_day(month: Month, n: u16) -> u8
 }
 
 // The days of a month, from the first to the last. The ported reader has 31 for any month.
-fn days(n: u16, month: Month) -> ReadUnknown
+fn days(n: u16, month: Month) -> Option<(DateValue, usize)>
     requires { month.0 < 12 }
     ensures { result ≡ spec.days n month.0 }
 {
-    let start = plain(n, OptionMonth::SomeMonth(month), OptionDay::SomeDay(Day(0)));
+    let start = plain(n, Some(month), Some(Day(0)));
     let last = Day(last_day(month, n));
-    let end = plain(n, OptionMonth::SomeMonth(month), OptionDay::SomeDay(last));
-    ReadUnknown::Within {
-        value: DateValue::Between(start, end),
-        next: 10,
-    }
+    let end = plain(n, Some(month), Some(last));
+    Some((DateValue::Between(start, end), 10))
 }
 
 // Two digits and XX, or three digits and X: the first two digits write n, and an X stands fourth.
-fn unknown_years(s: &[u8], n: u8) -> ReadUnknown
+fn unknown_years(s: &[u8], n: u8) -> Option<(DateValue, usize)>
     ensures { result ≡ spec.unknown_years s.now n }
 {
     let c = byte_at(s, 2);
@@ -515,11 +431,12 @@ fn unknown_years(s: &[u8], n: u8) -> ReadUnknown
         let first = (wide(n) * 10 + wide(c - b'0')) * 10;
         return years(first, first + 9);
     }
-    ReadUnknown::NoUnknown
+    None
 }
 
 // Behind four digits, which write n: -XX, -XX-XX or -mm-XX.
-fn unknown_parts(s: &[u8], n: u16) -> ReadUnknown
+#[tactic(auto, unfolding(crate::specs::Matcher::unknown_parts, chars::specs::Pick::pick, crate::specs::Matcher::on))]
+fn unknown_parts(s: &[u8], n: u16) -> Option<(DateValue, usize)>
     ensures { result ≡ spec.unknown_parts s.now n }
 {
     if dash_xx_at(s, 4) {
@@ -528,35 +445,26 @@ fn unknown_parts(s: &[u8], n: u16) -> ReadUnknown
         }
         return months(n, 7);
     }
-    match field_at(s, 4, b'-', 1, 12) {
-        OptionTwo::NoTwo => ReadUnknown::NoUnknown,
-        OptionTwo::SomeTwo(month) => {
-            if dash_xx_at(s, 7) {
-                return days(n, Month(month));
-            }
-            ReadUnknown::NoUnknown
-        }
+    let month = field_at(s, 4, b'-', 1, 12)?;
+    if dash_xx_at(s, 7) {
+        return days(n, Month(month));
     }
+    None
 }
 
 // A range by X at the front of a text.
-fn unknown(s: &[u8]) -> ReadUnknown
+#[tactic(auto, unfolding(crate::specs::Matcher::unknown, chars::specs::Pick::pick, crate::specs::Matcher::on, crate::specs::Matcher::on_four))]
+fn unknown(s: &[u8]) -> Option<(DateValue, usize)>
     ensures { result ≡ spec.unknown s.now }
 {
     if byte_at(s, 3) == b'X' {
-        return match two_at(s, 0) {
-            OptionTwo::NoTwo => ReadUnknown::NoUnknown,
-            OptionTwo::SomeTwo(n) => unknown_years(s, n),
-        };
+        return unknown_years(s, two_at(s, 0)?);
     }
-    match four_at(s, 0) {
-        OptionFour::NoFour => ReadUnknown::NoUnknown,
-        OptionFour::SomeFour(n) => unknown_parts(s, n),
-    }
+    unknown_parts(s, four_at(s, 0)?)
 }
 
 // The Date of a value, with the mark that the byte is.
-fn marked(value: DateValue, c: u8) -> Matched
+fn marked(value: DateValue, c: u8) -> Option<Date>
     ensures { result ≡ spec.marked value c }
 {
     if c == b'?' {
@@ -568,14 +476,14 @@ fn marked(value: DateValue, c: u8) -> Matched
     if c == b'%' {
         return strictly(value, true, true);
     }
-    Matched::NotStrict
+    None
 }
 
 // The answer that is a Date.
-fn strictly(value: DateValue, uncertain: bool, approximate: bool) -> Matched
+fn strictly(value: DateValue, uncertain: bool, approximate: bool) -> Option<Date>
     ensures { result ≡ spec.strictly value uncertain approximate }
 {
-    Matched::Strict(Date {
+    Some(Date {
         value,
         uncertain,
         approximate,
@@ -583,7 +491,7 @@ fn strictly(value: DateValue, uncertain: bool, approximate: bool) -> Matched
 }
 
 // What is left at a place must be nothing or one mark.
-fn ending(value: DateValue, s: &[u8], at: usize) -> Matched
+fn ending(value: DateValue, s: &[u8], at: usize) -> Option<Date>
     ensures { result ≡ spec.ending value (drop at s.now) }
 {
     if s.len() <= at {
@@ -592,7 +500,7 @@ fn ending(value: DateValue, s: &[u8], at: usize) -> Matched
     if s.len() - at == 1 {
         return marked(value, s[at]);
     }
-    Matched::NotStrict
+    None
 }
 
 // Whether two full stops stand at the front: an open end.
@@ -603,70 +511,64 @@ fn is_open(s: &[u8]) -> bool
 }
 
 // Behind `../` a point must stand: both ends open is no range.
-fn behind_open(level: bool, s: &[u8]) -> Matched
+#[tactic(auto, unfolding(crate::specs::Matcher::behind_open, crate::specs::Matcher::on_point))]
+fn behind_open(level: bool, s: &[u8]) -> Option<Date>
     ensures { result ≡ spec.behind_open (matcher.point_of level) s.now }
 {
-    match point_of(level, s) {
-        ReadPoint::NoPoint => Matched::NotStrict,
-        ReadPoint::Upto { value, next } => ending(DateValue::Before(value), s, next),
-    }
+    let (value, next) = point_of(level, s)?;
+    ending(DateValue::Before(value), s, next)
 }
 
 // Behind a point and a slash: another point, or an open end.
-fn behind_slash(level: bool, first: Datetime, s: &[u8]) -> Matched
+#[tactic(auto, unfolding(crate::specs::Matcher::behind_slash, crate::specs::Matcher::on_point, chars::specs::Pick::pick))]
+fn behind_slash(level: bool, first: Datetime, s: &[u8]) -> Option<Date>
     ensures { result ≡ spec.behind_slash (matcher.point_of level) first s.now }
 {
     if is_open(s) {
         return ending(DateValue::After(first), s, 2);
     }
-    match point_of(level, s) {
-        ReadPoint::NoPoint => Matched::NotStrict,
-        ReadPoint::Upto { value, next } => ending(DateValue::Between(first, value), s, next),
-    }
+    let (value, next) = point_of(level, s)?;
+    ending(DateValue::Between(first, value), s, next)
 }
 
 // A text that starts with a point.
-fn from_point(level: bool, s: &[u8]) -> Matched
+#[tactic(auto, unfolding(crate::specs::Matcher::from_point, crate::specs::Matcher::on_point, chars::specs::Pick::pick))]
+fn from_point(level: bool, s: &[u8]) -> Option<Date>
     ensures { result ≡ spec.from_point (matcher.point_of level) s.now }
 {
-    match point_of(level, s) {
-        ReadPoint::NoPoint => Matched::NotStrict,
-        ReadPoint::Upto { value, next } => {
-            if byte_at(s, next) == b'/' {
-                return behind_slash(level, value, &s[next + 1..]);
-            }
-            ending(DateValue::At(value), s, next)
-        }
+    let (value, next) = point_of(level, s)?;
+    if byte_at(s, next) == b'/' {
+        return behind_slash(level, value, &s[next + 1..]);
     }
+    ending(DateValue::At(value), s, next)
 }
 
 // The Date of a text, by the strict points or those of level one.
-fn text_of(level: bool, s: &[u8]) -> Matched
+#[tactic(auto, unfolding(crate::specs::Matcher::text_of, crate::specs::Matcher::of_points, crate::specs::Matcher::on_unknown, chars::specs::Pick::pick))]
+fn text_of(level: bool, s: &[u8]) -> Option<Date>
     ensures { result ≡ spec.text_of (matcher.point_of level) s.now }
 {
-    match unknown(s) {
-        ReadUnknown::Within { value, next } => ending(value, s, next),
-        ReadUnknown::NoUnknown => {
-            if is_open(s) {
-                if byte_at(s, 2) == b'/' {
-                    return behind_open(level, &s[3..]);
-                }
-                return Matched::NotStrict;
-            }
-            from_point(level, s)
-        }
+    if let Some((value, next)) = unknown(s) {
+        return ending(value, s, next);
     }
+    if is_open(s) {
+        if byte_at(s, 2) == b'/' {
+            return behind_open(level, &s[3..]);
+        }
+        return None;
+    }
+    from_point(level, s)
 }
 
 // The Date of a text of the strict grammar.
-pub fn match_text(s: &[u8]) -> Matched
+pub fn match_text(s: &[u8]) -> Option<Date>
     ensures { result ≡ spec.strict s.now }
 {
     text_of(false, s)
 }
 
 // The Date of a text of level one.
-pub fn match_level(s: &[u8]) -> Matched
+pub fn match_level(s: &[u8]) -> Option<Date>
     ensures { result ≡ matcher.level s.now }
 {
     text_of(true, s)

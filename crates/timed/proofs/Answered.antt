@@ -17,10 +17,7 @@ use Rattle.refusals.specs.declared.Refusal.{Refusal}
 use Rattle.dates.specs.declared.Datetime.{Datetime}
 use Rattle.dates.specs.declared.Date.{Date}
 use Rattle.dates.specs.Value.{from_datetime, has_season, any_season}
-use Rattle.puts.specs.declared.Measured.{Measured}
-use Rattle.puts.specs.declared.Measured.TheVariants.{Length, NoLength}
-use Rattle.puts.specs.declared.Written.{Written}
-use Rattle.puts.specs.declared.Written.TheVariants.{Done, Refused}
+use Rattle.std.specs.Prelude.{Result, Ok, Err}
 use Rattle.puts.specs.Answers.{decided, left, Put, Foretold}
 use Rattle.refusals.specs.Refusal.{number, refusal, nowhere}
 use Rattle.puts.specs.Answers as writing
@@ -35,35 +32,35 @@ use Rattle.timed.specs.Texts.{timed_text, times_text}
 use Rattle.timed.specs.Answers.{value_bad, plain_measured, timed_measured, timed_answer, timed_afterwards}
 use Rattle.timed.proofs.Pieces.{timed-length, timed-most}
 
-abbrev is_done : Written → Bool
-is_done (Done n) = true
-is_done (Refused e) = false
+abbrev is_done : Result ℕ Refusal → Bool
+is_done (Ok n) = true
+is_done (Err e) = false
 
-abbrev is_length : Measured → Bool
-is_length (Length n) = true
-is_length (NoLength e) = false
+abbrev is_length : Result ℕ Refusal → Bool
+is_length (Ok n) = true
+is_length (Err e) = false
 
 -- the number of a refusal; 0 if there is none
-abbrev kind_of : Measured → ℕ
-kind_of (Length n) = 0
-kind_of (NoLength e) = number e.kind
+abbrev kind_of : Result ℕ Refusal → ℕ
+kind_of (Ok n) = 0
+kind_of (Err e) = number e.kind
 
-other-kind : {m n : Measured} → (kind_of m ≡ kind_of n → ⊥) → m ≡ n → ⊥
+other-kind : {m n : Result ℕ Refusal} → (kind_of m ≡ kind_of n → ⊥) → m ≡ n → ⊥
 other-kind f e = f (ap kind_of e)
 
 -- the measure by the two tests
-abbrev measure : Bool → Bool → List ℕ → Measured
-measure p b t = pick p (NoLength (nowhere RustPanics)) (pick b (NoLength (nowhere BadTime)) (Length (length t)))
+abbrev measure : Bool → Bool → List ℕ → Result ℕ Refusal
+measure p b t = pick p (Err (nowhere RustPanics)) (pick b (Err (nowhere BadTime)) (Ok (length t)))
 
 -- and with seasons by three
-abbrev asked : Bool → Measured → Measured
-asked s m = pick s (NoLength (nowhere HasSeason)) m
+abbrev asked : Bool → Result ℕ Refusal → Result ℕ Refusal
+asked s m = pick s (Err (nowhere HasSeason)) m
 
 -- ---- seasons
 
 module _ (d : Date) where
   -- an end has one: HasSeason, and nothing is stored
-  pub seasoned : any_season d.value ≡ true → (timed_measured d ≡ NoLength (nowhere HasSeason)) × ((room : ℕ) → timed_answer d room ≡ Refused (nowhere HasSeason)) × ((out : List ℕ) → timed_afterwards d out ≡ out)
+  pub seasoned : any_season d.value ≡ true → (timed_measured d ≡ Err (nowhere HasSeason)) × ((room : ℕ) → timed_answer d room ≡ Err (nowhere HasSeason)) × ((out : List ℕ) → timed_afterwards d out ≡ out)
   unfolding timed_measured timed_answer timed_afterwards decided left pick
   seasoned e = (
     ap (λ (s : Bool). asked s (plain_measured d)) e,
@@ -82,38 +79,38 @@ module _ (d : Date) where
 
 -- ---- the measure, by that of the text without its times
 
-module _ (d : Date) {m : Measured} (em : m ≡ date_measured d (date_text d)) where
-  has_none : (s p : Bool) (t : List ℕ) {n : ℕ} → asked s (writing.measured p t) ≡ Length n → (s ≡ false) × (p ≡ false) × (n ≡ length t)
+module _ (d : Date) {m : Result ℕ Refusal} (em : m ≡ date_measured d (date_text d)) where
+  has_none : (s p : Bool) (t : List ℕ) {n : ℕ} → asked s (writing.measured p t) ≡ Ok n → (s ≡ false) × (p ≡ false) × (n ≡ length t)
   unfolding writing.measured pick
   has_none true p t e = absurd (false≢true (ap is_length e))
   has_none false true t e = absurd (false≢true (ap is_length e))
   has_none false false t e = (refl, refl, cc)
 
   -- no end has a season or panics
-  module _ {n : ℕ} (e : m ≡ Length n) where
+  module _ {n : ℕ} (e : m ≡ Ok n) where
     pub no-panic : (any_season d.value ≡ false) × (panics d ≡ false) × (n ≡ length (date_text d))
     unfolding date_measured
     no-panic = has_none (any_season d.value) (panics d) (date_text d) (sym em ∙ e)
 
     module _ {b : Bool} (eb : b ≡ value_bad d.value) where
-      pub is-bad : b ≡ true → {x : Refusal} → x ≡ nowhere BadTime → NoLength x ≡ timed_measured d
+      pub is-bad : b ≡ true → {x : Refusal} → x ≡ nowhere BadTime → Err x ≡ timed_measured d
       unfolding plain_measured pick
       is-bad f {x} g =
-          let q : NoLength x ≡ plain_measured d = rw (no-panic.1, sym eb ∙ f, g) in
+          let q : Err x ≡ plain_measured d = rw (no-panic.1, sym eb ∙ f, g) in
           q ∙ sym (plain d no-panic.0).0
 
-      pub has-length : b ≡ false → {k : ℕ} → k ≡ length (times_text d.value) → Length (n + k) ≡ timed_measured d
+      pub has-length : b ≡ false → {k : ℕ} → k ≡ length (times_text d.value) → Ok (n + k) ≡ timed_measured d
       unfolding plain_measured pick
       has-length f {k} g =
-          let q : Length (n + k) ≡ plain_measured d = rw (no-panic.1, sym eb ∙ f, no-panic.2, g) (ap Length (sym (timed-length d))) in
+          let q : Ok (n + k) ≡ plain_measured d = rw (no-panic.1, sym eb ∙ f, no-panic.2, g) (ap Ok (sym (timed-length d))) in
           q ∙ sym (plain d no-panic.0).0
 
   -- one has or does
-  pub panicked : {x : Refusal} → m ≡ NoLength x → NoLength x ≡ timed_measured d
+  pub panicked : {x : Refusal} → m ≡ Err x → Err x ≡ timed_measured d
   unfolding timed_measured plain_measured date_measured writing.measured pick
   panicked {x} e = go (any_season d.value) (panics d) (sym em ∙ e)
     where
-      go : (s p : Bool) → asked s (writing.measured p (date_text d)) ≡ NoLength x → NoLength x ≡ asked s (measure p (value_bad d.value) (timed_text d))
+      go : (s p : Bool) → asked s (writing.measured p (date_text d)) ≡ Err x → Err x ≡ asked s (measure p (value_bad d.value) (timed_text d))
       go true p e = sym e
       go false true e = sym e
       go false false e = absurd (false≢true (sym (ap is_length e)))
@@ -123,51 +120,51 @@ module _ (d : Date) {m : Measured} (em : m ≡ date_measured d (date_text d)) wh
 
 -- ---- the whole text
 
-has_room : (t : List ℕ) (room : ℕ) {n : ℕ} → decided (Length (length t)) room ≡ Done n → length t ≤ room
+has_room : (t : List ℕ) (room : ℕ) {n : ℕ} → decided (Ok (length t)) room ≡ Ok n → length t ≤ room
 unfolding decided pick
 has_room t room e = of_test (leb (length t) room) (λ q. leb-true (length t) room q) (λ q. absurd (false≢true (ap is_done (rw q at e))))
 
 -- whose answer is a length: no end has a season, panics or has a bad time, and there is room
-told : (s p b : Bool) (t : List ℕ) (room : ℕ) {n : ℕ} → decided (asked s (measure p b t)) room ≡ Done n → (s ≡ false) × (p ≡ false) × (length t ≤ room)
+told : (s p b : Bool) (t : List ℕ) (room : ℕ) {n : ℕ} → decided (asked s (measure p b t)) room ≡ Ok n → (s ≡ false) × (p ≡ false) × (length t ≤ room)
 unfolding decided pick
 told true p b t room e = absurd (false≢true (ap is_done e))
 told false true b t room e = absurd (false≢true (ap is_done e))
 told false false true t room e = absurd (false≢true (ap is_done e))
 told false false false t room e = (refl, refl, has_room t room e)
 
-stored : (s p b : Bool) (t l : List ℕ) {n : ℕ} → decided (asked s (measure p b t)) (length l) ≡ Done n → {m : List ℕ} {k : ℕ} → Put t l 0 m k → (Done k ≡ decided (asked s (measure p b t)) (length l)) × (m ≡ left (decided (asked s (measure p b t)) (length l)) t l)
+stored : (s p b : Bool) (t l : List ℕ) {n : ℕ} → decided (asked s (measure p b t)) (length l) ≡ Ok n → {m : List ℕ} {k : ℕ} → Put t l 0 m k → (Ok k ≡ decided (asked s (measure p b t)) (length l)) × (m ≡ left (decided (asked s (measure p b t)) (length l)) t l)
 unfolding decided left pick
 stored true p b t l e q = absurd (false≢true (ap is_done e))
 stored false true b t l e q = absurd (false≢true (ap is_done e))
 stored false false true t l e q = absurd (false≢true (ap is_done e))
 stored false false false t l e q =
     let h = has_room t (length l) e in
-    rw (le-leb (length t) (length l) h) (ap Done (q.behind ∙ zero-add (length t)), at_front h q)
+    rw (le-leb (length t) (length l) h) (ap Ok (q.behind ∙ zero-add (length t)), at_front h q)
 
 -- what is found out before anything is stored: m is the measure, w the answer
-module _ (d : Date) (l : List ℕ) {m : Measured} {w : Written} (em : m ≡ timed_measured d) (ew : w ≡ decided m (length l)) where
+module _ (d : Date) (l : List ℕ) {m : Result ℕ Refusal} {w : Result ℕ Refusal} (em : m ≡ timed_measured d) (ew : w ≡ decided m (length l)) where
   by-measure : w ≡ timed_answer d (length l)
   unfolding timed_answer
-  by-measure = ew ∙ ap (λ (x : Measured). decided x (length l)) em
+  by-measure = ew ∙ ap (λ (x : Result ℕ Refusal). decided x (length l)) em
 
   -- it is to write
-  module _ {n : ℕ} (e : w ≡ Done n) where
+  module _ {n : ℕ} (e : w ≡ Ok n) where
     pub fits : (any_season d.value ≡ false) × (panics d ≡ false) × (length (timed_text d) ≤ length l)
     unfolding timed_answer timed_measured plain_measured
     fits = told (any_season d.value) (panics d) (value_bad d.value) (timed_text d) (length l) (sym by-measure ∙ e)
 
     -- and has written
-    pub done : {out : List ℕ} {k : ℕ} → Put (timed_text d) l 0 out k → (Done k ≡ timed_answer d (length l)) × (out ≡ timed_afterwards d l)
+    pub done : {out : List ℕ} {k : ℕ} → Put (timed_text d) l 0 out k → (Ok k ≡ timed_answer d (length l)) × (out ≡ timed_afterwards d l)
     unfolding timed_answer timed_measured plain_measured timed_afterwards
     done p = stored (any_season d.value) (panics d) (value_bad d.value) (timed_text d) l (sym by-measure ∙ e) p
 
   -- it refuses
-  pub refuses : {e : Refusal} → w ≡ Refused e → (Refused e ≡ timed_answer d (length l)) × (l ≡ timed_afterwards d l)
+  pub refuses : {e : Refusal} → w ≡ Err e → (Err e ≡ timed_answer d (length l)) × (l ≡ timed_afterwards d l)
   unfolding timed_afterwards
   refuses e = (sym e ∙ by-measure, all_left (timed_text d) l (sym by-measure ∙ e))
 
 -- HasSeason, RustPanics and BadTime are not NoRoom
-timed-so : (s p b : Bool) (t : List ℕ) → asked s (measure p b t) ≡ NoLength (nowhere NoRoom) → ⊥
+timed-so : (s p b : Bool) (t : List ℕ) → asked s (measure p b t) ≡ Err (nowhere NoRoom) → ⊥
 unfolding refusal pick
 timed-so true p b t e = other-kind (λ (z : ◌≡◌ {A = ℕ} 24 13). omega arith) e
 timed-so false true b t e = other-kind (λ (z : ◌≡◌ {A = ℕ} 9 13). omega arith) e
@@ -191,7 +188,7 @@ unfolding panics value_panics
 alone-panics d = refl
 
 -- where there is room nothing is refused
-has_done : (t l : List ℕ) {w : Written} → length t ≤ length l → w ≡ writing.answer false t (length l) → w ≡ Done (length t)
+has_done : (t l : List ℕ) {w : Result ℕ Refusal} → length t ≤ length l → w ≡ writing.answer false t (length l) → w ≡ Ok (length t)
 unfolding writing.answer writing.measured decided pick
 has_done t l h e = e ∙ rw (le-leb (length t) (length l) h)
 
@@ -206,7 +203,7 @@ has-stored t l h e =
     }
 
 -- the buffer m is lent on from a place, and comes back there as p with the answer w
-module _ (d : Datetime) (m p : List ℕ) (at : ℕ) {w : Written} {x : Date} (ex : x ≡ from_datetime d) (h : (has_season d ≡ false) × (end_panics d ≡ false) × (at + length (datetime_text d) ≤ length m))
+module _ (d : Datetime) (m p : List ℕ) (at : ℕ) {w : Result ℕ Refusal} {x : Date} (ex : x ≡ from_datetime d) (h : (has_season d ≡ false) × (end_panics d ≡ false) × (at + length (datetime_text d) ≤ length m))
     (ew : w ≡ date_answer x (date_text x) (length (take (length m - at) (drop at m))))
     (ep : p ≡ date_afterwards x (date_text x) (take (length m - at) (drop at m))) where
   abbrev part : List ℕ
@@ -216,20 +213,20 @@ module _ (d : Datetime) (m p : List ℕ) (at : ℕ) {w : Written} {x : Date} (ex
   no-season : any_season x.value ≡ false
   no-season = ap (λ (y : Date). any_season y.value) ex ∙ h.0
 
-  known : w ≡ Done (length (datetime_text d))
+  known : w ≡ Ok (length (datetime_text d))
   known = has_done (datetime_text d) part (lent-room (datetime_text d) m at h.2) (ew ∙ (else-as-before x (date_text x) no-season).1 (length part) ∙ rw (ex, alone d, alone-panics d, h.1))
 
   put : Put (datetime_text d) part 0 p (length (datetime_text d))
   put = has-stored (datetime_text d) part (lent-room (datetime_text d) m at h.2) (ep ∙ (else-as-before x (date_text x) no-season).2 part ∙ rw (ex, alone d, alone-panics d, h.1))
 
-  count : {n : ℕ} → w ≡ Done n → length (datetime_text d) ≡ n
+  count : {n : ℕ} → w ≡ Ok n → length (datetime_text d) ≡ n
   count e = let k = known in cc
 
-  pub end-put : {n : ℕ} → w ≡ Done n → Put (datetime_text d) m at (put_mid at (length m - at) m p) (at + n)
+  pub end-put : {n : ℕ} → w ≡ Ok n → Put (datetime_text d) m at (put_mid at (length m - at) m p) (at + n)
   end-put e = rw (sym (count e)) (lent (datetime_text d) m p at (length (datetime_text d)) h.2 put)
 
-  pub end-count : {n : ℕ} → w ≡ Done n → at + n ≤ length m
+  pub end-count : {n : ℕ} → w ≡ Ok n → at + n ≤ length m
   end-count e = omega (arith, count e, h.2)
 
-  pub never-refused : {e : Refusal} → w ≡ Refused e → ⊥
+  pub never-refused : {e : Refusal} → w ≡ Err e → ⊥
   never-refused e = false≢true (ap is_done (sym e ∙ known))

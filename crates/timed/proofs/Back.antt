@@ -14,8 +14,7 @@ use Rattle.chunks.proofs.Plains.{Plainly, plainly}
 use Rattle.dates.specs.declared.DateValue.{DateValue}
 use Rattle.dates.specs.declared.DateValue.TheVariants.{At, After, Before, Between}
 use Rattle.dates.specs.declared.Date.{Date}
-use Rattle.datefield.specs.declared.ReadValue.TheVariants.{Read}
-use Rattle.refusals.specs.declared.ReadDate.TheVariants.{Accepted}
+use Rattle.std.specs.Prelude.{Ok}
 use Rattle.datefield.specs.Value.{moved, on_half, value, marked}
 use Rattle.reading_laws.specs.Field.{parsed, strictly, parsed_strict}
 use Rattle.reading_laws.proofs.Entries.{parsed-clean, strict-clean}
@@ -49,7 +48,7 @@ module _ {s t : List ℕ} {u a : Bool} (k : ValueText s) (m : Mark t u a) where
   same_text c start end = sym ((plain-list start end).text c ∙ clear-text c false clear)
 
   -- the ported reader reads the value, and the mark
-  ported : {v : DateValue} (start end : ℕ) → value (file_span start end) s ≡ Read v → parsed (s ++ t) (one_chunk (s ++ t) start end) ≡ Accepted (record { value = v; uncertain = u; approximate = a })
+  ported : {v : DateValue} (start end : ℕ) → value (file_span start end) s ≡ Ok v → parsed (s ++ t) (one_chunk (s ++ t) start end) ≡ Ok (record { value = v; uncertain = u; approximate = a })
   unfolding chunks_of span_of last_end marked
   ported start end e =
       sym (parsed-clean (s ++ t) (one_chunk (s ++ t) start end) (plain-list start end).clean (same_text true start end))
@@ -65,7 +64,7 @@ value-text (Before a) w = before_text (point-text (end-derived a w))
 value-text (Between a b) w =
     subst ValueText (sym (append_assoc (end_text a) (47 ∷ []) (end_text b))) (between-text (point-text (end-derived a w.0)) (point-text (end-derived b w.1)))
 
-value_read : (span : FileSpan) (v : DateValue) → InTimed v → value span (value_text v) ≡ Read v
+value_read : (span : FileSpan) (v : DateValue) → InTimed v → value span (value_text v) ≡ Ok v
 unfolding value_text moved on_half
 value_read span (At a) w = let p = end-derived a w in rw (alone-value span (point-text p), point-read p)
 value_read span (After a) w = let p = end-derived a w in rw (after-value span (point-text p), point-read p)
@@ -80,11 +79,11 @@ module _ (d : Date) (w : InTimed d.value) where
   mark : Mark (mark_text d.uncertain d.approximate) d.uncertain d.approximate
   mark = mark-derived d.uncertain d.approximate
 
-  pub ported-back : (start end : ℕ) → parsed (timed_text d) (one_chunk (timed_text d) start end) ≡ Accepted d
+  pub ported-back : (start end : ℕ) → parsed (timed_text d) (one_chunk (timed_text d) start end) ≡ Ok d
   unfolding timed_text
   ported-back start end = ported (value-text d.value w) mark start end (value_read (file_span start end) d.value w)
 
-  pub strict-back : (start end : ℕ) → parsed_strict (timed_text d) (one_chunk (timed_text d) start end) ≡ Accepted d
+  pub strict-back : (start end : ℕ) → parsed_strict (timed_text d) (one_chunk (timed_text d) start end) ≡ Ok d
   unfolding timed_text strictly
   strict-back start end =
       let k = value-text d.value w in

@@ -5,17 +5,12 @@ use mathlib.Core.Logic.{◌↔◌}
 use lib.Dec.{leb}
 use borrow.Author.Tests.{lt-leb, leb-false}
 use Rattle.chars.proofs.Cases.{of_test}
-use Rattle.dates.specs.declared.OptionMonth.{OptionMonth}
-use Rattle.dates.specs.declared.OptionMonth.TheVariants.{NoMonth, SomeMonth}
-use Rattle.dates.specs.declared.OptionDay.{OptionDay}
-use Rattle.dates.specs.declared.OptionDay.TheVariants.{NoDay, SomeDay}
+use Rattle.dates.specs.declared.Day.{Day}
+use Rattle.dates.specs.declared.Month.{Month}
+use Rattle.std.specs.Prelude.{Option, Some, None}
 use Rattle.dates.specs.declared.TimeOffset.{TimeOffset}
 use Rattle.dates.specs.declared.TimeOffset.TheVariants.{Utc, Offset}
-use Rattle.dates.specs.declared.OptionOffset.{OptionOffset}
-use Rattle.dates.specs.declared.OptionOffset.TheVariants.{NoOffset, SomeOffset}
 use Rattle.dates.specs.declared.Time.{Time}
-use Rattle.dates.specs.declared.OptionTime.{OptionTime}
-use Rattle.dates.specs.declared.OptionTime.TheVariants.{NoTime, SomeTime}
 use Rattle.dates.specs.declared.Datetime.{Datetime}
 use Rattle.dates.specs.declared.DateValue.{DateValue}
 use Rattle.dates.specs.Time.{in_range}
@@ -59,7 +54,7 @@ unfolding clock_in
 not-zone t e = false-last (in_range t.hour t.minute t.second) e
 
 -- a time with a cause is bad
-bad : {mo : OptionMonth} {da : OptionDay} {ti : OptionTime} → TimeFault mo da ti → bad_time (day_beside_month mo da) ti ≡ true
+bad : {mo : Option Month} {da : Option Day} {ti : Option Time} → TimeFault mo da ti → bad_time (day_beside_month mo da) ti ≡ true
 unfolding bad_time day_beside_month zone_in offset_in
 bad no_month = refl
 bad no_day = refl
@@ -74,18 +69,18 @@ not-not true e = absurd (false≢true e)
 not-not false e = refl
 
 -- and a bad time has one
-module _ {mo : OptionMonth} {da : OptionDay} (t : Time) where
-  zone-cause : (o : OptionOffset) → t.offset ≡ o → zone_in o ≡ false → TimeFault mo da (SomeTime t)
+module _ {mo : Option Month} {da : Option Day} (t : Time) where
+  zone-cause : (o : Option TimeOffset) → t.offset ≡ o → zone_in o ≡ false → TimeFault mo da (Some t)
   unfolding zone_in offset_in
-  zone-cause NoOffset e f = absurd (false≢true (sym f))
-  zone-cause (SomeOffset o) e f = go o e f
+  zone-cause None e f = absurd (false≢true (sym f))
+  zone-cause (Some o) e f = go o e f
     where
-      go : (o : TimeOffset) → t.offset ≡ SomeOffset o → offset_in o ≡ false → TimeFault mo da (SomeTime t)
+      go : (o : TimeOffset) → t.offset ≡ Some o → offset_in o ≡ false → TimeFault mo da (Some t)
       go Utc e f = absurd (false≢true (sym f))
       go (Offset p h m) e f =
           of_test (leb h 23) (λ q. offset_minutes e (leb-false m 59 (rw q at f))) (λ q. offset_hours e (leb-false h 23 q))
 
-  clock-cause : clock_in t ≡ false → TimeFault mo da (SomeTime t)
+  clock-cause : clock_in t ≡ false → TimeFault mo da (Some t)
   unfolding clock_in in_range
   clock-cause e =
       of_test (leb t.hour 23)
@@ -95,12 +90,12 @@ module _ {mo : OptionMonth} {da : OptionDay} (t : Time) where
       (λ q. minute_above (leb-false t.minute 59 q)))
       (λ p. hour_above (leb-false t.hour 23 p))
 
-cause : (mo : OptionMonth) (da : OptionDay) (ti : OptionTime) → bad_time (day_beside_month mo da) ti ≡ true → TimeFault mo da ti
+cause : (mo : Option Month) (da : Option Day) (ti : Option Time) → bad_time (day_beside_month mo da) ti ≡ true → TimeFault mo da ti
 unfolding bad_time day_beside_month
-cause mo da NoTime e = absurd (false≢true e)
-cause NoMonth da (SomeTime t) e = no_month
-cause (SomeMonth m) NoDay (SomeTime t) e = no_day
-cause (SomeMonth m) (SomeDay d) (SomeTime t) e = clock-cause t (not-not (clock_in t) e)
+cause mo da None e = absurd (false≢true e)
+cause None da (Some t) e = no_month
+cause (Some m) None (Some t) e = no_day
+cause (Some m) (Some d) (Some t) e = clock-cause t (not-not (clock_in t) e)
 
 end-bad : (d : Datetime) → (has_bad_time d ≡ true) ↔ EndFault d
 unfolding has_bad_time

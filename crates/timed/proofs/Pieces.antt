@@ -9,11 +9,8 @@ use lib.ListN.{length, length-append}
 use Rattle.chars.specs.Ascii.{ascii}
 use Rattle.dates.specs.declared.TimeOffset.{TimeOffset}
 use Rattle.dates.specs.declared.TimeOffset.TheVariants.{Utc, Offset}
-use Rattle.dates.specs.declared.OptionOffset.{OptionOffset}
-use Rattle.dates.specs.declared.OptionOffset.TheVariants.{NoOffset, SomeOffset}
+use Rattle.std.specs.Prelude.{Option, Some, None}
 use Rattle.dates.specs.declared.Time.{Time}
-use Rattle.dates.specs.declared.OptionTime.{OptionTime}
-use Rattle.dates.specs.declared.OptionTime.TheVariants.{NoTime, SomeTime}
 use Rattle.dates.specs.declared.Datetime.{Datetime}
 use Rattle.dates.specs.declared.DateValue.{DateValue}
 use Rattle.dates.specs.declared.DateValue.TheVariants.{At, After, Before, Between}
@@ -29,7 +26,7 @@ unfolding clock_text field
 clock-length t = omega arith
 
 -- of a time that is there
-pub some-length : {t : OptionTime} (u : Time) {n : ℕ} → t ≡ SomeTime u → n ≡ length (zone_text u.offset) → 9 + n ≡ length (time_text t)
+pub some-length : {t : Option Time} (u : Time) {n : ℕ} → t ≡ Some u → n ≡ length (zone_text u.offset) → 9 + n ≡ length (time_text t)
 unfolding time_text
 some-length u e f = rw (e, f) (sym (clock-length u))
 
@@ -38,19 +35,19 @@ pub shift-text : {o : TimeOffset} (p : Bool) (h m : ℕ) {r : ℕ} → o ≡ Off
 unfolding offset_text
 shift-text p h m e f = rw (e, f)
 
-zone-most : (o : OptionOffset) → length (zone_text o) ≤ 6
+zone-most : (o : Option TimeOffset) → length (zone_text o) ≤ 6
 unfolding zone_text offset_text field
-zone-most NoOffset = omega arith
-zone-most (SomeOffset o) = go o
+zone-most None = omega arith
+zone-most (Some o) = go o
   where
     go : (o : TimeOffset) → length (offset_text o) ≤ 6
     go Utc = omega arith
     go (Offset p h m) = omega arith
 
-time-most : (t : OptionTime) → length (time_text t) ≤ 15
+time-most : (t : Option Time) → length (time_text t) ≤ 15
 unfolding time_text
-time-most NoTime = omega arith
-time-most (SomeTime t) = omega (arith, clock-length t, zone-most t.offset)
+time-most None = omega arith
+time-most (Some t) = omega (arith, clock-length t, zone-most t.offset)
 
 times-most : (v : DateValue) → length (times_text v) ≤ 30
 unfolding times_text

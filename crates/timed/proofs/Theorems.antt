@@ -13,14 +13,12 @@ use Rattle.chars.specs.Pick.{pick}
 use Rattle.chars.proofs.Cases.{of_test}
 use Rattle.refusals.specs.declared.Kind.TheVariants.{RustPanics, NoRoom, BadTime, HasSeason}
 use Rattle.refusals.specs.Refusal.{number, refusal, nowhere}
-use Rattle.dates.specs.declared.OptionMonth.{OptionMonth}
-use Rattle.dates.specs.declared.OptionDay.{OptionDay}
-use Rattle.dates.specs.declared.OptionDay.TheVariants.{NoDay, SomeDay}
+use Rattle.dates.specs.declared.Day.{Day}
+use Rattle.dates.specs.declared.Month.{Month}
+use Rattle.refusals.specs.declared.Refusal.{Refusal}
+use Rattle.std.specs.Prelude.{Option, Some, None, Result, Ok, Err}
 use Rattle.dates.specs.declared.TimeOffset.TheVariants.{Offset}
-use Rattle.dates.specs.declared.OptionOffset.TheVariants.{SomeOffset}
 use Rattle.dates.specs.declared.Time.{Time}
-use Rattle.dates.specs.declared.OptionTime.{OptionTime}
-use Rattle.dates.specs.declared.OptionTime.TheVariants.{NoTime, SomeTime}
 use Rattle.dates.specs.declared.Datetime.{Datetime}
 use Rattle.dates.specs.declared.DateValue.{DateValue}
 use Rattle.dates.specs.declared.DateValue.TheVariants.{At, After, Before, Between}
@@ -29,14 +27,9 @@ use Rattle.dates.specs.Domain.{PartsIn}
 use Rattle.dates.specs.Time.{time, in_range}
 use Rattle.dates.specs.Value.{month, day, datetime, is_season, has_season, any_season, date}
 use Rattle.dates.proofs.Ends.{no_end}
-use Rattle.refusals.specs.declared.ReadDate.TheVariants.{Accepted}
 use Rattle.reading_laws.specs.Field.{parsed, parsed_strict}
 use Rattle.roundtrip_laws.specs.Domain.{Untimed}
 use Rattle.roundtrip_laws.proofs.Stored.{calendar-written}
-use Rattle.puts.specs.declared.Measured.{Measured}
-use Rattle.puts.specs.declared.Measured.TheVariants.{Length, NoLength}
-use Rattle.puts.specs.declared.Written.{Written}
-use Rattle.puts.specs.declared.Written.TheVariants.{Done, Refused}
 use Rattle.puts.specs.Answers.{decided, left}
 use Rattle.puts.specs.Answers as writing
 use Rattle.writer.specs.Answers.{date_measured, date_answer, date_afterwards}
@@ -61,18 +54,18 @@ use Rattle.timed.proofs.Back as back
 
 -- The text of a Date of the domain, as one Normal chunk anywhere in a file, read by the ported reader, gives the same Date, its kind and its
 -- marks included,
-pub timed-back : (d : Date) → InTimed d.value → (start end : ℕ) → parsed (timed_text d) (one_chunk (timed_text d) start end) ≡ Accepted d
+pub timed-back : (d : Date) → InTimed d.value → (start end : ℕ) → parsed (timed_text d) (one_chunk (timed_text d) start end) ≡ Ok d
 timed-back d w start end = back.ported-back d w start end
 
 -- and so does the strict reader
-pub timed-strict-back : (d : Date) → InTimed d.value → (start end : ℕ) → parsed_strict (timed_text d) (one_chunk (timed_text d) start end) ≡ Accepted d
+pub timed-strict-back : (d : Date) → InTimed d.value → (start end : ℕ) → parsed_strict (timed_text d) (one_chunk (timed_text d) start end) ≡ Ok d
 timed-strict-back d w start end = back.strict-back d w start end
 
 -- ---- a Date with no time
 
-end-untimed : (d : Datetime) → d.time ≡ NoTime → end_text d ≡ datetime_text d
+end-untimed : (d : Datetime) → d.time ≡ None → end_text d ≡ datetime_text d
 unfolding end_text time_text
-end-untimed d e = ap (λ (t : OptionTime). datetime_text d ++ time_text t) e ∙ append-nil (datetime_text d)
+end-untimed d e = ap (λ (t : Option Time). datetime_text d ++ time_text t) e ∙ append-nil (datetime_text d)
 
 value-untimed : (v : DateValue) → Untimed v → value_text v ≡ untimed.value_text v
 unfolding value_text untimed.value_text
@@ -81,7 +74,7 @@ value-untimed (After a) w = rw (end-untimed a w)
 value-untimed (Before a) w = rw (end-untimed a w)
 value-untimed (Between a b) w = rw (end-untimed a w.0, end-untimed b w.1)
 
-end-good : (d : Datetime) → d.time ≡ NoTime → has_bad_time d ≡ false
+end-good : (d : Datetime) → d.time ≡ None → has_bad_time d ≡ false
 unfolding has_bad_time bad_time
 end-good d e = ap (bad_time (day_beside_month d.month d.day)) e
 
@@ -121,7 +114,7 @@ most d s = timed-most d (text-most d s)
 
 -- -2147483648-255-255T23:59:59+23:59, the longest end
 abbrev longest : Datetime
-longest = datetime (negsuc 2147483647) (month 254) (day 254) (SomeTime (time 23 59 59 (SomeOffset (Offset true 23 59))))
+longest = datetime (negsuc 2147483647) (month 254) (day 254) (Some (time 23 59 59 (Some (Offset true 23 59))))
 
 -- from it to it, uncertain and approximate
 abbrev pub widest : Date
@@ -134,7 +127,7 @@ pub widest-stored : Ends widest.value
 widest-stored = (longest-stored, longest-stored)
 
 -- and one that is written reaches them
-pub reached : (length (timed_text widest) ≡ 70) × (timed_answer widest 70 ≡ Done 70)
+pub reached : (length (timed_text widest) ≡ 70) × (timed_answer widest 70 ≡ Ok 70)
 unfolding timed_answer timed_measured plain_measured decided value_bad has_bad_time bad_time day_beside_month clock_in zone_in offset_in in_range timed_text value_text end_text time_text clock_text zone_text offset_text sign field datetime_text year_text minus decimal width digit_count count parts_of month_parts day_parts written_month written_day parts_text hyphen_part part_text mark_text panics value_panics end_panics too_large pick
 reached = (refl, refl)
 
@@ -149,23 +142,23 @@ pub in_order : (d : Date) (room : ℕ) → timed_answer d room ≡ shown (any_se
 unfolding timed_answer timed_measured plain_measured decided pick
 in_order d room = go (any_season d.value) (panics d) (value_bad d.value)
   where
-    go : (s p b : Bool) → decided (pick s (NoLength (nowhere HasSeason)) (pick p (NoLength (nowhere RustPanics)) (pick b (NoLength (nowhere BadTime)) (Length (length (timed_text d)))))) room ≡ shown s p b (leb (length (timed_text d)) room) (length (timed_text d))
+    go : (s p b : Bool) → decided (pick s (Err (nowhere HasSeason)) (pick p (Err (nowhere RustPanics)) (pick b (Err (nowhere BadTime)) (Ok (length (timed_text d)))))) room ≡ shown s p b (leb (length (timed_text d)) room) (length (timed_text d))
     go true p b = refl
     go false true b = refl
     go false false true = refl
     go false false false = refl
 
 -- the number of a refusal; 0 if it is none
-abbrev numbered : Written → ℕ
-numbered (Done n) = 0
-numbered (Refused e) = number e.kind
+abbrev numbered : Result ℕ Refusal → ℕ
+numbered (Ok n) = 0
+numbered (Err e) = number e.kind
 
-other : {x y : Written} → (numbered x ≡ numbered y → ⊥) → x ≡ y → ⊥
+other : {x y : Result ℕ Refusal} → (numbered x ≡ numbered y → ⊥) → x ≡ y → ⊥
 other f e = f (ap numbered e)
 
 -- which tests lead to which answer
 module _ (n : ℕ) where
-  season-only : (s p b f : Bool) → shown s p b f n ≡ Refused (nowhere HasSeason) → s ≡ true
+  season-only : (s p b f : Bool) → shown s p b f n ≡ Err (nowhere HasSeason) → s ≡ true
   unfolding refusal pick
   season-only true p b f e = refl
   season-only false true b f e = absurd (other (λ (z : ◌≡◌ {A = ℕ} 9 24). omega arith) e)
@@ -173,7 +166,7 @@ module _ (n : ℕ) where
   season-only false false false true e = absurd (other (λ (z : ◌≡◌ {A = ℕ} 0 24). omega arith) e)
   season-only false false false false e = absurd (other (λ (z : ◌≡◌ {A = ℕ} 13 24). omega arith) e)
 
-  panics-only : (s p b f : Bool) → shown s p b f n ≡ Refused (nowhere RustPanics) → (s ≡ false) × (p ≡ true)
+  panics-only : (s p b f : Bool) → shown s p b f n ≡ Err (nowhere RustPanics) → (s ≡ false) × (p ≡ true)
   unfolding refusal pick
   panics-only true p b f e = absurd (other (λ (z : ◌≡◌ {A = ℕ} 24 9). omega arith) e)
   panics-only false true b f e = (refl, refl)
@@ -181,7 +174,7 @@ module _ (n : ℕ) where
   panics-only false false false true e = absurd (other (λ (z : ◌≡◌ {A = ℕ} 0 9). omega arith) e)
   panics-only false false false false e = absurd (other (λ (z : ◌≡◌ {A = ℕ} 13 9). omega arith) e)
 
-  bad-only : (s p b f : Bool) → shown s p b f n ≡ Refused (nowhere BadTime) → (s ≡ false) × (p ≡ false) × (b ≡ true)
+  bad-only : (s p b f : Bool) → shown s p b f n ≡ Err (nowhere BadTime) → (s ≡ false) × (p ≡ false) × (b ≡ true)
   unfolding refusal pick
   bad-only true p b f e = absurd (other (λ (z : ◌≡◌ {A = ℕ} 24 22). omega arith) e)
   bad-only false true b f e = absurd (other (λ (z : ◌≡◌ {A = ℕ} 9 22). omega arith) e)
@@ -189,7 +182,7 @@ module _ (n : ℕ) where
   bad-only false false false true e = absurd (other (λ (z : ◌≡◌ {A = ℕ} 0 22). omega arith) e)
   bad-only false false false false e = absurd (other (λ (z : ◌≡◌ {A = ℕ} 13 22). omega arith) e)
 
-  room-only : (s p b f : Bool) → shown s p b f n ≡ Refused (nowhere NoRoom) → (s ≡ false) × (p ≡ false) × (b ≡ false) × (f ≡ false)
+  room-only : (s p b f : Bool) → shown s p b f n ≡ Err (nowhere NoRoom) → (s ≡ false) × (p ≡ false) × (b ≡ false) × (f ≡ false)
   unfolding refusal pick
   room-only true p b f e = absurd (other (λ (z : ◌≡◌ {A = ℕ} 24 13). omega arith) e)
   room-only false true b f e = absurd (other (λ (z : ◌≡◌ {A = ℕ} 9 13). omega arith) e)
@@ -197,7 +190,7 @@ module _ (n : ℕ) where
   room-only false false false true e = absurd (other (λ (z : ◌≡◌ {A = ℕ} 0 13). omega arith) e)
   room-only false false false false e = (refl, refl, refl, refl)
 
-  done-only : (s p b f : Bool) → shown s p b f n ≡ Done n → (s ≡ false) × (p ≡ false) × (b ≡ false) × (f ≡ true)
+  done-only : (s p b f : Bool) → shown s p b f n ≡ Ok n → (s ≡ false) × (p ≡ false) × (b ≡ false) × (f ≡ true)
   unfolding refusal pick
   done-only true p b f e = absurd (other (λ (z : ◌≡◌ {A = ℕ} 24 0). omega arith) e)
   done-only false true b f e = absurd (other (λ (z : ◌≡◌ {A = ℕ} 9 0). omega arith) e)
@@ -221,14 +214,14 @@ module _ (d : Date) (room : ℕ) where
   told s e = in_order d room ∙ ap (λ (x : Bool). shown x (panics d) (value_bad d.value) (leb n room) n) e
 
   -- HasSeason is answered exactly if one of the ends has a season,
-  pub season-exactly : (timed_answer d room ≡ Refused (nowhere HasSeason)) ↔ (any_season d.value ≡ true)
+  pub season-exactly : (timed_answer d room ≡ Err (nowhere HasSeason)) ↔ (any_season d.value ≡ true)
   season-exactly = (
     λ e. season-only n (any_season d.value) (panics d) (value_bad d.value) (leb n room) (sym (in_order d room) ∙ e),
     λ e. (seasoned d e).1 room,
   )
 
   -- RustPanics exactly if none has and one of them panics,
-  pub panics-exactly : (timed_answer d room ≡ Refused (nowhere RustPanics)) ↔ ((any_season d.value ≡ false) × (panics d ≡ true))
+  pub panics-exactly : (timed_answer d room ≡ Err (nowhere RustPanics)) ↔ ((any_season d.value ≡ false) × (panics d ≡ true))
   unfolding pick
   panics-exactly = (
     λ e. panics-only n (any_season d.value) (panics d) (value_bad d.value) (leb n room) (sym (in_order d room) ∙ e),
@@ -236,7 +229,7 @@ module _ (d : Date) (room : ℕ) where
   )
 
   -- BadTime exactly if none has or does and one of the ends has a bad time,
-  pub bad-exactly : (timed_answer d room ≡ Refused (nowhere BadTime)) ↔ ((any_season d.value ≡ false) × (panics d ≡ false) × FaultIn d.value)
+  pub bad-exactly : (timed_answer d room ≡ Err (nowhere BadTime)) ↔ ((any_season d.value ≡ false) × (panics d ≡ false) × FaultIn d.value)
   unfolding pick
   bad-exactly = (
     λ e. let q = bad-only n (any_season d.value) (panics d) (value_bad d.value) (leb n room) (sym (in_order d room) ∙ e) in (q.0, q.1, (value-bad d.value).0 q.2),
@@ -244,7 +237,7 @@ module _ (d : Date) (room : ℕ) where
   )
 
   -- NoRoom exactly if no end has a season, panics or has a bad time, and the buffer is shorter than the text,
-  pub no-room-exactly : (timed_answer d room ≡ Refused (nowhere NoRoom)) ↔ ((any_season d.value ≡ false) × (panics d ≡ false) × (FaultIn d.value → ⊥) × (room < length (timed_text d)))
+  pub no-room-exactly : (timed_answer d room ≡ Err (nowhere NoRoom)) ↔ ((any_season d.value ≡ false) × (panics d ≡ false) × (FaultIn d.value → ⊥) × (room < length (timed_text d)))
   unfolding pick
   no-room-exactly = (
     λ e. let q = room-only n (any_season d.value) (panics d) (value_bad d.value) (leb n room) (sym (in_order d room) ∙ e) in (q.0, q.1, no-fault d.value q.2, leb-false n room q.3),
@@ -252,7 +245,7 @@ module _ (d : Date) (room : ℕ) where
   )
 
   -- and the text is written exactly if it is not
-  pub written-exactly : (timed_answer d room ≡ Done (length (timed_text d))) ↔ ((any_season d.value ≡ false) × (panics d ≡ false) × (FaultIn d.value → ⊥) × (length (timed_text d) ≤ room))
+  pub written-exactly : (timed_answer d room ≡ Ok (length (timed_text d))) ↔ ((any_season d.value ≡ false) × (panics d ≡ false) × (FaultIn d.value → ⊥) × (length (timed_text d) ≤ room))
   unfolding pick
   written-exactly = (
     λ e. let q = done-only n (any_season d.value) (panics d) (value_bad d.value) (leb n room) (sym (in_order d room) ∙ e) in (q.0, q.1, no-fault d.value q.2, leb-true n room q.3),
@@ -260,9 +253,9 @@ module _ (d : Date) (room : ℕ) where
   )
 
 -- and so it is with the length
-pub season-measured : (d : Date) → (timed_measured d ≡ NoLength (nowhere HasSeason)) ↔ (any_season d.value ≡ true)
+pub season-measured : (d : Date) → (timed_measured d ≡ Err (nowhere HasSeason)) ↔ (any_season d.value ≡ true)
 unfolding timed_answer decided
-season-measured d = (λ e. (season-exactly d 0).0 (ap (λ (m : Measured). decided m 0) e), λ q. (seasoned d q).0)
+season-measured d = (λ e. (season-exactly d 0).0 (ap (λ (m : Result ℕ Refusal). decided m 0) e), λ q. (seasoned d q).0)
 
 -- ---- no Date of the domain is refused
 
@@ -283,13 +276,13 @@ value-plain : (v : DateValue) → InTimed v → any_season v ≡ false
 value-plain v w = no_end end-plain v w
 
 -- nor has a bad time
-in-clock : (d : OptionDay) {t : Time} → TimeIn d (SomeTime t) → ClockIn t
-in-clock NoDay w = absurd w
-in-clock (SomeDay d) w = w
+in-clock : (d : Option Day) {t : Time} → TimeIn d (Some t) → ClockIn t
+in-clock None w = absurd w
+in-clock (Some d) w = w
 
-parts-sound : (y : ℤ) (m : OptionMonth) (d : OptionDay) {t : OptionTime} → PartsIn y m d → TimeIn d t → TimeFault m d t → ⊥
-parts-sound y m NoDay w k (no_month) = k
-parts-sound y m (SomeDay d) w k (no_month) = w
+parts-sound : (y : ℤ) (m : Option Month) (d : Option Day) {t : Option Time} → PartsIn y m d → TimeIn d t → TimeFault m d t → ⊥
+parts-sound y m None w k (no_month) = k
+parts-sound y m (Some d) w k (no_month) = w
 parts-sound y m d w k (no_day) = k
 parts-sound y m d w k (hour_above h) = omega (arith, (in-clock d k).hour_in)
 parts-sound y m d w k (minute_above h) = omega (arith, (in-clock d k).minute_in)
@@ -308,6 +301,6 @@ value-sound (Between a b) w (inl f) = end-sound a w.0 f
 value-sound (Between a b) w (inr f) = end-sound b w.1 f
 
 -- so where there is room its text is written
-pub accepted : (d : Date) → InTimed d.value → (room : ℕ) → length (timed_text d) ≤ room → timed_answer d room ≡ Done (length (timed_text d))
+pub accepted : (d : Date) → InTimed d.value → (room : ℕ) → length (timed_text d) ≤ room → timed_answer d room ≡ Ok (length (timed_text d))
 unfolding panics
 accepted d w room h = (written-exactly d room).1 (value-plain d.value w, value-known d.value w, value-sound d.value w, h)

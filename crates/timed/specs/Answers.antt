@@ -1,5 +1,5 @@
 -- Which times are not written, what the writer answers, and what it leaves in the lent buffer.
-use Rattle.std.specs.Prelude.{ℕ, Bool, List, length}
+use Rattle.std.specs.Prelude.{ℕ, Bool, List, length, Result, Ok, Err}
 use Rattle.chars.specs.Pick.{pick}
 use Rattle.refusals.specs.declared.Kind.TheVariants.{RustPanics, NoRoom, BadTime, HasSeason}
 use Rattle.dates.specs.declared.DateValue.{DateValue}
@@ -7,10 +7,7 @@ use Rattle.dates.specs.declared.Date.{Date}
 use Rattle.dates.specs.Ends.{any_end}
 use Rattle.dates.specs.Value.{any_season}
 use Rattle.dates.specs.Clocks.{has_bad_time}
-use Rattle.puts.specs.declared.Measured.{Measured}
-use Rattle.puts.specs.declared.Measured.TheVariants.{Length, NoLength}
-use Rattle.puts.specs.declared.Written.{Written}
-use Rattle.puts.specs.declared.Written.TheVariants.{Done, Refused}
+use Rattle.refusals.specs.declared.Refusal.{Refusal}
 use Rattle.puts.specs.Answers.{decided, left}
 use Rattle.refusals.specs.Refusal.{nowhere}
 use Rattle.writer.specs.Texts.{panics}
@@ -21,15 +18,15 @@ unfoldable pub value_bad : DateValue → Bool
 value_bad v = any_end has_bad_time v
 
 -- the length of the text of a date without seasons; RustPanics of either end comes before BadTime of either
-unfoldable pub plain_measured : Date → Measured
-plain_measured d = pick (panics d) (NoLength (nowhere RustPanics)) (pick (value_bad d.value) (NoLength (nowhere BadTime)) (Length (length (timed_text d))))
+unfoldable pub plain_measured : Date → Result ℕ Refusal
+plain_measured d = pick (panics d) (Err (nowhere RustPanics)) (pick (value_bad d.value) (Err (nowhere BadTime)) (Ok (length (timed_text d))))
 
 -- the length of a date's text: HasSeason if an end has a season, before all else
-unfoldable pub timed_measured : Date → Measured
-timed_measured d = pick (any_season d.value) (NoLength (nowhere HasSeason)) (plain_measured d)
+unfoldable pub timed_measured : Date → Result ℕ Refusal
+timed_measured d = pick (any_season d.value) (Err (nowhere HasSeason)) (plain_measured d)
 
 -- the answer with so much room: NoRoom comes last
-unfoldable pub timed_answer : Date → ℕ → Written
+unfoldable pub timed_answer : Date → ℕ → Result ℕ Refusal
 timed_answer d room = decided (timed_measured d) room
 
 -- the buffer afterwards
@@ -37,5 +34,5 @@ unfoldable pub timed_afterwards : Date → List ℕ → List ℕ
 timed_afterwards d out = left (timed_answer d (length out)) (timed_text d) out
 
 -- the answer by its four tests: HasSeason comes first, then RustPanics, then BadTime, then NoRoom
-abbrev pub shown : Bool → Bool → Bool → Bool → ℕ → Written
-shown season panic bad fits n = pick season (Refused (nowhere HasSeason)) (pick panic (Refused (nowhere RustPanics)) (pick bad (Refused (nowhere BadTime)) (pick fits (Done n) (Refused (nowhere NoRoom)))))
+abbrev pub shown : Bool → Bool → Bool → Bool → ℕ → Result ℕ Refusal
+shown season panic bad fits n = pick season (Err (nowhere HasSeason)) (pick panic (Err (nowhere RustPanics)) (pick bad (Err (nowhere BadTime)) (pick fits (Ok n) (Err (nowhere NoRoom)))))

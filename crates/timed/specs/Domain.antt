@@ -1,15 +1,9 @@
 -- The Dates whose text with times is read back: those of the calendar with four-digit years, and times beside days.
-use Rattle.std.specs.Prelude.{◌≤◌, ◌<◌, ◌≡◌, nat_abs}
-use Rattle.dates.specs.declared.OptionDay.{OptionDay}
-use Rattle.dates.specs.declared.OptionDay.TheVariants.{NoDay, SomeDay}
+use Rattle.std.specs.Prelude.{◌≤◌, ◌<◌, ◌≡◌, nat_abs, Option, Some, None}
+use Rattle.dates.specs.declared.Day.{Day}
 use Rattle.dates.specs.declared.TimeOffset.{TimeOffset}
 use Rattle.dates.specs.declared.TimeOffset.TheVariants.{Utc, Offset}
-use Rattle.dates.specs.declared.OptionOffset.{OptionOffset}
-use Rattle.dates.specs.declared.OptionOffset.TheVariants.{NoOffset, SomeOffset}
 use Rattle.dates.specs.declared.Time.{Time}
-use Rattle.dates.specs.declared.OptionTime.{OptionTime}
-use Rattle.dates.specs.declared.OptionTime.TheVariants.{NoTime, SomeTime}
-use Rattle.dates.specs.declared.OptionSeason.TheVariants.{NoSeason}
 use Rattle.dates.specs.declared.Datetime.{Datetime}
 use Rattle.dates.specs.declared.DateValue.{DateValue}
 use Rattle.dates.specs.Domain.{PartsIn}
@@ -21,9 +15,9 @@ OffsetIn Utc = Unit {0}
 OffsetIn (Offset positive h m) = (h ≤ 23) × (m ≤ 59)
 
 -- an offset, if there is one
-abbrev pub ZoneIn : OptionOffset → Type 0
-ZoneIn NoOffset = Unit {0}
-ZoneIn (SomeOffset o) = OffsetIn o
+abbrev pub ZoneIn : Option TimeOffset → Type 0
+ZoneIn None = Unit {0}
+ZoneIn (Some o) = OffsetIn o
 
 -- a time that a clock shows
 pub record ClockIn (t : Time) : Type 0 where
@@ -37,10 +31,10 @@ pub record ClockIn (t : Time) : Type 0 where
   pub zone_in : ZoneIn t.offset
 
 -- a time stands beside a day
-abbrev pub TimeIn : OptionDay → OptionTime → Type 0
-TimeIn d NoTime = Unit {0}
-TimeIn NoDay (SomeTime t) = ⊥
-TimeIn (SomeDay d) (SomeTime t) = ClockIn t
+abbrev pub TimeIn : Option Day → Option Time → Type 0
+TimeIn d None = Unit {0}
+TimeIn None (Some t) = ⊥
+TimeIn (Some d) (Some t) = ClockIn t
 
 -- one end of a Date, or its only one
 pub record TimedIn (d : Datetime) : Type 0 where
@@ -51,7 +45,7 @@ pub record TimedIn (d : Datetime) : Type 0 where
   -- a time that a clock shows, beside the day
   pub time_in : TimeIn d.day d.time
   -- a season is not written
-  pub unseasoned : d.season ≡ NoSeason
+  pub unseasoned : d.season ≡ None
 
 -- every end of a Date
 abbrev pub InTimed : DateValue → Type 0

@@ -1,14 +1,10 @@
 -- The text of a date with its times.
-use Rattle.std.specs.Prelude.{ℕ, Bool, true, false, List, [], ◌∷◌, ◌++◌}
+use Rattle.std.specs.Prelude.{ℕ, Bool, true, false, List, [], ◌∷◌, ◌++◌, Option, Some, None}
 use Prim.Native.Char.{code}
 use Rattle.chars.specs.Ascii.{ascii}
 use Rattle.dates.specs.declared.TimeOffset.{TimeOffset}
 use Rattle.dates.specs.declared.TimeOffset.TheVariants.{Utc, Offset}
-use Rattle.dates.specs.declared.OptionOffset.{OptionOffset}
-use Rattle.dates.specs.declared.OptionOffset.TheVariants.{NoOffset, SomeOffset}
 use Rattle.dates.specs.declared.Time.{Time}
-use Rattle.dates.specs.declared.OptionTime.{OptionTime}
-use Rattle.dates.specs.declared.OptionTime.TheVariants.{NoTime, SomeTime}
 use Rattle.dates.specs.declared.Datetime.{Datetime}
 use Rattle.dates.specs.declared.DateValue.{DateValue}
 use Rattle.dates.specs.declared.DateValue.TheVariants.{At, After, Before, Between}
@@ -33,18 +29,18 @@ offset_text Utc = ascii "Z"
 offset_text (Offset positive h m) = field (sign positive) h ++ field (code ":") m
 
 -- an offset, if there is one
-unfoldable pub zone_text : OptionOffset → List ℕ
-zone_text NoOffset = []
-zone_text (SomeOffset o) = offset_text o
+unfoldable pub zone_text : Option TimeOffset → List ℕ
+zone_text None = []
+zone_text (Some o) = offset_text o
 
 -- Thh:mm:ss, then the offset
 unfoldable pub clock_text : Time → List ℕ
 clock_text t = field (code "T") t.hour ++ field (code ":") t.minute ++ field (code ":") t.second ++ zone_text t.offset
 
 -- a time, if there is one
-unfoldable pub time_text : OptionTime → List ℕ
-time_text NoTime = []
-time_text (SomeTime t) = clock_text t
+unfoldable pub time_text : Option Time → List ℕ
+time_text None = []
+time_text (Some t) = clock_text t
 
 -- one end: what the writer of dates writes, then the time
 unfoldable pub end_text : Datetime → List ℕ

@@ -9,9 +9,9 @@ ghost use Rattle.writer.specs.Texts as text;
 ghost use Rattle.timed.specs.Texts as timed;
 ghost use Rattle.timed.specs.Answers as spec;
 
-use dates::{Date, DateValue, Datetime, OptionOffset, OptionTime, Time, TimeOffset, has_bad_time};
-use puts::{Measured, Written, decide, put_bytes, put_mark};
-use refusals::{Kind, nowhere};
+use dates::{Date, DateValue, Datetime, Time, TimeOffset, has_bad_time};
+use puts::{decide, put_bytes, put_mark};
+use refusals::{Kind, Refusal, nowhere};
 use writer::{date_length, write_text};
 
 // ---- which times are written
@@ -36,29 +36,32 @@ fn value_bad(v: DateValue) -> bool
 // ---- lengths
 
 // How long an offset's text is.
-fn zone_length(o: OptionOffset) -> usize
+#[tactic(auto, unfolding(crate::specs::Texts::zone_text, crate::specs::Texts::offset_text, crate::specs::Texts::field))]
+fn zone_length(o: Option<TimeOffset>) -> usize
     ensures { (result ≡ length (timed.zone_text o)) × (result < 7) }
 {
     match o {
-        OptionOffset::NoOffset => 0,
-        OptionOffset::SomeOffset(o) => match o {
-            TimeOffset::Utc => 1,
-            TimeOffset::Offset {
-                positive: _,
-                hours: _,
-                minutes: _,
-            } => 6,
-        },
+        None => 0,
+        Some(o) => {
+            match o {
+                TimeOffset::Utc => 1,
+                TimeOffset::Offset {
+                    positive: _,
+                    hours: _,
+                    minutes: _,
+                } => 6,
+            }
+        }
     }
 }
 
 // How long a time's text is.
-fn time_length(t: OptionTime) -> usize
+fn time_length(t: Option<Time>) -> usize
     ensures { (result ≡ length (timed.time_text t)) × (result < 16) }
 {
     match t {
-        OptionTime::NoTime => 0,
-        OptionTime::SomeTime(t) => {
+        None => 0,
+        Some(t) => {
             let offset = t.offset;
             9 + zone_length(offset)
         }
@@ -137,13 +140,14 @@ fn put_offset(o: TimeOffset, out: &mut [u8], at: usize) -> usize
 }
 
 // The same, if there is one.
-fn put_zone(o: OptionOffset, out: &mut [u8], at: usize) -> usize
+#[tactic(auto, unfolding(crate::specs::Texts::zone_text))]
+fn put_zone(o: Option<TimeOffset>, out: &mut [u8], at: usize) -> usize
     requires { at + length (timed.zone_text o) ≤ length out.old }
     ensures { Put (timed.zone_text o) out.old at out.new result }
 {
     match o {
-        OptionOffset::NoOffset => at,
-        OptionOffset::SomeOffset(o) => put_offset(o, out, at),
+        None => at,
+        Some(o) => put_offset(o, out, at),
     }
 }
 
@@ -160,13 +164,14 @@ fn put_clock(t: Time, out: &mut [u8], at: usize) -> usize
 }
 
 // The same, if there is one.
-fn put_time(t: OptionTime, out: &mut [u8], at: usize) -> usize
+#[tactic(auto, unfolding(crate::specs::Texts::time_text))]
+fn put_time(t: Option<Time>, out: &mut [u8], at: usize) -> usize
     requires { at + length (timed.time_text t) ≤ length out.old }
     ensures { Put (timed.time_text t) out.old at out.new result }
 {
     match t {
-        OptionTime::NoTime => at,
-        OptionTime::SomeTime(t) => put_clock(t, out, at),
+        None => at,
+        Some(t) => put_clock(t, out, at),
     }
 }
 
@@ -177,8 +182,8 @@ fn put_datetime(d: Datetime, out: &mut [u8], at: usize) -> usize
 {
     let w = write_text(Date::from_datetime(d), &mut out[at..]);
     match w {
-        Written::Done(n) => at + n,
-        Written::Refused(_) => at,
+        Ok(n) => at + n,
+        Err(_) => at,
     }
 }
 
@@ -228,30 +233,24 @@ fn put_timed(d: Date, out: &mut [u8]) -> usize
 // ---- the calls
 
 // How long the text of a date with its times is: at most 70 bytes. It refuses what `write_timed` refuses, apart from NoRoom.
-pub fn timed_length(d: Date) -> Measured
+pub fn timed_length(d: Date) -> Result<usize, Refusal>
     ensures value { result ≡ spec.timed_measured d }
     ensures d_len_bound { text.panics d ≡ false → length (timed.timed_text d) ≤ 70 }
 {
     let v = d.value;
-    match date_length(d) {
-        Measured::Length(n) => {
-            if value_bad(v) {
-                return Measured::NoLength(nowhere(Kind::BadTime));
-            }
-            Measured::Length(n + times_length(v))
-        }
-        Measured::NoLength(e) => Measured::NoLength(e),
+    let n = date_length(d)?;
+    if value_bad(v) {
+        return Err(nowhere(Kind::BadTime));
     }
+    Ok(n + times_length(v))
 }
 
 // The text of a date with its times, at the front of the lent buffer; a refusal stores nothing.
-pub fn write_timed(d: Date, out: &mut [u8]) -> Written
+pub fn write_timed(d: Date, out: &mut [u8]) -> Result<usize, Refusal>
     ensures value { result ≡ spec.timed_answer d (length out.old) }
     ensures out_after { out.new ≡ spec.timed_afterwards d out.old }
     ensures d_len_bound { text.panics d ≡ false → length (timed.timed_text d) ≤ 70 }
 {
-    match decide(timed_length(d), out.len()) {
-        Written::Done(_) => Written::Done(put_timed(d, out)),
-        Written::Refused(e) => Written::Refused(e),
-    }
+    decide(timed_length(d), out.len())?;
+    Ok(put_timed(d, out))
 }

@@ -10,8 +10,7 @@ use Rattle.chars.specs.Pick.{pick}
 use Rattle.chars.proofs.Cases.{by-test, and-true}
 use Rattle.dates.specs.declared.Date.{Date}
 use Rattle.refusals.specs.declared.Refusal.{Refusal}
-use Rattle.refusals.specs.declared.ReadDate.{ReadDate}
-use Rattle.refusals.specs.declared.ReadDate.TheVariants.{Accepted, Refused as NotRead}
+use Rattle.std.specs.Prelude.{Result, Ok, Err}
 use Rattle.reading_laws.specs.Field.{parsed, parsed_strict}
 use Rattle.verdicts.specs.declared.Verdict.{Verdict}
 use Rattle.verdicts.specs.declared.Verdict.TheVariants.{NoDate, Full, NotStrict, ShortYear, Unread, Refused}
@@ -26,30 +25,30 @@ use Rattle.verdicts.proofs.Empty.{empty-strict, empty-ported}
 -- ---- a date in one cell
 
 -- what the readers answered, by the verdict
-full-if : {x y : ReadDate} → Both x y Full → (d : Date) × (x ≡ Accepted d) × (y ≡ Accepted d)
+full-if : {x y : Result Date Refusal} → Both x y Full → (d : Date) × (x ≡ Ok d) × (y ≡ Ok d)
 full-if (agreed {d}) = (d, refl, refl)
 
-strict-if : {x y : ReadDate} {d : Date} → Both x y (NotStrict d) → (y ≡ Accepted d) × (x ≡ Accepted d → ⊥)
+strict-if : {x y : Result Date Refusal} {d : Date} → Both x y (NotStrict d) → (y ≡ Ok d) × (x ≡ Ok d → ⊥)
 strict-if (differs n) = (refl, λ e. n cc)
 strict-if alone = (refl, λ e. absurd (let z : ◌≡◌ {A = ℕ} 0 1 = cc in omega arith))
 
-refused-if : {x y : ReadDate} {e : Refusal} → Both x y (Refused e) → ((f : Refusal) × (x ≡ NotRead f)) × (y ≡ NotRead e)
+refused-if : {x y : Result Date Refusal} {e : Refusal} → Both x y (Refused e) → ((f : Refusal) × (x ≡ Err f)) × (y ≡ Err e)
 refused-if (neither {f}) = ((f, refl), refl)
 
-none-if : {x y : ReadDate} {v : Verdict} → Both x y v → v ≡ NoDate → ⊥
+none-if : {x y : Result Date Refusal} {v : Verdict} → Both x y v → v ≡ NoDate → ⊥
 none-if agreed e = let z : ◌≡◌ {A = ℕ} 0 1 = cc in omega arith
 none-if (differs n) e = let z : ◌≡◌ {A = ℕ} 0 1 = cc in omega arith
 none-if alone e = let z : ◌≡◌ {A = ℕ} 0 1 = cc in omega arith
 none-if neither e = let z : ◌≡◌ {A = ℕ} 0 1 = cc in omega arith
 
 -- and the verdict, by what they answered
-strict_of : {x y : ReadDate} {v : Verdict} (d : Date) → Both x y v → y ≡ Accepted d → (x ≡ Accepted d → ⊥) → v ≡ NotStrict d
+strict_of : {x y : Result Date Refusal} {v : Verdict} (d : Date) → Both x y v → y ≡ Ok d → (x ≡ Ok d → ⊥) → v ≡ NotStrict d
 strict_of d agreed e n = absurd (n e)
 strict_of d (differs k) e n = cc
 strict_of d alone e n = cc
 strict_of d neither e n = absurd (let z : ◌≡◌ {A = ℕ} 0 1 = cc in omega arith)
 
-refused-of : (x : ReadDate) {y : ReadDate} (e : Refusal) → y ≡ NotRead e → by_readers x y ≡ Refused e
+refused-of : (x : Result Date Refusal) {y : Result Date Refusal} (e : Refusal) → y ≡ Err e → by_readers x y ≡ Refused e
 unfolding by_readers
 refused-of x e q = rw q
 
@@ -70,7 +69,7 @@ no-date (b ∷ t) = (
 )
 
 -- a cell is full exactly if both readers give one and the same Date
-pub full : (s : List ℕ) → (date_verdict s ≡ Full) ↔ ((d : Date) × (parsed_strict s (cell_table s) ≡ Accepted d) × (parsed s (cell_table s) ≡ Accepted d))
+pub full : (s : List ℕ) → (date_verdict s ≡ Full) ↔ ((d : Date) × (parsed_strict s (cell_table s) ≡ Ok d) × (parsed s (cell_table s) ≡ Ok d))
 full [] = (
   λ e. absurd (let f = empty in let z : ◌≡◌ {A = ℕ} 0 1 = cc in omega arith),
   λ p. absurd (empty-strict p.1),
@@ -80,7 +79,7 @@ full (b ∷ t) =
     (λ e. full-if (answered (b ∷ t) n e), λ p. asked (b ∷ t) n ∙ full-of p.1 p.2)
 
 -- it is not strict and says a Date exactly if the ported reader gives that Date and the strict one does not
-pub not-strict : (s : List ℕ) (d : Date) → (date_verdict s ≡ NotStrict d) ↔ ((parsed s (cell_table s) ≡ Accepted d) × (parsed_strict s (cell_table s) ≡ Accepted d → ⊥))
+pub not-strict : (s : List ℕ) (d : Date) → (date_verdict s ≡ NotStrict d) ↔ ((parsed s (cell_table s) ≡ Ok d) × (parsed_strict s (cell_table s) ≡ Ok d → ⊥))
 not-strict [] d = (
   λ e. absurd (let f = empty in let z : ◌≡◌ {A = ℕ} 0 1 = cc in omega arith),
   λ p. absurd (empty-ported p.0),
@@ -90,7 +89,7 @@ not-strict (b ∷ t) d =
     (λ e. strict-if (answered (b ∷ t) n e), λ p. strict_of d (answered (b ∷ t) n refl) p.0 p.1)
 
 -- and it is refused exactly if it is not empty and both refuse it; the refusal is the ported reader's
-pub refused : (s : List ℕ) (e : Refusal) → (date_verdict s ≡ Refused e) ↔ ((s ≡ [] → ⊥) × ((f : Refusal) × (parsed_strict s (cell_table s) ≡ NotRead f)) × (parsed s (cell_table s) ≡ NotRead e))
+pub refused : (s : List ℕ) (e : Refusal) → (date_verdict s ≡ Refused e) ↔ ((s ≡ [] → ⊥) × ((f : Refusal) × (parsed_strict s (cell_table s) ≡ Err f)) × (parsed s (cell_table s) ≡ Err e))
 refused [] e = (
   λ h. absurd (let f = empty in let z : ◌≡◌ {A = ℕ} 0 1 = cc in omega arith),
   λ p. absurd (p.0 refl),
@@ -106,7 +105,7 @@ refused (b ∷ t) e =
 -- ---- a date in six cells
 
 -- what a verdict on six cells says: one has a text, none with a text is left unread, whether a year is short, and what was read
-pub record SixSaid (start end : Cells) (short : Bool) (r : ReadDate) : Type 0 where
+pub record SixSaid (start end : Cells) (short : Bool) (r : Result Date Refusal) : Type 0 where
   -- one of the cells has a text
   pub some : some_given start || some_given end ≡ true
   -- the reader looks at each that has one
@@ -118,26 +117,26 @@ pub record SixSaid (start end : Cells) (short : Bool) (r : ReadDate) : Type 0 wh
 
 -- the verdict by what is asked: whether a cell has a text, whether one is left unread, whether a year is short, whether the cells are
 -- plain, and what was read
-abbrev told : Bool → Bool → Bool → Bool → ReadDate → Verdict
+abbrev told : Bool → Bool → Bool → Bool → Result Date Refusal → Verdict
 told g u f p r = pick g (pick u Unread (verdict_of f p r)) NoDate
 
 -- what was asked, by the verdict
-data Told (g u f p : Bool) (r : ReadDate) : Verdict → Type 0 where
+data Told (g u f p : Bool) (r : Result Date Refusal) : Verdict → Type 0 where
   empty_told : g ≡ false → Told g u f p r NoDate
   left_told : g ≡ true → u ≡ true → Told g u f p r Unread
-  short_told : {d : Date} → g ≡ true → u ≡ false → f ≡ true → r ≡ Accepted d → Told g u f p r (ShortYear d)
-  full_told : (d : Date) → g ≡ true → u ≡ false → f ≡ false → r ≡ Accepted d → p && is_strict d ≡ true → Told g u f p r Full
-  other_told : {d : Date} → g ≡ true → u ≡ false → f ≡ false → r ≡ Accepted d → p && is_strict d ≡ false → Told g u f p r (NotStrict d)
-  refused_told : {e : Refusal} → g ≡ true → u ≡ false → r ≡ NotRead e → Told g u f p r (Refused e)
+  short_told : {d : Date} → g ≡ true → u ≡ false → f ≡ true → r ≡ Ok d → Told g u f p r (ShortYear d)
+  full_told : (d : Date) → g ≡ true → u ≡ false → f ≡ false → r ≡ Ok d → p && is_strict d ≡ true → Told g u f p r Full
+  other_told : {d : Date} → g ≡ true → u ≡ false → f ≡ false → r ≡ Ok d → p && is_strict d ≡ false → Told g u f p r (NotStrict d)
+  refused_told : {e : Refusal} → g ≡ true → u ≡ false → r ≡ Err e → Told g u f p r (Refused e)
 
-view : (g u f p : Bool) (r : ReadDate) → Told g u f p r (told g u f p r)
+view : (g u f p : Bool) (r : Result Date Refusal) → Told g u f p r (told g u f p r)
 unfolding pick verdict_of
 view false u f p r = empty_told refl
 view true true f p r = left_told refl refl
-view true false true p (Accepted d) = short_told refl refl refl refl
-view true false false p (Accepted d) =
-    by-test (Told true false false p (Accepted d)) (p && is_strict d) (full_told d refl refl refl refl) (other_told refl refl refl refl)
-view true false f p (NotRead e) = refused_told refl refl refl
+view true false true p (Ok d) = short_told refl refl refl refl
+view true false false p (Ok d) =
+    by-test (Told true false false p (Ok d)) (p && is_strict d) (full_told d refl refl refl refl) (other_told refl refl refl refl)
+view true false f p (Err e) = refused_told refl refl refl
 
 module _ (start end : Cells) where
   abbrev some : Bool
@@ -179,35 +178,35 @@ module _ (start end : Cells) where
       of (left_told g u) = (g, u)
 
   -- they are full exactly if all is read, no year is short, a Date was read, all cells are plain, and the Date's written text is strict
-  pub six-full : (six_verdict start end ≡ Full) ↔ ((d : Date) × SixSaid start end false (Accepted d) × (both_plain start end ≡ true) × (is_strict d ≡ true))
+  pub six-full : (six_verdict start end ≡ Full) ↔ ((d : Date) × SixSaid start end false (Ok d) × (both_plain start end ≡ true) × (is_strict d ≡ true))
   unfolding pick verdict_of
   six-full = (λ e. of (by e), λ p. is-told ∙ rw (p.1.some, p.1.all, p.1.digits, p.1.read, p.2, p.3))
     where
-      of : ToldOf Full → (d : Date) × SixSaid start end false (Accepted d) × (plain ≡ true) × (is_strict d ≡ true)
+      of : ToldOf Full → (d : Date) × SixSaid start end false (Ok d) × (plain ≡ true) × (is_strict d ≡ true)
       of (full_told d g u f r k) =
           let b = and-true plain (is_strict d) k in
           (d, record { some = g; all = u; digits = f; read = r }, b.0, b.1)
 
   -- they are not strict exactly if all is read, no year is short, a Date was read, and a cell is not plain or the text is not strict
-  pub six-not-strict : (d : Date) → (six_verdict start end ≡ NotStrict d) ↔ (SixSaid start end false (Accepted d) × (both_plain start end && is_strict d ≡ false))
+  pub six-not-strict : (d : Date) → (six_verdict start end ≡ NotStrict d) ↔ (SixSaid start end false (Ok d) × (both_plain start end && is_strict d ≡ false))
   unfolding pick verdict_of
   six-not-strict d = (λ e. of (by e), λ p. is-told ∙ rw (p.0.some, p.0.all, p.0.digits, p.0.read, p.1))
     where
-      of : ToldOf (NotStrict d) → SixSaid start end false (Accepted d) × (plain && is_strict d ≡ false)
+      of : ToldOf (NotStrict d) → SixSaid start end false (Ok d) × (plain && is_strict d ≡ false)
       of (other_told g u f r k) = (record { some = g; all = u; digits = f; read = r }, k)
 
   -- a year is short
-  pub short-year : (d : Date) → (six_verdict start end ≡ ShortYear d) ↔ SixSaid start end true (Accepted d)
+  pub short-year : (d : Date) → (six_verdict start end ≡ ShortYear d) ↔ SixSaid start end true (Ok d)
   unfolding pick verdict_of
   short-year d = (λ e. of (by e), λ p. is-told ∙ rw (p.some, p.all, p.digits, p.read))
     where
-      of : ToldOf (ShortYear d) → SixSaid start end true (Accepted d)
+      of : ToldOf (ShortYear d) → SixSaid start end true (Ok d)
       of (short_told g u f r) = record { some = g; all = u; digits = f; read = r }
 
   -- all is read, and refused
-  pub six_refused : (e : Refusal) → (six_verdict start end ≡ Refused e) ↔ SixSaid start end (either_few start.year end.year) (NotRead e)
+  pub six_refused : (e : Refusal) → (six_verdict start end ≡ Refused e) ↔ SixSaid start end (either_few start.year end.year) (Err e)
   unfolding pick verdict_of
   six_refused e = (λ h. of (by h), λ p. is-told ∙ rw (p.some, p.all, p.read))
     where
-      of : ToldOf (Refused e) → SixSaid start end few (NotRead e)
+      of : ToldOf (Refused e) → SixSaid start end few (Err e)
       of (refused_told g u r) = record { some = g; all = u; digits = refl; read = r }

@@ -8,11 +8,9 @@ use lib.IntN.{ℤ, pos, negsuc}
 use Rattle.chars.specs.Ascii.{ascii}
 use Rattle.refusals.specs.declared.Kind.{Kind}
 use Rattle.refusals.specs.declared.Kind.TheVariants.{MonthOutOfRange, InvalidFormat, RustPanics}
-use Rattle.dates.specs.declared.OptionMonth.{OptionMonth}
-use Rattle.dates.specs.declared.OptionMonth.TheVariants.{NoMonth}
-use Rattle.dates.specs.declared.OptionDay.{OptionDay}
-use Rattle.dates.specs.declared.OptionDay.TheVariants.{NoDay}
-use Rattle.dates.specs.declared.OptionTime.TheVariants.{NoTime}
+use Rattle.dates.specs.declared.Day.{Day}
+use Rattle.dates.specs.declared.Month.{Month}
+use Rattle.std.specs.Prelude.{Option, None}
 use Rattle.dates.specs.declared.Datetime.{Datetime}
 use Rattle.dates.specs.declared.DateValue.{DateValue}
 use Rattle.dates.specs.declared.DateValue.TheVariants.{At, After, Between}
@@ -70,7 +68,7 @@ use Rattle.verdicts.specs.Fields as cells_of
 
 -- a year alone, and the Date of a point or range without a mark
 abbrev year : ℤ → Datetime
-year y = datetime y NoMonth NoDay NoTime
+year y = datetime y None None None
 
 abbrev plain : DateValue → Date
 plain v = date v false false
@@ -94,13 +92,13 @@ dates =
     ∷ record { of = "2000-01-XX"; is = Full }
     ∷ record { of = "2000/2001?"; is = Full }
     -- read otherwise: the days of a month under 31 days, which the strict reader ends on the 29th, and the ported reader on the 31st
-    ∷ record { of = "2000-02-XX"; is = NotStrict (plain (Between (datetime (pos 2000) (month 1) (day 0) NoTime) (datetime (pos 2000) (month 1) (day 30) NoTime))) }
-    ∷ record { of = "2000-04-XX~"; is = NotStrict (date (Between (datetime (pos 2000) (month 3) (day 0) NoTime) (datetime (pos 2000) (month 3) (day 30) NoTime)) false true) }
+    ∷ record { of = "2000-02-XX"; is = NotStrict (plain (Between (datetime (pos 2000) (month 1) (day 0) None) (datetime (pos 2000) (month 1) (day 30) None))) }
+    ∷ record { of = "2000-04-XX~"; is = NotStrict (date (Between (datetime (pos 2000) (month 3) (day 0) None) (datetime (pos 2000) (month 3) (day 30) None)) false true) }
     -- read otherwise: two digits, white space, one digit, a small letter
     ∷ record { of = "49"; is = NotStrict (plain (At (year (pos 2049)))) }
     ∷ record { of = "50"; is = NotStrict (plain (At (year (pos 1950)))) }
     ∷ record { of = "-99"; is = NotStrict (plain (At (year (pos 1901)))) }
-    ∷ record { of = " 2000-1-2 "; is = NotStrict (plain (At (datetime (pos 2000) (month 0) (day 1) NoTime))) }
+    ∷ record { of = " 2000-1-2 "; is = NotStrict (plain (At (datetime (pos 2000) (month 0) (day 1) None))) }
     ∷ record { of = "19xx"; is = NotStrict (plain (Between (year (pos 1900)) (year (pos 1999)))) }
     ∷ record { of = "2000/01"; is = NotStrict (plain (Between (year (pos 2000)) (year (pos 2001)))) }
     ∷ record { of = "2000/"; is = NotStrict (plain (After (year (pos 2000)))) }
@@ -113,7 +111,7 @@ dates =
     ∷ []
 
 pub dates-hold : map (λ (e : DateExample). date_verdict (ascii e.of)) dates ≡ map (λ (e : DateExample). e.is) dates
-unfolding dates chars_ascii.digit_of chars_classes.within chars_classes.is_admitted chars_classes.is_whitespace chars_classes.is_ascii_digit chars_classes.is_numeric chars_classes.is_ascii_alphabetic chars_classes.is_alphabetic chars_classes.is_alphanumeric chars_pick.pick chars_upper.loses32 chars_upper.upper_of chars_upper.codes_of chars_utf8.len_of chars_utf8.is_cont chars_utf8.is_surrogate chars_utf8.decode2 chars_utf8.decode3 chars_utf8.decode4 chars_utf8.decode chars_utf8.first chars_utf8.decode_at chars_utf8.len_d chars_utf8.encode chars_utf8.encode_all scanner_class.in_class scanner_scan.len_in scanner_scan.match_len scanner_scan.walk scanner_scan.eat_while scanner_scan.eat_if scanner_scan.begins scanner_scan.eat_text scanner_scan.eaten scanner_scan.eat_at scanner_scan.stands_at scanner_scan.done_at scanner_scan.part scanner_scan.run_at scanner_scan.next_run refusals_offset.saturating_add refusals_offset.offset refusals_offset.offset_second refusals_offset.unshifted refusals_refusal.refusal chunks_characters.and_then chunks_characters.up_to chunks_characters.characters chunks_characters.codes_of chunks_characters.codes chunks_check.fault_in chunks_check.or_else chunks_check.fault_of chunks_check.checked chunks_chunks.chunks_of chunks_chunks.kinds_known chunks_chunks.lengths chunks_chunks.fits chunks_chunks.is_short chunks_chunks.last_end chunks_chunks.span_of chunks_format.is_break chunks_format.one_out chunks_format.normal chunks_format.last_white chunks_format.chunk_out chunks_format.chunk_flag chunks_format.chunks_out chunks_format.formatted chunks_upper.upper_out chunks_upper.uppers chunks_upper.uppercase dates_calendar.multiple dates_calendar.leap_year dates_calendar.february dates_calendar.month_lengths dates_calendar.month_length numbers_number.admits numbers_number.run_value numbers_number.run_of numbers_number.run_at numbers_number.parse_unsigned_int numbers_number.or_kept numbers_number.behind_sign signed numbers_number.with_sign numbers_number.signed_at numbers_number.signed_run numbers_number.int_of numbers_number.parse_int strs_parse.whole_value strs_parse.digits_from strs_parse.parse strs_trim.step_by strs_trim.step_over strs_trim.trim_step strs_trim.trim_from strs_trim.trim_end strs_trim.trim points_point.windowed points_point.windowed_int points_point.short_year points_point.long_of points_point.long_year points_point.short_or points_point.year_at points_point.on_year points_point.with_time points_point.time_or points_point.behind_day points_point.behind_month points_point.behind_year points_point.point points_step.stored_part points_step.part_at points_step.month_at points_step.day_at points_step.hour_at points_step.sixty_at points_step.hyphen_or points_step.hyphen_from points_step.hyphen_at points_step.colon_or points_step.colon_from points_step.colon_at points_step.on_part points_step.on_separator points_step.or_end points_time.shift_at points_time.offset_by points_time.offset_from points_time.offset_at points_time.with_offset points_time.behind_second points_time.behind_minute points_time.behind_hour points_time.time_at xranges_range.hyphen_run xranges_range.hyphen_from xranges_range.get_hyphen xranges_range.on_hyphen xranges_range.on_value xranges_range.years xranges_range.months xranges_range.days xranges_range.second_run xranges_range.second_at xranges_range.behind_months xranges_range.end_of_days xranges_range.day_run xranges_range.behind_month xranges_range.month_run xranges_range.month xranges_range.months_run xranges_range.behind_year xranges_range.year_run xranges_range.digit_run xranges_range.range_from xranges_range.range_dates datefield_text.trimmed datefield_text.last_byte datefield_text.is_uncertain datefield_text.is_approximate datefield_text.unmarked datefield_text.first_of datefield_text.is_blank datefield_text.is_dots datefield_text.is_open datefield_value.moved datefield_value.first_half datefield_value.second_half datefield_value.on_half datefield_value.both_halves datefield_value.halves datefield_value.x_range datefield_value.value datefield_value.marked datefield_value.trimmed_date datefield_value.parse_text reader_field.on_clean reader_field.parsed reader_field.strictly reader_field.parsed_strict strict_grammar.last_day strict_matcher.two strict_matcher.on strict_matcher.on_four strict_matcher.four strict_matcher.counted strict_matcher.field strict_matcher.shift_at strict_matcher.offset_at strict_matcher.time_at strict_matcher.behind_month strict_matcher.behind_year strict_matcher.point_at strict_matcher.point strict_matcher.dash_xx strict_matcher.years strict_matcher.months strict_matcher.days strict_matcher.unknown_years strict_matcher.unknown_parts strict_matcher.unknown strict_matcher.marked strict_matcher.ending strict_matcher.is_open strict_matcher.on_point strict_matcher.behind_open strict_matcher.behind_slash strict_matcher.from_point strict_matcher.of_points strict_matcher.on_unknown strict_matcher.text_of strict_matcher.strict dates_specs.end_day dates_specs.same_day dates_specs.is_same dates_specs.by_readers dates_specs.date_verdict
+unfolding dates chars_ascii.digit_of chars_classes.within chars_classes.is_admitted chars_classes.is_whitespace chars_classes.is_ascii_digit chars_classes.is_numeric chars_classes.is_ascii_alphabetic chars_classes.is_alphabetic chars_classes.is_alphanumeric chars_pick.pick chars_upper.loses32 chars_upper.upper_of chars_upper.codes_of chars_utf8.len_of chars_utf8.is_cont chars_utf8.is_surrogate chars_utf8.decode2 chars_utf8.decode3 chars_utf8.decode4 chars_utf8.decode chars_utf8.first chars_utf8.decode_at chars_utf8.len_d chars_utf8.encode chars_utf8.encode_all scanner_class.in_class scanner_scan.len_in scanner_scan.match_len scanner_scan.walk scanner_scan.eat_while scanner_scan.eat_if scanner_scan.begins scanner_scan.eat_text scanner_scan.eaten scanner_scan.eat_at scanner_scan.stands_at scanner_scan.done_at scanner_scan.part scanner_scan.run_at scanner_scan.next_run refusals_offset.saturating_add refusals_offset.offset refusals_offset.offset_second refusals_offset.unshifted refusals_refusal.refusal chunks_characters.and_then chunks_characters.up_to chunks_characters.characters chunks_characters.codes_of chunks_characters.codes chunks_check.fault_in chunks_check.or_else chunks_check.fault_of chunks_check.checked chunks_chunks.chunks_of chunks_chunks.kinds_known chunks_chunks.lengths chunks_chunks.fits chunks_chunks.is_short chunks_chunks.last_end chunks_chunks.span_of chunks_format.is_break chunks_format.one_out chunks_format.normal chunks_format.last_white chunks_format.chunk_out chunks_format.chunk_flag chunks_format.chunks_out chunks_format.formatted chunks_upper.upper_out chunks_upper.uppers chunks_upper.uppercase dates_calendar.multiple dates_calendar.leap_year dates_calendar.february dates_calendar.month_lengths dates_calendar.month_length numbers_number.admits numbers_number.run_value numbers_number.run_of numbers_number.run_at numbers_number.parse_unsigned_int numbers_number.or_kept numbers_number.behind_sign signed numbers_number.with_sign numbers_number.signed_at numbers_number.signed_run numbers_number.int_of numbers_number.parse_int strs_parse.whole_value strs_parse.digits_from strs_parse.parse strs_trim.step_by strs_trim.step_over strs_trim.trim_step strs_trim.trim_from strs_trim.trim_end strs_trim.trim points_point.windowed points_point.windowed_int points_point.short_year points_point.long_of points_point.long_year points_point.short_or points_point.year_at points_point.on_year points_point.with_time points_point.time_or points_point.behind_day points_point.behind_month points_point.behind_year points_point.point points_step.stored_part points_step.refuse_number points_step.part_at points_step.month_at points_step.day_at points_step.hour_at points_step.sixty_at points_step.hyphen_or points_step.hyphen_from points_step.hyphen_at points_step.colon_or points_step.colon_from points_step.colon_at points_step.on_part points_step.on_separator points_step.or_end points_time.shift_at points_time.offset_by points_time.offset_from points_time.offset_at points_time.with_offset points_time.behind_second points_time.behind_minute points_time.behind_hour points_time.time_at xranges_range.hyphen_run xranges_range.hyphen_from xranges_range.get_hyphen xranges_range.on_hyphen xranges_range.on_value xranges_range.years xranges_range.months xranges_range.days xranges_range.second_run xranges_range.second_at xranges_range.behind_months xranges_range.end_of_days xranges_range.day_run xranges_range.behind_month xranges_range.month_run xranges_range.month xranges_range.months_run xranges_range.behind_year xranges_range.year_run xranges_range.digit_run xranges_range.range_from xranges_range.range_dates datefield_text.trimmed datefield_text.last_byte datefield_text.is_uncertain datefield_text.is_approximate datefield_text.unmarked datefield_text.first_of datefield_text.is_blank datefield_text.is_dots datefield_text.is_open datefield_value.moved datefield_value.first_half datefield_value.second_half datefield_value.on_half datefield_value.both_halves datefield_value.halves datefield_value.x_range datefield_value.value datefield_value.marked datefield_value.trimmed_date datefield_value.parse_text reader_field.on_clean reader_field.parsed reader_field.strictly reader_field.parsed_strict strict_grammar.last_day strict_matcher.two strict_matcher.on strict_matcher.on_four strict_matcher.four strict_matcher.counted strict_matcher.field strict_matcher.shift_at strict_matcher.offset_at strict_matcher.time_at strict_matcher.behind_month strict_matcher.behind_year strict_matcher.point_at strict_matcher.point strict_matcher.dash_xx strict_matcher.years strict_matcher.months strict_matcher.days strict_matcher.unknown_years strict_matcher.unknown_parts strict_matcher.unknown strict_matcher.marked strict_matcher.ending strict_matcher.is_open strict_matcher.on_point strict_matcher.behind_open strict_matcher.behind_slash strict_matcher.from_point strict_matcher.of_points strict_matcher.on_unknown strict_matcher.text_of strict_matcher.strict dates_specs.end_day dates_specs.same_day dates_specs.is_same dates_specs.by_readers dates_specs.date_verdict
 dates-hold = refl
 
 -- ---- years of two digits
@@ -152,8 +150,8 @@ abbrev empty : Cells
 empty = row "" "" ""
 
 -- not strict, and this is read
-abbrev read : ℤ → OptionMonth → OptionDay → Verdict
-read y m d = NotStrict (plain (At (datetime y m d NoTime)))
+abbrev read : ℤ → Option Month → Option Day → Verdict
+read y m d = NotStrict (plain (At (datetime y m d None)))
 
 pub record SixExample : Type 0 where
   pub start : Cells
@@ -175,7 +173,7 @@ sixes =
     ∷ record { start = row "2000" "2" ""; end = row "2001" "mar" "4"; is = Full }
     -- fewer than four digits, and what is read
     ∷ record { start = row "49" "" ""; end = empty; is = ShortYear (plain (At (year (pos 49)))) }
-    ∷ record { start = row " -149 " "12" ""; end = empty; is = ShortYear (plain (At (datetime (negsuc 148) (month 11) NoDay NoTime))) }
+    ∷ record { start = row " -149 " "12" ""; end = empty; is = ShortYear (plain (At (datetime (negsuc 148) (month 11) None None))) }
     ∷ record { start = row "2000" "" ""; end = row "1" "" ""; is = ShortYear (plain (Between (year (pos 2000)) (year (pos 1)))) }
     -- a day without a month, an end without its year, an end day without its month
     ∷ record { start = row "2000" "" "1"; end = empty; is = Unread }
@@ -198,19 +196,19 @@ pub others : List SixExample
 others =
     -- no such month, no such day
     record { start = row "2000" "99" "31"; end = empty; is = read (pos 2000) (month 98) (day 30) }
-    ∷ record { start = row "2000" "13" ""; end = empty; is = read (pos 2000) (month 12) NoDay }
+    ∷ record { start = row "2000" "13" ""; end = empty; is = read (pos 2000) (month 12) None }
     ∷ record { start = row "1900" "2" "29"; end = empty; is = read (pos 1900) (month 1) (day 28) }
     -- a month that is none goes, and the text has no day without it
-    ∷ record { start = row "2000" "febr" "4"; end = empty; is = read (pos 2000) NoMonth (day 3) }
-    ∷ record { start = row "2000" "jul,4" ""; end = empty; is = read (pos 2000) (month 6) NoDay }
+    ∷ record { start = row "2000" "febr" "4"; end = empty; is = read (pos 2000) None (day 3) }
+    ∷ record { start = row "2000" "jul,4" ""; end = empty; is = read (pos 2000) (month 6) None }
     -- what is read right and does not stand as it should
-    ∷ record { start = row "2000 " "" ""; end = empty; is = read (pos 2000) NoMonth NoDay }
-    ∷ record { start = row "+2000" "" ""; end = empty; is = read (pos 2000) NoMonth NoDay }
-    ∷ record { start = row "49  AD" "" ""; end = empty; is = read (pos 49) NoMonth NoDay }
-    ∷ record { start = row "5 BC, or so" "" ""; end = empty; is = read (negsuc 3) NoMonth NoDay }
-    ∷ record { start = row "2000" " 7" ""; end = empty; is = read (pos 2000) (month 6) NoDay }
+    ∷ record { start = row "2000 " "" ""; end = empty; is = read (pos 2000) None None }
+    ∷ record { start = row "+2000" "" ""; end = empty; is = read (pos 2000) None None }
+    ∷ record { start = row "49  AD" "" ""; end = empty; is = read (pos 49) None None }
+    ∷ record { start = row "5 BC, or so" "" ""; end = empty; is = read (negsuc 3) None None }
+    ∷ record { start = row "2000" " 7" ""; end = empty; is = read (pos 2000) (month 6) None }
     ∷ record { start = row "2000" "7" "+4"; end = empty; is = read (pos 2000) (month 6) (day 3) }
-    ∷ record { start = row "2000" "" ""; end = row "2001" "7" "004"; is = NotStrict (plain (Between (year (pos 2000)) (datetime (pos 2001) (month 6) (day 3) NoTime))) }
+    ∷ record { start = row "2000" "" ""; end = row "2001" "7" "004"; is = NotStrict (plain (Between (year (pos 2000)) (datetime (pos 2001) (month 6) (day 3) None))) }
     ∷ []
 
 pub others-hold : map (λ (e : SixExample). six_verdict e.start e.end) others ≡ map (λ (e : SixExample). e.is) others

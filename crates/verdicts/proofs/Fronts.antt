@@ -27,9 +27,8 @@ use Rattle.scanner.proofs.Parts.{part-empty}
 use Rattle.scanner.proofs.Front.{From, from_start, from-behind, front-part, front-past, front-end}
 use Rattle.numbers.specs.declared.Digits.{Digits}
 use Rattle.numbers.specs.declared.Digits.TheVariants.{Two, Four}
-use Rattle.numbers.specs.declared.Parsed.TheVariants.{Wrong}
-use Rattle.numbers.specs.declared.ParsedNumber.{ParsedNumber}
-use Rattle.numbers.specs.declared.ParsedNumber.TheVariants.{Value, NoValue}
+use Rattle.numbers.specs.declared.NoNumber.TheVariants.{Wrong}
+use Rattle.std.specs.Prelude.{Option, Some, None, Err}
 use Rattle.numbers.specs.Parse.{digits_from}
 use Rattle.numbers.specs.Number.{cursor, admits, run_value, run_of, or_kept, behind_sign, with_sign, signed_at, signed_run, int_of, parse_int}
 use Rattle.chunks.proofs.Proper.{Spelled, Spells, spells_none, spells_more, encode-append}
@@ -254,18 +253,18 @@ run-part k {cs} {s} {i} p f =
     ap (part s i) (eaten-to k p f) ∙ front-part u v g
 
 -- whether a number was read of digits
-abbrev pub is_value : ParsedNumber → Bool
-is_value (Value n) = true
-is_value NoValue = false
+abbrev pub is_value : Option ℕ → Bool
+is_value (Some n) = true
+is_value None = false
 
 -- whether bytes are a number of so many digits
 abbrev pub reads : Digits → List ℕ → Bool
 reads g num = admits g (length num) && is_value (digits_from 9999 num 0)
 
-by_value : (n b : Bool) (v : ParsedNumber) (e : ℕ) → is_int (with_sign n (pick b (run_value v e) (Wrong (cursor e)))) ≡ b && is_value v
+by_value : (n b : Bool) (v : Option ℕ) (e : ℕ) → is_int (with_sign n (pick b (run_value v e) (Err (Wrong (cursor e))))) ≡ b && is_value v
 unfolding is_int with_sign run_value pick
-by_value n true (Value v) e = refl
-by_value n true NoValue e = refl
+by_value n true (Some v) e = refl
+by_value n true None e = refl
 by_value n false v e = refl
 
 -- the digits that are read at a text's front

@@ -21,8 +21,8 @@ use Rattle.chars.proofs.Encode.{encode_one}
 use Rattle.chars.proofs.Laws.{found}
 use Rattle.scanner.specs.declared.Class.{Class}
 use Rattle.scanner.specs.declared.Class.TheVariants.{Whitespace, Numeric, AsciiDigit, AsciiAlphabetic, Alphanumeric, Is}
-use Rattle.scanner.specs.declared.EatIf.{EatIf}
-use Rattle.scanner.specs.declared.EatIf.TheVariants.{Past, Kept}
+use Rattle.scanner.specs.declared.Cursor.{Cursor}
+use Rattle.std.specs.Prelude.{Option, Some, None, Result, Ok, Err}
 use Rattle.scanner.specs.Class.{in_class}
 use Rattle.scanner.specs.Scan.{len_in, match_len, walk, eat_while, eat_if, eat_text, begins, stands_at, done_at, part}
 use Rattle.scanner.proofs.Laws.{stop, not_white, match-end}
@@ -34,26 +34,15 @@ use Rattle.refusals.specs.declared.Refusal.{Refusal}
 use Rattle.refusals.specs.declared.Kind.TheVariants.{YearZeroCE}
 use Rattle.refusals.specs.Offset.{text_refusal, panics}
 use Rattle.dates.specs.declared.Month.{Month}
-use Rattle.dates.specs.declared.OptionMonth.{OptionMonth}
-use Rattle.dates.specs.declared.OptionMonth.TheVariants.{NoMonth, SomeMonth}
 use Rattle.dates.specs.declared.Day.{Day}
-use Rattle.dates.specs.declared.OptionDay.{OptionDay}
-use Rattle.dates.specs.declared.OptionDay.TheVariants.{SomeDay}
 use Rattle.dates.specs.Value.{month, day}
 use Rattle.numbers.specs.declared.Digits.TheVariants.{OneOrTwo}
-use Rattle.numbers.specs.declared.ParsedNumber.TheVariants.{Value}
 use Rattle.numbers.specs.Number.{admits, cursor, run_of, run_at, parse_unsigned_int}
 use Rattle.numbers.specs.Parse.{AllDigits, decimal_value}
 use Rattle.numbers.specs.Trim.{trim}
 use Rattle.numbers.proofs.Decimal.{denoted}
 use Rattle.numbers.proofs.Reading.{bytes, value, AreDigits, length-bytes, value-is, end, front-ate, front_kept, digit-white, hyphen-hyphen, number_read}
 use Rattle.numbers.proofs.Trims.{Plain, plain-trim}
-use Rattle.fields.specs.declared.ReadYear.{ReadYear}
-use Rattle.fields.specs.declared.ReadYear.TheVariants.{Year, NoYear}
-use Rattle.fields.specs.declared.ReadMonth.{ReadMonth}
-use Rattle.fields.specs.declared.ReadMonth.TheVariants.{MonthRead, NoMonthRead}
-use Rattle.fields.specs.declared.ReadDayField.{ReadDayField}
-use Rattle.fields.specs.declared.ReadDayField.TheVariants.{Given, NotGiven}
 use Rattle.fields.specs.Year.{has_sign, before_christ, on_past, era_end, negative_era, era_at, parse_era_marker, ended, with_era, behind_digits, year_digits, year_from, behind_sign, year_at, get_year}
 use Rattle.fields.specs.Names.{lower, same_letters, Word, month_in, names, abbreviations, get_month_for_name, get_month_for_abbr, or_else, month_for}
 use Rattle.fields.specs.Month.{named, month_of, month_field}
@@ -168,22 +157,22 @@ digits-usual l (digits_of ds a m h) = record { printed = digits-printed ds a; sh
 -- ---- the year
 
 -- what is read of a year's cell: the year that it says, or none
-pub data YearReads (s : List ℕ) : ReadYear → Type 0 where
-  year_read : {y : ℤ} → YearMeans s y → YearReads s (Year y)
-  year_refused : {e : TextRefusal} → YearReads s (NoYear e)
+pub data YearReads (s : List ℕ) : Result ℤ TextRefusal → Type 0 where
+  year_read : {y : ℤ} → YearMeans s y → YearReads s (Ok y)
+  year_refused : {e : TextRefusal} → YearReads s (Err e)
 
 space-white : in_class Whitespace 0x20 ≡ true
 unfolding in_class is_whitespace within
 space-white = refl
 
 -- a text at a place, by what stands there
-text_at : (u : List ℕ) {s t : List ℕ} {i c : ℕ} → From s i (c ∷ t) → eat_text u s i ≡ pick (begins u (c ∷ t)) (Past (cursor (i + length u))) Kept
+text_at : (u : List ℕ) {s t : List ℕ} {i c : ℕ} → From s i (c ∷ t) → eat_text u s i ≡ pick (begins u (c ∷ t)) (Some (cursor (i + length u))) None
 unfolding eat_text pick
 text_at u {s} {t} {i} f = rw (le-leb i (length s) (omega (arith, front-inside f)), f.is)
 
 -- an era behind a number
 module _ (idx n : ℕ) (sign : _) {s : List ℕ} {i : ℕ} (e : has_sign sign ≡ false) where
-  era-reads : {t : List ℕ} {y : ℤ} → EraMeans n t y → From s i t → (z : TextRefusal) × (behind_digits s idx i sign n ≡ pick (eqb n 0) (NoYear z) (Year y))
+  era-reads : {t : List ℕ} {y : ℤ} → EraMeans n t y → From s i t → (z : TextRefusal) × (behind_digits s idx i sign n ≡ pick (eqb n 0) (Err z) (Ok y))
   unfolding behind_digits with_era parse_era_marker era_at negative_era era_end ended done_at on_past stands_at begins pick
   era-reads ad f =
       let g = front_rest f in
@@ -267,7 +256,7 @@ ends-in t s i {u} f =
     (λ _ e. absurd (false≢true e)))
     (λ _ e. absurd (false≢true e))
   where
-    P : EatIf → Type 0
+    P : Option Cursor → Type 0
     P x = on_past x (done_at s) false ≡ true → u ≡ t
 
 ends-in-era : (n : ℕ) (s : List ℕ) (i : ℕ) {u : List ℕ} → From s i u → ends_in_era s i ≡ true → (y : ℤ) × EraMeans n u y
@@ -310,7 +299,7 @@ below (x ∷ y ∷ z ∷ w ∷ []) a h = omega (arith, a.0, a.1.0, a.1.1.0, a.1.
 below (x ∷ y ∷ z ∷ w ∷ v ∷ ds) a h = absurd (omega arith)
 
 -- a digit at the front is no sign
-unsigned : (P : ReadYear → Type 0) (d : ℕ) (t : List ℕ) → d < 10 → ((sign : _) → has_sign sign ≡ false → P (behind_sign ((48 + d) ∷ t) 0 0 sign)) → P (get_year ((48 + d) ∷ t))
+unsigned : (P : Result ℤ TextRefusal → Type 0) (d : ℕ) (t : List ℕ) → d < 10 → ((sign : _) → has_sign sign ≡ false → P (behind_sign ((48 + d) ∷ t) 0 0 sign)) → P (get_year ((48 + d) ∷ t))
 unfolding get_year year_at on_past
 unsigned P d t h g =
     let f = from_start ((48 + d) ∷ t) in
@@ -321,11 +310,11 @@ unsigned P d t h g =
     )
     (g _ refl)
 
-era-value : (d : ℕ) (ds : List ℕ) {t : List ℕ} {y : ℤ} → AreDigits (d ∷ ds) → length ds < 4 → EraMeans (value 0 (d ∷ ds)) t y → (z : TextRefusal) × (get_year (bytes (d ∷ ds) ++ t) ≡ pick (eqb (value 0 (d ∷ ds)) 0) (NoYear z) (Year y))
+era-value : (d : ℕ) (ds : List ℕ) {t : List ℕ} {y : ℤ} → AreDigits (d ∷ ds) → length ds < 4 → EraMeans (value 0 (d ∷ ds)) t y → (z : TextRefusal) × (get_year (bytes (d ∷ ds) ++ t) ≡ pick (eqb (value 0 (d ∷ ds)) 0) (Err z) (Ok y))
 era-value d ds {t} {y} a h k =
     let n = value 0 (d ∷ ds) in
     let f = from_start (bytes (d ∷ ds) ++ t) in
-    unsigned (λ (r : ReadYear). (z : TextRefusal) × (r ≡ pick (eqb n 0) (NoYear z) (Year y))) d (bytes ds ++ t) a.0 λ sign no.
+    unsigned (λ (r : Result ℤ TextRefusal). (z : TextRefusal) × (r ≡ pick (eqb n 0) (Err z) (Ok y))) d (bytes ds ++ t) a.0 λ sign no.
     let q = era-reads 0 n sign no k (behind-digits (d ∷ ds) f) in
     (q.0, digits-read d ds 0 sign a h (below (d ∷ ds) a (omega arith)) (era-front k) f ∙ q.1)
 
@@ -356,10 +345,10 @@ four-year (digits_of (d ∷ ds) a l h) =
     let s = bytes (d ∷ ds) in
     let m = denotes (d ∷ ds) a in
     let b = length-bytes ds in
-    (digits-usual {low = 4} {high = 4} (lit≤ tt) (digits_of (d ∷ ds) a l h), subst (YearReads s) (sym (digits-field d ds a (omega arith) (below (d ∷ ds) a h) ∙ ap (λ (v : ℕ). Year (pos v)) m.1)) (year_read (four_digits m.0 (omega arith))))
+    (digits-usual {low = 4} {high = 4} (lit≤ tt) (digits_of (d ∷ ds) a l h), subst (YearReads s) (sym (digits-field d ds a (omega arith) (below (d ∷ ds) a h) ∙ ap (λ (v : ℕ). Ok (pos v)) m.1)) (year_read (four_digits m.0 (omega arith))))
 
 -- and behind a minus
-minus-get : (d : ℕ) (ds : List ℕ) → AreDigits (d ∷ ds) → length ds < 4 → get_year (45 ∷ bytes (d ∷ ds)) ≡ Year (neg_ℤ (pos (value 0 (d ∷ ds))))
+minus-get : (d : ℕ) (ds : List ℕ) → AreDigits (d ∷ ds) → length ds < 4 → get_year (45 ∷ bytes (d ∷ ds)) ≡ Ok (neg_ℤ (pos (value 0 (d ∷ ds))))
 unfolding get_year year_at on_past
 minus-get d ds a h =
     let u = bytes (d ∷ ds) in
@@ -374,7 +363,7 @@ minus-year (digits_of (d ∷ ds) a l h) =
     let s = bytes (d ∷ ds) in
     let m = denotes (d ∷ ds) a in
     let b = length-bytes ds in
-    (record { printed = letter refl (digits-printed (d ∷ ds) a); short = omega arith }, subst (YearReads (45 ∷ s)) (sym (minus-get d ds a (omega arith) ∙ ap (λ (v : ℕ). Year (neg_ℤ (pos v))) m.1)) (year_read (minus_digits m.0 (omega arith))))
+    (record { printed = letter refl (digits-printed (d ∷ ds) a); short = omega arith }, subst (YearReads (45 ∷ s)) (sym (minus-get d ds a (omega arith) ∙ ap (λ (v : ℕ). Ok (neg_ℤ (pos v))) m.1)) (year_read (minus_digits m.0 (omega arith))))
 
 full-year : (s : List ℕ) → is_full_year s ≡ true → Usual s × YearReads s (get_year s)
 unfolding is_full_year pick
@@ -410,9 +399,9 @@ year-reads s e =
 -- ---- the month
 
 -- what is read of a month's cell: the month that it says, up to its end, or none
-pub data MonthReads (s : List ℕ) : ReadMonth → Type 0 where
-  month_read : {m : OptionMonth} → MonthMeans s m → MonthReads s (MonthRead m (cursor (length s)))
-  month_refused : {e : TextRefusal} → MonthReads s (NoMonthRead e)
+pub data MonthReads (s : List ℕ) : Result (Option Month × Cursor) TextRefusal → Type 0 where
+  month_read : {m : Option Month} → MonthMeans s m → MonthReads s (Ok (m, cursor (length s)))
+  month_refused : {e : TextRefusal} → MonthReads s (Err e)
 
 few : (ds : List ℕ) → length ds < 2 → admits OneOrTwo (suc (length ds)) ≡ true
 unfolding admits
@@ -420,7 +409,7 @@ few [] h = refl
 few (d ∷ []) h = refl
 few (d ∷ b ∷ ds) h = absurd (omega arith)
 
-number-get : (d : ℕ) (ds : List ℕ) → AreDigits (d ∷ ds) → length ds < 2 → month_field (bytes (d ∷ ds)) ≡ pick (eqb (value 0 (d ∷ ds)) 0) (NoMonthRead panics) (MonthRead (month (value 0 (d ∷ ds) - 1)) (cursor (0 + suc (length ds))))
+number-get : (d : ℕ) (ds : List ℕ) → AreDigits (d ∷ ds) → length ds < 2 → month_field (bytes (d ∷ ds)) ≡ pick (eqb (value 0 (d ∷ ds)) 0) (Err panics) (Ok (month (value 0 (d ∷ ds) - 1), cursor (0 + suc (length ds))))
 unfolding month_field month_of
 number-get d ds a h =
     let u = bytes (d ∷ ds) in
@@ -440,7 +429,7 @@ number-month (digits_of (d ∷ ds) a l h) k =
           (by-test (MonthReads s) (eqb n 0) (λ _. month_refused)
           (λ z.
           let w = eqb-false n 0 z in
-          subst (λ (c : ℕ). MonthReads s (MonthRead (month (n - 1)) (cursor c))) (sym b) (month_read (month_number m.0 (omega (arith, m.1, w)))))),
+          subst (λ (c : ℕ). MonthReads s (Ok (month (n - 1), cursor c))) (sym b) (month_read (month_number m.0 (omega (arith, m.1, w)))))),
     )
 
 -- a letter
@@ -495,14 +484,14 @@ in_words [] s a = λ e. absurd (false≢true e)
 in_words (w ∷ ws) s a =
     let p = and-true (leb (length (ascii w.word)) 9 && are_small (ascii w.word)) _ a in
     let q = and-true (leb (length (ascii w.word)) 9) _ p.0 in
-    by-test (λ (m : OptionMonth). is_named m ≡ true → Lettered s) (same_letters (ascii w.word) s)
+    by-test (λ (m : Option Month). is_named m ≡ true → Lettered s) (same_letters (ascii w.word) s)
     (λ t _. let r = same-letters (ascii w.word) s q.1 t in (r.0, omega (arith, r.1, leb-true (length (ascii w.word)) 9 q.0)))
     (λ _ e. in_words ws s p.1 e)
 
-either-word : (a b : OptionMonth) {A : Type 0} → is_named (or_else a b) ≡ true → (is_named a ≡ true → A) → (is_named b ≡ true → A) → A
+either-word : (a b : Option Month) {A : Type 0} → is_named (or_else a b) ≡ true → (is_named a ≡ true → A) → (is_named b ≡ true → A) → A
 unfolding or_else is_named
-either-word (SomeMonth m) b e f g = f e
-either-word NoMonth b e f g = g e
+either-word (Some m) b e f g = f e
+either-word None b e f g = g e
 
 lettered : (s : List ℕ) → is_named (month_for s) ≡ true → Lettered s
 unfolding month_for get_month_for_name get_month_for_abbr
@@ -523,7 +512,7 @@ name-white x h = not_white x (omega (arith, h.low)) (omega (arith, h.high))
 name-numeric : (x : ℕ) → IsName x → in_class Numeric x ≡ false
 name-numeric x h = no-numeric x (omega (arith, h.high)) (above-digits x (omega (arith, h.low)))
 
-name-get : (s : List ℕ) → Each IsName s → month_field s ≡ MonthRead (month_for s) (cursor (length s))
+name-get : (s : List ℕ) → Each IsName s → month_field s ≡ Ok (month_for s, cursor (length s))
 unfolding month_field month_of named parse_unsigned_int run_at run_of admits part pick
 name-get s e =
     let f = from_start s in
@@ -536,10 +525,10 @@ name-get s e =
       take-length s,
     )
 
-says-name : (s : List ℕ) (m : OptionMonth) → month_for s ≡ m → is_named m ≡ true → MonthMeans s m
+says-name : (s : List ℕ) (m : Option Month) → month_for s ≡ m → is_named m ≡ true → MonthMeans s m
 unfolding is_named
-says-name s NoMonth e n = absurd (false≢true n)
-says-name s (SomeMonth m) e n = month_name e
+says-name s None e n = absurd (false≢true n)
+says-name s (Some m) e n = month_name e
 
 -- a name
 name-month : (s : List ℕ) → is_named (month_for s) ≡ true → Usual s × MonthReads s (month_field s)
@@ -558,9 +547,9 @@ month-reads s e h =
 -- ---- the day
 
 -- what is read of a day's cell: the day that it says, or none
-pub data DayReads (s : List ℕ) : ReadDayField → Type 0 where
-  day_read : {d : Day} → DayMeans s (SomeDay d) → DayReads s (Given d)
-  day_refused : {e : Refusal} → DayReads s (NotGiven e)
+pub data DayReads (s : List ℕ) : Result Day Refusal → Type 0 where
+  day_read : {d : Day} → DayMeans s (Some d) → DayReads s (Ok d)
+  day_refused : {e : Refusal} → DayReads s (Err e)
 
 digits-plain : (ds : List ℕ) → AreDigits ds → Plain (bytes ds)
 digits-plain [] h = tt
@@ -579,7 +568,7 @@ below_two (x ∷ []) a h = omega (arith, a.0)
 below_two (x ∷ y ∷ []) a h = omega (arith, a.0, a.1.0)
 below_two (x ∷ y ∷ z ∷ ds) a h = absurd (omega arith)
 
-day-get : (d : ℕ) (ds : List ℕ) (span : FileSpan) → AreDigits (d ∷ ds) → length ds < 2 → day_field (bytes (d ∷ ds)) span ≡ day_given span (Value (value 0 (d ∷ ds)))
+day-get : (d : ℕ) (ds : List ℕ) (span : FileSpan) → AreDigits (d ∷ ds) → length ds < 2 → day_field (bytes (d ∷ ds)) span ≡ day_given span (Some (value 0 (d ∷ ds)))
 unfolding day_field
 day-get d ds span a h = rw (digits-trim d ds a, parse-is d ds 255 a (omega (arith, below_two (d ∷ ds) a (omega arith))))
 
@@ -614,19 +603,19 @@ spelled (b ∷ t) a =
     let q = spelled t a.1 in
     (d.0 ∷ q.0, (d.1, q.1), ap (λ (x : ℕ). x ∷ bytes q.0) (sym d.2) ∙ ap (λ (l : List ℕ). b ∷ l) q.2)
 
-four-back : (ds : List ℕ) → AreDigits ds → length (bytes ds) ≡ 4 → get_year (bytes ds) ≡ Year (pos (decimal_value (bytes ds)))
+four-back : (ds : List ℕ) → AreDigits ds → length (bytes ds) ≡ 4 → get_year (bytes ds) ≡ Ok (pos (decimal_value (bytes ds)))
 four-back [] a l = absurd (omega arith)
 four-back (d ∷ ds) a l =
     let b = length-bytes ds in
-    digits-field d ds a (omega arith) (below (d ∷ ds) a (omega arith)) ∙ ap (λ (v : ℕ). Year (pos v)) (denotes (d ∷ ds) a).1
+    digits-field d ds a (omega arith) (below (d ∷ ds) a (omega arith)) ∙ ap (λ (v : ℕ). Ok (pos v)) (denotes (d ∷ ds) a).1
 
-minus-back : (ds : List ℕ) → AreDigits ds → length (bytes ds) ≡ 4 → get_year (45 ∷ bytes ds) ≡ Year (neg_ℤ (pos (decimal_value (bytes ds))))
+minus-back : (ds : List ℕ) → AreDigits ds → length (bytes ds) ≡ 4 → get_year (45 ∷ bytes ds) ≡ Ok (neg_ℤ (pos (decimal_value (bytes ds))))
 minus-back [] a l = absurd (omega arith)
 minus-back (d ∷ ds) a l =
     let b = length-bytes ds in
-    minus-get d ds a (omega arith) ∙ ap (λ (v : ℕ). Year (neg_ℤ (pos v))) (denotes (d ∷ ds) a).1
+    minus-get d ds a (omega arith) ∙ ap (λ (v : ℕ). Ok (neg_ℤ (pos v))) (denotes (d ∷ ds) a).1
 
-era-back : (ds : List ℕ) {t : List ℕ} {y : ℤ} → AreDigits ds → 0 < length (bytes ds) → length (bytes ds) ≤ 4 → 0 < decimal_value (bytes ds) → EraMeans (decimal_value (bytes ds)) t y → get_year (bytes ds ++ t) ≡ Year y
+era-back : (ds : List ℕ) {t : List ℕ} {y : ℤ} → AreDigits ds → 0 < length (bytes ds) → length (bytes ds) ≤ 4 → 0 < decimal_value (bytes ds) → EraMeans (decimal_value (bytes ds)) t y → get_year (bytes ds ++ t) ≡ Ok y
 unfolding pick
 era-back [] a l h p k = absurd (omega arith)
 era-back (d ∷ ds) {t} {y} a l h p k =
@@ -636,16 +625,16 @@ era-back (d ∷ ds) {t} {y} a l h p k =
     (era-value d ds a (omega arith) (subst (λ (v : ℕ). EraMeans v t y) (sym m) k)).1 ∙ rw (ne_eqb n 0 (λ (e : n ≡ 0). omega arith))
 
 -- a year that a cell says is the one that is read
-year-back : {s : List ℕ} {y : ℤ} → YearMeans s y → get_year s ≡ Year y
+year-back : {s : List ℕ} {y : ℤ} → YearMeans s y → get_year s ≡ Ok y
 year-back (four_digits {s} a l) =
     let q = spelled s a in
-    subst (λ (u : List ℕ). length u ≡ 4 → get_year u ≡ Year (pos (decimal_value u))) q.2 (four-back q.0 q.1) l
+    subst (λ (u : List ℕ). length u ≡ 4 → get_year u ≡ Ok (pos (decimal_value u))) q.2 (four-back q.0 q.1) l
 year-back (minus_digits {s} a l) =
     let q = spelled s a in
-    subst (λ (u : List ℕ). length u ≡ 4 → get_year (45 ∷ u) ≡ Year (neg_ℤ (pos (decimal_value u)))) q.2 (minus-back q.0 q.1) l
+    subst (λ (u : List ℕ). length u ≡ 4 → get_year (45 ∷ u) ≡ Ok (neg_ℤ (pos (decimal_value u)))) q.2 (minus-back q.0 q.1) l
 year-back (era_digits s {t} {y} a l h p k) =
     let q = spelled s a in
-    subst (λ (u : List ℕ). 0 < length u → length u ≤ 4 → 0 < decimal_value u → EraMeans (decimal_value u) t y → get_year (u ++ t) ≡ Year y) q.2
+    subst (λ (u : List ℕ). 0 < length u → length u ≤ 4 → 0 < decimal_value u → EraMeans (decimal_value u) t y → get_year (u ++ t) ≡ Ok y) q.2
     (era-back q.0 q.1) l h p k
 
 -- so it says one
@@ -663,16 +652,16 @@ unfolding decimal_value
 given-number [] e = absurd (omega arith)
 given-number (b ∷ s) e = omega arith
 
-number-name : (s : List ℕ) {m : Month} → AllDigits s → 0 < decimal_value s → month_for s ≡ SomeMonth m → ⊥
+number-name : (s : List ℕ) {m : Month} → AllDigits s → 0 < decimal_value s → month_for s ≡ Some m → ⊥
 unfolding is_named
 number-name s a e f = not-both s a (given-number s e) (lettered s (ap is_named f)).0
 
-no_name : {m : Month} → month_for [] ≡ SomeMonth m → ⊥
+no_name : {m : Month} → month_for [] ≡ Some m → ⊥
 unfolding month_for get_month_for_name get_month_for_abbr or_else month_in same_letters pick
 no_name e = let z : ◌≡◌ {A = ℕ} 0 1 = cc in omega arith
 
 -- a cell says one month
-pub one_month : {s : List ℕ} {x y : OptionMonth} → MonthMeans s x → MonthMeans s y → x ≡ y
+pub one_month : {s : List ℕ} {x y : Option Month} → MonthMeans s x → MonthMeans s y → x ≡ y
 one_month month_empty month_empty = refl
 one_month month_empty (month_number a e) = absurd (let g = given-number [] (omega arith) in omega arith)
 one_month month_empty (month_name e) = absurd (no_name e)
@@ -684,7 +673,7 @@ one_month (month_name e) (month_number {s} b f) = absurd (number-name s b (omega
 one_month (month_name e) (month_name f) = sym e ∙ f
 
 -- and one day
-pub one_day : {s : List ℕ} {x y : OptionDay} → DayMeans s x → DayMeans s y → x ≡ y
+pub one_day : {s : List ℕ} {x y : Option Day} → DayMeans s x → DayMeans s y → x ≡ y
 one_day day_empty day_empty = refl
 one_day day_empty (day_number a e) = absurd (let g = given-number [] (omega arith) in omega arith)
 one_day (day_number a e) day_empty = absurd (let g = given-number [] (omega arith) in omega arith)

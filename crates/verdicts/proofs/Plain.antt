@@ -9,8 +9,8 @@ use lib.ListN.{length, get_or, drop}
 use borrow.Author.Tests.{lt-ltb, le-ltb, eq-eqb, ne_eqb}
 use Rattle.chars.specs.Pick.{pick}
 use Rattle.dates.specs.declared.Date.{Date}
-use Rattle.refusals.specs.declared.ReadDate.{ReadDate}
-use Rattle.refusals.specs.declared.ReadDate.TheVariants.{Accepted, Refused}
+use Rattle.refusals.specs.declared.Refusal.{Refusal}
+use Rattle.std.specs.Prelude.{Result, Ok, Err}
 use Rattle.codes.specs.declared.Words.{Words}
 use Rattle.codes.specs.Words.{words_of}
 use Rattle.codes.proofs.Laws.{accepted-last, refused-last}
@@ -36,10 +36,10 @@ full-else [] n e = absurd (n refl)
 full-else (b ∷ s) n e = rw (ne_eqb b 45 e)
 
 -- whether a reader accepts is seen from its words
-pub by-words : {w : Words} (x : ReadDate) → w ≡ words_of x → ltb w.last 4294967296 ≡ is_accepted x
+pub by-words : {w : Words} (x : Result Date Refusal) → w ≡ words_of x → ltb w.last 4294967296 ≡ is_accepted x
 unfolding is_accepted
-by-words {w} (Accepted d) e = lt-ltb w.last 4294967296 (omega (arith, ap (λ (v : Words). v.last) e, accepted-last d))
-by-words {w} (Refused f) e = le-ltb w.last 4294967296 (omega (arith, ap (λ (v : Words). v.last) e, refused-last f))
+by-words {w} (Ok d) e = lt-ltb w.last 4294967296 (omega (arith, ap (λ (v : Words). v.last) e, accepted-last d))
+by-words {w} (Err f) e = le-ltb w.last 4294967296 (omega (arith, ap (λ (v : Words). v.last) e, refused-last f))
 
 -- a Date without a text is not strict
 pub none-strict : (d : Date) → written_text d ≡ [] → is_strict d ≡ false

@@ -11,8 +11,9 @@ use Rattle.chars.specs.Pick.{pick}
 use Rattle.chars.specs.Utf8.{first, decode_at}
 use Rattle.chars.proofs.Cases.{by-test}
 use Rattle.scanner.specs.Scan.{len_in, match_len, walk, eat_while, eat_if, part, run_at as scanned_at, next_run}
-use Rattle.refusals.specs.declared.ReadDate.{ReadDate}
-use Rattle.refusals.specs.declared.ReadDate.TheVariants.{Accepted}
+use Rattle.dates.specs.declared.Date.{Date}
+use Rattle.refusals.specs.declared.Refusal.{Refusal}
+use Rattle.std.specs.Prelude.{Result, Ok}
 use Rattle.codes.specs.declared.Words.{Words}
 use Rattle.codes.specs.Words.{words_of}
 use Rattle.codes.specs.Typed.{Typed}
@@ -54,9 +55,9 @@ module _ (s : List ℕ) (n : length s ≡ 0 → ⊥) where
   full-said {w} e h k =
       let l : w.last ≡ (words_of (parsed_strict s (cell_table s))).last = ap (λ (v : Words). v.last) e in
       let a = last-accepted (parsed_strict s (cell_table s)) (omega (arith, h, l)) in
-      let m : w.last ≡ (words_of (Accepted a.0)).last = l ∙ ap (λ (r : ReadDate). (words_of r).last) a.1 in
+      let m : w.last ≡ (words_of (Ok a.0)).last = l ∙ ap (λ (r : Result Date Refusal). (words_of r).last) a.1 in
       sym (asked ∙ point-full s a.1 (subst (λ (n : ℕ). n % 256 < 3) m k))
 
-  pub readers-said : {w : Words} {x y : ReadDate} {v : Verdict} → w ≡ words_of (parsed_strict s (cell_table s)) → Typed (parsed_strict s (cell_table s))
+  pub readers-said : {w : Words} {x y : Result Date Refusal} {v : Verdict} → w ≡ words_of (parsed_strict s (cell_table s)) → Typed (parsed_strict s (cell_table s))
       → x ≡ read_in w → y ≡ parsed s (cell_table s) → v ≡ by_readers x y → v ≡ date_verdict s
   readers-said e t f g h = h ∙ rw (f, e, read_back (parsed_strict s (cell_table s)) t, g) (sym asked)

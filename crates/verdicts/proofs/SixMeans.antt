@@ -15,30 +15,24 @@ use Rattle.scanner.specs.declared.Class.TheVariants.{Whitespace}
 use Rattle.scanner.specs.Scan.{eat_while}
 use Rattle.refusals.specs.declared.FileSpan.{FileSpan}
 use Rattle.refusals.specs.declared.Refusal.{Refusal}
-use Rattle.refusals.specs.declared.ReadDate.{ReadDate}
-use Rattle.refusals.specs.declared.ReadDate.TheVariants.{Accepted, Refused}
-use Rattle.dates.specs.declared.OptionMonth.{OptionMonth}
-use Rattle.dates.specs.declared.OptionDay.{OptionDay}
-use Rattle.dates.specs.declared.OptionTime.{OptionTime}
-use Rattle.dates.specs.declared.OptionTime.TheVariants.{NoTime}
-use Rattle.dates.specs.declared.OptionSeason.{OptionSeason}
+use Rattle.dates.specs.declared.Day.{Day}
+use Rattle.dates.specs.declared.Month.{Month}
+use Rattle.dates.specs.declared.Season.{Season}
+use Rattle.dates.specs.declared.Time.{Time}
+use Rattle.refusals.specs.declared.TextRefusal.{TextRefusal}
+use Rattle.scanner.specs.declared.Cursor.{Cursor}
+use Rattle.std.specs.Prelude.{Option, None, Result, Ok, Err}
 use Rattle.dates.specs.declared.Datetime.{Datetime}
 use Rattle.dates.specs.declared.DateValue.{DateValue}
 use Rattle.dates.specs.declared.DateValue.TheVariants.{At, After, Before, Between}
 use Rattle.dates.specs.declared.Date.{Date}
 use Rattle.dates.specs.Value.{datetime, date, from_datetime}
-use Rattle.chunks.specs.declared.Checked.TheVariants.{Clean}
 use Rattle.chunks.specs.Check.{checked, or_else}
 use Rattle.chunks.specs.Format.{is_break, formatted}
 use Rattle.chunks.specs.Plain.{all_ascii, plain_byte, plain_text}
 use Rattle.chunks.proofs.Answers.{plain-as-is}
 use Rattle.chunks.proofs.Plains.{other-out, plainly}
 use Rattle.datefield.specs.Text.{is_blank}
-use Rattle.fields.specs.declared.ReadYear.{ReadYear}
-use Rattle.fields.specs.declared.ReadMonth.{ReadMonth}
-use Rattle.fields.specs.declared.ReadDayField.{ReadDayField}
-use Rattle.reading_laws.specs.declared.Parts.{Parts}
-use Rattle.reading_laws.specs.declared.Parts.TheVariants.{PartsAre, NoParts}
 use Rattle.reading_laws.specs.Field.{on_clean}
 use Rattle.reading_laws.specs.Fields.{parts_checked, fields_checked, moved_year, year_of, on_month, inside_day, month_text, month_alone, field_day, month_and_day, parts_of, dated, on_year, read_fields, three_fields}
 use Rattle.roundtrip_laws.proofs.Bytes.{Each}
@@ -75,7 +69,7 @@ unfolding all_ascii
 printed-ascii nothing = refl
 printed-ascii (more {x} h e) = rw (lt-ltb x 0x80 h.high, printed-ascii e)
 
-as-it-is : (s : List ℕ) → Usual s → (checked s (cell_table s) ≡ Clean) × (formatted s (cell_table s) ≡ s)
+as-it-is : (s : List ℕ) → Usual s → (checked s (cell_table s) ≡ Ok tt) × (formatted s (cell_table s) ≡ s)
 as-it-is s u =
     let t = cell_table s in
     let p = plainly s t (record { four = refl; normal_kind = refl; whole = refl; small = omega (arith, u.short); ascii = printed-ascii u.printed }) in
@@ -84,31 +78,31 @@ as-it-is s u =
 -- ---- three cells
 
 -- what is read of the month's and the day's cells is what they say, or they are refused
-data PartsRead (m d : List ℕ) : Parts → Type 0 where
-  parts_read : {x : OptionMonth} {y : OptionDay} → MonthMeans m x → DayMeans d y → PartsRead m d (PartsAre x y)
-  parts_refused : {e : Refusal} → PartsRead m d (NoParts e)
+data PartsRead (m d : List ℕ) : Result (Option Month × Option Day) Refusal → Type 0 where
+  parts_read : {x : Option Month} {y : Option Day} → MonthMeans m x → DayMeans d y → PartsRead m d (Ok (x, y))
+  parts_refused : {e : Refusal} → PartsRead m d (Err e)
 
 -- and of all three
-data ThreeRead (c : Cells) : ReadDate → Type 0 where
-  three_read : (a : Datetime) → Means c a → ThreeRead c (Accepted (from_datetime a))
-  three_refused : {e : Refusal} → ThreeRead c (Refused e)
+data ThreeRead (c : Cells) : Result Date Refusal → Type 0 where
+  three_read : (a : Datetime) → Means c a → ThreeRead c (Ok (from_datetime a))
+  three_refused : {e : Refusal} → ThreeRead c (Err e)
 
-on-month : {m d : List ℕ} {r : ReadMonth} (go : OptionMonth → ℕ → Parts) → MonthReads m r → ((x : OptionMonth) → MonthMeans m x → PartsRead m d (go x (length m))) → PartsRead m d (on_month r go)
+on-month : {m d : List ℕ} {r : Result (Option Month × Cursor) TextRefusal} (go : Option Month → ℕ → Result (Option Month × Option Day) Refusal) → MonthReads m r → ((x : Option Month) → MonthMeans m x → PartsRead m d (go x (length m))) → PartsRead m d (on_month r go)
 unfolding on_month
 on-month go (month_read {m = x} k) f = f x k
 on-month go month_refused f = parts_refused
 
-field-day : {m d : List ℕ} {x : OptionMonth} {r : ReadDayField} → MonthMeans m x → DayReads d r → PartsRead m d (field_day x r)
+field-day : {m d : List ℕ} {x : Option Month} {r : Result Day Refusal} → MonthMeans m x → DayReads d r → PartsRead m d (field_day x r)
 unfolding field_day
 field-day k (day_read l) = parts_read k l
 field-day k day_refused = parts_refused
 
-dated-read : {c : Cells} {y : ℤ} {p : Parts} → YearMeans c.year y → PartsRead c.month c.day p → ThreeRead c (dated y p)
+dated-read : {c : Cells} {y : ℤ} {p : Result (Option Month × Option Day) Refusal} → YearMeans c.year y → PartsRead c.month c.day p → ThreeRead c (dated y p)
 unfolding dated
-dated-read {c} {y} k (parts_read {x = u} {y = v} l m) = three_read (datetime y u v NoTime) (record { year = k; month = l; day = m; time = refl; season = refl })
+dated-read {c} {y} k (parts_read {x = u} {y = v} l m) = three_read (datetime y u v None) (record { year = k; month = l; day = m; time = refl; season = refl })
 dated-read k parts_refused = three_refused
 
-on-year : {c : Cells} {r : ReadYear} {p : Parts} (span : FileSpan) → YearReads c.year r → PartsRead c.month c.day p → ThreeRead c (on_year (moved_year span r) (λ y. dated y p))
+on-year : {c : Cells} {r : Result ℤ TextRefusal} {p : Result (Option Month × Option Day) Refusal} (span : FileSpan) → YearReads c.year r → PartsRead c.month c.day p → ThreeRead c (on_year (moved_year span r) (λ y. dated y p))
 unfolding on_year moved_year
 on-year span (year_read k) l = dated-read k l
 on-year span year_refused l = three_refused
@@ -148,9 +142,9 @@ three-of c p = three-cells c.year c.month c.day p
 -- ---- six cells
 
 -- what is read of the six is what they say, or they are refused
-data SixReads (start end : Cells) : ReadDate → Type 0 where
-  reads_six : {v : DateValue} → MeansIn start end v → SixReads start end (Accepted (date v false false))
-  six_refused : {e : Refusal} → SixReads start end (Refused e)
+data SixReads (start end : Cells) : Result Date Refusal → Type 0 where
+  reads_six : {v : DateValue} → MeansIn start end v → SixReads start end (Ok (date v false false))
+  six_refused : {e : Refusal} → SixReads start end (Err e)
 
 none-given : (c : Cells) → length c.year ≡ 0 → behind_blank c ≡ false → some_given c ≡ false
 unfolding behind_blank is_blank
@@ -164,7 +158,7 @@ unfolding behind_blank some_given
 not_blank c g e = rw g at e
 
 module _ (start end : Cells) (q : Plainly end) (k : behind_blank end ≡ false) where
-  on-end : (a : Datetime) → Means start a → is_given end.year ≡ true → {r : ReadDate} → ThreeRead end r → SixReads start end (between a r)
+  on-end : (a : Datetime) → Means start a → is_given end.year ≡ true → {r : Result Date Refusal} → ThreeRead end r → SixReads start end (between a r)
   unfolding between on_three single unmarked
   on-end a m g (three_read b n) = reads_six {v = Between a b} (g, m, n)
   on-end a m g three_refused = six_refused
@@ -178,7 +172,7 @@ module _ (start end : Cells) (q : Plainly end) (k : behind_blank end ≡ false) 
       rw (g, u.0, u.1, not_blank end g k) (on-end a m g (three-of end q)))
       (λ g. rw g (reads_six {v = At a} (none-given end (omega (arith, ltb-false 0 (length end.year) g)) k, m)))
 
-  on-start : {r : ReadDate} → ThreeRead start r → SixReads start end (on_three r (λ a. with_end a (is_given end.year) (fields_of end)))
+  on-start : {r : Result Date Refusal} → ThreeRead start r → SixReads start end (on_three r (λ a. with_end a (is_given end.year) (fields_of end)))
   unfolding on_three single
   on-start (three_read a m) = with-end a m
   on-start three_refused = six_refused
@@ -198,14 +192,14 @@ plainly-of c e f =
     let q = and-true (is_plain_month c.month) _ p.1 in
     record { year = p.0; month = q.0; day = q.1; beside = f }
 
-of-read : {start end : Cells} {d : Date} → SixReads start end (Accepted d) → (v : DateValue) × (d ≡ date v false false) × MeansIn start end v
+of-read : {start end : Cells} {d : Date} → SixReads start end (Ok d) → (v : DateValue) × (d ≡ date v false false) × MeansIn start end v
 of-read (reads_six {v} m) = (v, refl, m)
 
 -- ---- the theorems
 
 -- A Date was read of cells that are full, and it is what they say: years, months and days by their numbers or names, nothing where a cell is
 -- empty, an end if there is one, and no mark.
-pub full-means : (start end : Cells) → six_verdict start end ≡ Full → (v : DateValue) × (six_read start end ≡ Accepted (date v false false)) × MeansIn start end v
+pub full-means : (start end : Cells) → six_verdict start end ≡ Full → (v : DateValue) × (six_read start end ≡ Ok (date v false false)) × MeansIn start end v
 unfolding is_unread both_plain
 full-means start end e =
     let p = (six-full start end).0 e in
@@ -215,11 +209,11 @@ full-means start end e =
     let w = and-true (are_plain start) _ p.2 in
     let r = six-reads start end (plainly-of start w.0 u.0) (plainly-of end w.1 v.1) v.0 in
     let o = of-read (subst (SixReads start end) s.read r) in
-    (o.0, s.read ∙ ap Accepted o.1, o.2)
+    (o.0, s.read ∙ ap Ok o.1, o.2)
 
 -- ---- six cells say one thing
 
-abbrev whole : ℤ → OptionMonth → OptionDay → OptionTime → OptionSeason → Datetime
+abbrev whole : ℤ → Option Month → Option Day → Option Time → Option Season → Datetime
 whole y m d t s = record { year = y; month = m; day = d; time = t; season = s }
 
 one-datetime : {c : Cells} {a b : Datetime} → Means c a → Means c b → a ≡ b

@@ -17,14 +17,13 @@ use Rattle.chars.proofs.Spelled.{entries}
 use Rattle.scanner.specs.Class.{in_class}
 use Rattle.scanner.specs.Scan.{len_in, match_len, walk, eat_while, eat_if, stands_at, part, run_at, next_run}
 use Rattle.numbers.specs.declared.Digits.TheVariants.{Two}
-use Rattle.numbers.specs.declared.ReadInt.{ReadInt}
-use Rattle.numbers.specs.declared.ReadInt.TheVariants.{Int, NoInt, IntPanics}
+use Rattle.numbers.specs.declared.NoNumber.{NoNumber}
+use Rattle.numbers.specs.declared.NoNumber.TheVariants.{Panics, Wrong}
+use Rattle.refusals.specs.declared.Refusal.{Refusal}
+use Rattle.scanner.specs.declared.Cursor.{Cursor}
+use Rattle.std.specs.Prelude.{Result, Ok, Err, ℤ}
 use Rattle.numbers.specs.Number.{admits, run_of, or_kept, behind_sign, with_sign, signed_at, signed_run, int_of, parse_int}
-use Rattle.refusals.specs.declared.ReadDate.{ReadDate}
-use Rattle.refusals.specs.declared.ReadDate.TheVariants.{Accepted}
 use Rattle.dates.specs.declared.Date.{Date}
-use Rattle.chunks.specs.declared.Checked.{Checked}
-use Rattle.chunks.specs.declared.Checked.TheVariants.{Clean, Faulty}
 use Rattle.chunks.specs.Characters.{codes}
 use Rattle.chunks.specs.Chunks.{chunks_of}
 use Rattle.chunks.specs.Check.{fault_of, checked}
@@ -46,7 +45,7 @@ use Rattle.verdicts.proofs.Cut.{Cut, text-cut, spells-front, before-cut, behind-
 -- ---- the reader's text, by codes
 
 -- a cell without a fault is the bytes of codes, as a Verbatim chunk of it shows
-proper-cell : (s : List ℕ) → checked s (cell_table s) ≡ Clean → Proper s
+proper-cell : (s : List ℕ) → checked s (cell_table s) ≡ Ok tt → Proper s
 unfolding chunks_of fault_of formatted chunks_out chunk_out pick
 proper-cell s h =
     let p = proper-text s (1 ∷ length s ∷ 0 ∷ length s ∷ []) (clean-faultless s (cell_table s) h) in
@@ -64,11 +63,11 @@ upper-cell {cs} p =
 
 -- ---- what the reader puts, in the words of what is said of a cell
 
-short-two : (r : ReadInt) → is_int (windowed_int r) ≡ is_int r
+short-two : (r : Result (ℤ × Cursor) NoNumber) → is_int (windowed_int r) ≡ is_int r
 unfolding is_int windowed_int
-short-two (Int y c) = refl
-short-two (NoInt c) = refl
-short-two IntPanics = refl
+short-two (Ok (y, c)) = refl
+short-two (Err (Wrong c)) = refl
+short-two (Err Panics) = refl
 
 -- a short year is one of two digits
 pub point-two : (s : List ℕ) → puts_point s ≡ begins_two s
@@ -239,24 +238,24 @@ module _ (cs : List ℕ) (p : Spells cs) where
 
 -- Of every cell that passes the checks it is said that a year of two digits is put into a century exactly if the ported reader, as it takes
 -- the text apart, puts one there: a short year of the point, or of a half that is not open, and no X in the text.
-pub windowed-clean : (s : List ℕ) → checked s (cell_table s) ≡ Clean → is_windowed s ≡ puts_year (text_read s)
+pub windowed-clean : (s : List ℕ) → checked s (cell_table s) ≡ Ok tt → is_windowed s ≡ puts_year (text_read s)
 windowed-clean s h =
     let p = proper-cell s h in
     subst (λ (t : List ℕ). is_windowed t ≡ puts_year (text_read t)) (sym p.is) (cell-says p.chars p.spells ∙ sym (text_says p.chars p.spells))
 
 -- And a cell has an X, large or small, exactly if that text has an X.
-pub x-clean : (s : List ℕ) → checked s (cell_table s) ≡ Clean → has_x s ≡ stands 0x58 (text_read s)
+pub x-clean : (s : List ℕ) → checked s (cell_table s) ≡ Ok tt → has_x s ≡ stands 0x58 (text_read s)
 x-clean s h =
     let p = proper-cell s h in
     subst (λ (t : List ℕ). has_x t ≡ stands 0x58 (text_read t)) (sym p.is) (x-codes p.chars p.spells)
 
 -- what was accepted passed the checks
-pub of-clean : (k : Checked) {r : ReadDate} {d : Date} → on_clean k r ≡ Accepted d → (k ≡ Clean) × (r ≡ Accepted d)
+pub of-clean : (k : Result (Unit {0}) Refusal) {r : Result Date Refusal} {d : Date} → on_clean k r ≡ Ok d → (k ≡ Ok tt) × (r ≡ Ok d)
 unfolding on_clean
-of-clean Clean e = (refl, e)
-of-clean (Faulty f) e = absurd (let z : ◌≡◌ {A = ℕ} 0 1 = cc in omega arith)
+of-clean (Ok tt) e = (refl, e)
+of-clean (Err f) e = absurd (let z : ◌≡◌ {A = ℕ} 0 1 = cc in omega arith)
 
 -- So of every cell that the ported reader accepts it is said exactly if that reader put a year of it into the window.
-pub windowed-exactly : (s : List ℕ) {d : Date} → parsed s (cell_table s) ≡ Accepted d → is_windowed s ≡ puts_year (text_read s)
+pub windowed-exactly : (s : List ℕ) {d : Date} → parsed s (cell_table s) ≡ Ok d → is_windowed s ≡ puts_year (text_read s)
 unfolding parsed
 windowed-exactly s e = windowed-clean s (of-clean (checked s (cell_table s)) e).0

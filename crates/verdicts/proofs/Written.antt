@@ -9,22 +9,17 @@ use borrow.Author.Tests.{ne_eqb}
 use lib.ListN.{length}
 use Rattle.chars.specs.Pick.{pick}
 use Rattle.chars.proofs.Cases.{by-test}
-use Rattle.dates.specs.declared.OptionMonth.{OptionMonth}
-use Rattle.dates.specs.declared.OptionMonth.TheVariants.{NoMonth, SomeMonth}
-use Rattle.dates.specs.declared.OptionDay.{OptionDay}
-use Rattle.dates.specs.declared.OptionDay.TheVariants.{NoDay, SomeDay}
+use Rattle.dates.specs.declared.Day.{Day}
+use Rattle.dates.specs.declared.Month.{Month}
+use Rattle.refusals.specs.declared.Refusal.{Refusal}
+use Rattle.std.specs.Prelude.{Option, Some, None, Result, Ok, Err}
 use Rattle.dates.specs.declared.Datetime.{Datetime}
 use Rattle.dates.specs.declared.DateValue.{DateValue}
 use Rattle.dates.specs.declared.DateValue.TheVariants.{At, After, Before, Between}
 use Rattle.dates.specs.declared.Date.{Date}
 use Rattle.dates.specs.Value.{any_season}
 use Rattle.dates.proofs.Ends.{no_end}
-use Rattle.refusals.specs.declared.ReadDate.{ReadDate}
-use Rattle.refusals.specs.declared.ReadDate.TheVariants.{Accepted, Refused}
-use Rattle.chunks.specs.declared.Checked.{Checked}
-use Rattle.chunks.specs.declared.Checked.TheVariants.{Clean, Faulty}
 use Rattle.chunks.specs.Lent.{Three, check_of}
-use Rattle.puts.specs.declared.Measured.TheVariants.{Length}
 use Rattle.puts.specs.Answers.{measured}
 use Rattle.writer.specs.Answers.{date_measured}
 use Rattle.writer.specs.Sizes.{MonthUnder, DayUnder, Narrow, NarrowEnds}
@@ -44,11 +39,11 @@ use Rattle.verdicts.proofs.Exactly.{not-strict, short-year, six-not-strict}
 
 -- ---- what is narrow has a text
 
-parts-calm : (m : OptionMonth) (d : OptionDay) → MonthUnder 99 m → DayUnder 99 d → too_large (month_parts m d) ≡ false
+parts-calm : (m : Option Month) (d : Option Day) → MonthUnder 99 m → DayUnder 99 d → too_large (month_parts m d) ≡ false
 unfolding month_parts day_parts too_large pick
-parts-calm NoMonth d h k = refl
-parts-calm (SomeMonth m) NoDay h k = rw (ne_eqb m.0 255 (λ (e : m.0 ≡ 255). omega arith))
-parts-calm (SomeMonth m) (SomeDay d) h k =
+parts-calm None d h k = refl
+parts-calm (Some m) None h k = rw (ne_eqb m.0 255 (λ (e : m.0 ≡ 255). omega arith))
+parts-calm (Some m) (Some d) h k =
     rw (ne_eqb m.0 255 (λ (e : m.0 ≡ 255). omega arith), ne_eqb d.0 255 (λ (e : d.0 ≡ 255). omega arith))
 
 end-calm : (d : Datetime) → Narrow d → end_panics d ≡ false
@@ -68,7 +63,7 @@ pub record HasText (d : Date) : Type 0 where
   -- the text is short
   pub short : length (date_text d) ≤ 24
   -- the writer measures it
-  pub measures : date_measured d (date_text d) ≡ Length (length (date_text d))
+  pub measures : date_measured d (date_text d) ≡ Ok (length (date_text d))
 
 has-text : (d : Date) → any_season d.value ≡ false → NarrowEnds d.value → HasText d
 unfolding measured pick
@@ -82,9 +77,9 @@ has-text d e w =
 
 -- ---- six fields are narrow
 
-abbrev NarrowRead : ReadDate → Type 0
-NarrowRead (Accepted d) = NarrowEnds d.value
-NarrowRead (Refused e) = Unit {0}
+abbrev NarrowRead : Result Date Refusal → Type 0
+NarrowRead (Ok d) = NarrowEnds d.value
+NarrowRead (Err e) = Unit {0}
 
 single-narrow : (v : DateValue) → NarrowEnds v → Narrow (single v)
 unfolding single
@@ -93,16 +88,16 @@ single-narrow (After a) w = w
 single-narrow (Before a) w = w
 single-narrow (Between a b) w = w.0
 
-on-three : (r : ReadDate) → ((d : Date) → r ≡ Accepted d → NarrowEnds d.value) → (go : Datetime → ReadDate) → ((a : Datetime) → Narrow a → NarrowRead (go a)) → NarrowRead (on_three r go)
+on-three : (r : Result Date Refusal) → ((d : Date) → r ≡ Ok d → NarrowEnds d.value) → (go : Datetime → Result Date Refusal) → ((a : Datetime) → Narrow a → NarrowRead (go a)) → NarrowRead (on_three r go)
 unfolding on_three
-on-three (Accepted d) w go f = f (single d.value) (single-narrow d.value (w d refl))
-on-three (Refused e) w go f = tt
+on-three (Ok d) w go f = f (single d.value) (single-narrow d.value (w d refl))
+on-three (Err e) w go f = tt
 
-on-end : (c : Checked) (white : Bool) (opened closed : ReadDate) → NarrowRead opened → NarrowRead closed → NarrowRead (on_end_year (judged c white) opened closed)
+on-end : (c : Result (Unit {0}) Refusal) (white : Bool) (opened closed : Result Date Refusal) → NarrowRead opened → NarrowRead closed → NarrowRead (on_end_year (judged c white) opened closed)
 unfolding on_end_year judged pick
-on-end Clean true opened closed h k = h
-on-end Clean false opened closed h k = k
-on-end (Faulty e) white opened closed h k = tt
+on-end (Ok tt) true opened closed h k = h
+on-end (Ok tt) false opened closed h k = k
+on-end (Err e) white opened closed h k = tt
 
 with-end : (has : Bool) (end : Three) (a : Datetime) → Narrow a → NarrowRead (with_end a has end)
 unfolding with_end end_year_of between unmarked
@@ -111,7 +106,7 @@ with-end has end a w =
     (λ _. on-end (check_of end.year) (blank end.year) _ _ w (on-three (three_fields end) (λ d e. three-narrow end e) _ λ b v. (w, v)))
     (λ _. w)
 
-six-narrow : (start : Three) (has : Bool) (end : Three) {d : Date} → six_fields start has end ≡ Accepted d → NarrowEnds d.value
+six-narrow : (start : Three) (has : Bool) (end : Three) {d : Date} → six_fields start has end ≡ Ok d → NarrowEnds d.value
 unfolding six_fields
 six-narrow start has end e = subst NarrowRead e (on-three (three_fields start) (λ d h. three-narrow start h) _ λ a w. with-end has end a w)
 
@@ -124,7 +119,7 @@ date-has-text s d e =
     has-text d (ported-none _ _ p) (parsed-narrow _ _ p)
 
 -- of six cells that are read,
-six-text : (start end : Cells) (d : Date) → six_read start end ≡ Accepted d → HasText d
+six-text : (start end : Cells) (d : Date) → six_read start end ≡ Ok d → HasText d
 unfolding six_read
 six-text start end d p = has-text d (six-none _ _ _ p) (six-narrow _ _ _ p)
 

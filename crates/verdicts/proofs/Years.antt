@@ -10,47 +10,30 @@ use lib.IntN.{ℤ}
 use Rattle.chars.specs.Pick.{pick}
 use Rattle.chars.proofs.Cases.{by-test, of_test}
 use Rattle.scanner.specs.declared.Class.TheVariants.{Whitespace, Is}
-use Rattle.scanner.specs.declared.EatIf.{EatIf}
-use Rattle.scanner.specs.declared.EatIf.TheVariants.{Past, Kept}
+use Rattle.dates.specs.declared.Day.{Day}
+use Rattle.dates.specs.declared.Time.{Time}
+use Rattle.numbers.specs.declared.NoNumber.{NoNumber}
+use Rattle.numbers.specs.declared.NoNumber.TheVariants.{Panics, Wrong}
+use Rattle.scanner.specs.declared.Cursor.{Cursor}
+use Rattle.std.specs.Prelude.{Option, Some, None, Result, Ok, Err}
 use Rattle.scanner.specs.Scan.{eat_while, eat_if}
 use Rattle.refusals.specs.declared.FileSpan.{FileSpan}
 use Rattle.refusals.specs.Offset.{offset, offset_second}
 use Rattle.refusals.specs.declared.Refusal.{Refusal}
 use Rattle.refusals.specs.declared.TextRefusal.{TextRefusal}
-use Rattle.refusals.specs.declared.ReadDate.TheVariants.{Accepted}
 use Rattle.numbers.specs.declared.Digits.TheVariants.{Two, Four}
-use Rattle.numbers.specs.declared.ReadInt.{ReadInt}
-use Rattle.numbers.specs.declared.ReadInt.TheVariants.{Int, NoInt, IntPanics}
 use Rattle.numbers.specs.Number.{parse_int}
 use Rattle.dates.specs.Value.{datetime, date, day}
 use Rattle.dates.specs.declared.Month.{Month}
-use Rattle.dates.specs.declared.OptionMonth.{OptionMonth}
-use Rattle.dates.specs.declared.OptionMonth.TheVariants.{NoMonth, SomeMonth}
-use Rattle.dates.specs.declared.OptionDay.{OptionDay}
-use Rattle.dates.specs.declared.OptionDay.TheVariants.{NoDay}
-use Rattle.dates.specs.declared.OptionTime.TheVariants.{NoTime, SomeTime}
 use Rattle.dates.specs.declared.Date.{Date}
 use Rattle.dates.specs.declared.Datetime.{Datetime}
 use Rattle.dates.specs.declared.DateValue.{DateValue}
 use Rattle.dates.specs.declared.DateValue.TheVariants.{At, After, Before, Between}
-use Rattle.chunks.specs.declared.Checked.TheVariants.{Clean}
 use Rattle.chunks.specs.Chunks.{chunks_of, span_of}
 use Rattle.chunks.specs.Check.{checked}
 use Rattle.points.specs.Step.{month_at, day_at, hyphen_at, on_part, on_separator, or_end}
 use Rattle.points.specs.Point.{windowed, windowed_int, short_year, long_of, long_year, short_or, year_at, on_year, with_time, time_or, behind_day, behind_month, behind_year, point}
 use Rattle.points.specs.Time.{time_at}
-use Rattle.points.specs.declared.ReadPoint.{ReadPoint}
-use Rattle.points.specs.declared.ReadPoint.TheVariants.{Point, Refused}
-use Rattle.points.specs.declared.ReadPart.{ReadPart}
-use Rattle.points.specs.declared.ReadPart.TheVariants.{Stored, NoPart}
-use Rattle.points.specs.declared.ReadSeparator.{ReadSeparator}
-use Rattle.points.specs.declared.ReadSeparator.TheVariants.{Passed, Missing}
-use Rattle.points.specs.declared.ReadTime.{ReadTime}
-use Rattle.points.specs.declared.ReadTime.TheVariants.{Clock, NoClock}
-use Rattle.datefield.specs.declared.ReadHalf.{ReadHalf}
-use Rattle.datefield.specs.declared.ReadHalf.TheVariants.{Half, NoHalf}
-use Rattle.datefield.specs.declared.ReadValue.{ReadValue}
-use Rattle.datefield.specs.declared.ReadValue.TheVariants.{Read, NoValue}
 use Rattle.datefield.specs.Text.{first_of, is_open}
 use Rattle.datefield.specs.Value as field
 use Rattle.reading_laws.specs.Field.{parsed}
@@ -64,51 +47,51 @@ use Rattle.verdicts.proofs.Windowed.{or-none, point-two, windowed-clean, x-clean
 -- ---- a point has the year that it begins with
 
 -- what is read of a point has this year, or is refused
-data HasYear (y : ℤ) : ReadPoint → Type 0 where
-  has_year : {d : Datetime} → d.year ≡ y → HasYear y (Point d)
-  refused : {e : TextRefusal} → HasYear y (Refused e)
+data HasYear (y : ℤ) : Result Datetime TextRefusal → Type 0 where
+  has_year : {d : Datetime} → d.year ≡ y → HasYear y (Ok d)
+  refused : {e : TextRefusal} → HasYear y (Err e)
 
 module _ (y : ℤ) where
-  or-end : (s : List ℕ) (at : ℕ) {r : ReadPoint} {go : ℕ → ReadPoint} → HasYear y r → ((a : ℕ) → HasYear y (go a)) → HasYear y (or_end s at r go)
+  or-end : (s : List ℕ) (at : ℕ) {r : Result Datetime TextRefusal} {go : ℕ → Result Datetime TextRefusal} → HasYear y r → ((a : ℕ) → HasYear y (go a)) → HasYear y (or_end s at r go)
   unfolding or_end
   or-end s at e g = by-test (HasYear y) _ (λ _. e) (λ _. g (eat_while Whitespace s at))
 
-  on-separator : (r : ReadSeparator) {go : ℕ → ReadPoint} → ((a : ℕ) → HasYear y (go a)) → HasYear y (on_separator Refused r go)
+  on-separator : (r : Result Cursor TextRefusal) {go : ℕ → Result Datetime TextRefusal} → ((a : ℕ) → HasYear y (go a)) → HasYear y (on_separator Err r go)
   unfolding on_separator
-  on-separator (Passed c) g = g c.0
-  on-separator (Missing e) g = refused
+  on-separator (Ok c) g = g c.0
+  on-separator (Err e) g = refused
 
-  on-part : (r : ReadPart) {go : ℕ → ℕ → ReadPoint} → ((v a : ℕ) → HasYear y (go v a)) → HasYear y (on_part Refused r go)
+  on-part : (r : Result (ℕ × Cursor) TextRefusal) {go : ℕ → ℕ → Result Datetime TextRefusal} → ((v a : ℕ) → HasYear y (go v a)) → HasYear y (on_part Err r go)
   unfolding on_part
-  on-part (Stored v c) g = g v c.0
-  on-part (NoPart e) g = refused
+  on-part (Ok (v, c)) g = g v c.0
+  on-part (Err e) g = refused
 
-  with-time : (m : OptionMonth) (d : OptionDay) (r : ReadTime) → HasYear y (with_time y m d r)
+  with-time : (m : Option Month) (d : Option Day) (r : Result Time TextRefusal) → HasYear y (with_time y m d r)
   unfolding with_time
-  with-time m d (Clock t) = has_year {d = datetime y m d (SomeTime t)} refl
-  with-time m d (NoClock e) = refused
+  with-time m d (Ok t) = has_year {d = datetime y m d (Some t)} refl
+  with-time m d (Err e) = refused
 
-  time-or : (s : List ℕ) (a : ℕ) (m : OptionMonth) (d : OptionDay) (r : EatIf) → HasYear y (time_or s a y m d r)
+  time-or : (s : List ℕ) (a : ℕ) (m : Option Month) (d : Option Day) (r : Option Cursor) → HasYear y (time_or s a y m d r)
   unfolding time_or
-  time-or s a m d (Past c) = with-time m d (time_at s c.0)
-  time-or s a m d Kept = refused
+  time-or s a m d (Some c) = with-time m d (time_at s c.0)
+  time-or s a m d None = refused
 
-  behind-day : (s : List ℕ) (at : ℕ) (m : OptionMonth) (d : OptionDay) → HasYear y (behind_day s at y m d)
+  behind-day : (s : List ℕ) (at : ℕ) (m : Option Month) (d : Option Day) → HasYear y (behind_day s at y m d)
   unfolding behind_day
-  behind-day s at m d = or-end s at (has_year {d = datetime y m d NoTime} refl) λ a. time-or s a m d (eat_if (Is 0x54) s a)
+  behind-day s at m d = or-end s at (has_year {d = datetime y m d None} refl) λ a. time-or s a m d (eat_if (Is 0x54) s a)
 
   behind-month : (s : List ℕ) (at : ℕ) (m : Month) → HasYear y (behind_month s at y m)
   unfolding behind_month
   behind-month s at m =
-      or-end s at (has_year {d = datetime y (SomeMonth m) NoDay NoTime} refl) λ a.
+      or-end s at (has_year {d = datetime y (Some m) None None} refl) λ a.
       on-separator (hyphen_at s a) λ b.
       on-part (day_at s b) λ d next.
-      by-test (HasYear y) _ (λ _. behind-day s next (SomeMonth m) (day d)) (λ _. refused)
+      by-test (HasYear y) _ (λ _. behind-day s next (Some m) (day d)) (λ _. refused)
 
   behind-year : (s : List ℕ) (at : ℕ) → HasYear y (behind_year s at y)
   unfolding behind_year
   behind-year s at =
-      or-end s at (has_year {d = datetime y NoMonth NoDay NoTime} refl) λ a.
+      or-end s at (has_year {d = datetime y None None None} refl) λ a.
       on-separator (hyphen_at s a) λ b.
       on-part (month_at s b) λ m next.
       behind-month s next (record { 0 = m })
@@ -128,11 +111,11 @@ unfolding is_int begins_two
 four-kept {s} (four e) = of_test (puts_point s) (λ t. absurd (not-both s (sym (point-two s) ∙ t) (rw e))) (λ t. t)
 
 -- so it is with a point,
-data Pointed (s : List ℕ) : ReadPoint → Type 0 where
-  pointed : {d : Datetime} → OfDigits s d.year → Pointed s (Point d)
-  unpointed : {e : TextRefusal} → Pointed s (Refused e)
+data Pointed (s : List ℕ) : Result Datetime TextRefusal → Type 0 where
+  pointed : {d : Datetime} → OfDigits s d.year → Pointed s (Ok d)
+  unpointed : {e : TextRefusal} → Pointed s (Err e)
 
-of-year : (s : List ℕ) {y : ℤ} {r : ReadPoint} → OfDigits s y → HasYear y r → Pointed s r
+of-year : (s : List ℕ) {y : ℤ} {r : Result Datetime TextRefusal} → OfDigits s y → HasYear y r → Pointed s r
 of-year s g (has_year e) = pointed (subst (OfDigits s) (sym e) g)
 of-year s g refused = unpointed
 
@@ -150,13 +133,13 @@ of_four s f =
       kept = (λ _. f, four-kept);
     }
 
-by-years : (s : List ℕ) (a b : ReadInt) → parse_int s 0 Two ≡ a → parse_int s 0 Four ≡ b → Pointed s (on_year (short_or (windowed_int a) (long_of 0 b)) (λ y next. behind_year s next y))
+by-years : (s : List ℕ) (a b : Result (ℤ × Cursor) NoNumber) → parse_int s 0 Two ≡ a → parse_int s 0 Four ≡ b → Pointed s (on_year (short_or (windowed_int a) (long_of 0 b)) (λ y next. behind_year s next y))
 unfolding on_year short_or windowed_int long_of
-by-years s (Int v c) b e f = of-year s (of_two s (two e)) (behind-year (windowed v) s c.0)
-by-years s (NoInt c) (Int y n) e f = of-year s (of_four s (four f)) (behind-year y s n.0)
-by-years s (NoInt c) (NoInt n) e f = unpointed
-by-years s (NoInt c) IntPanics e f = unpointed
-by-years s IntPanics b e f = unpointed
+by-years s (Ok (v, c)) b e f = of-year s (of_two s (two e)) (behind-year (windowed v) s c.0)
+by-years s (Err (Wrong c)) (Ok (y, n)) e f = of-year s (of_four s (four f)) (behind-year y s n.0)
+by-years s (Err (Wrong c)) (Err (Wrong n)) e f = unpointed
+by-years s (Err (Wrong c)) (Err Panics) e f = unpointed
+by-years s (Err Panics) b e f = unpointed
 
 point-digits : (s : List ℕ) → Pointed s (point s)
 unfolding point year_at short_year long_year
@@ -165,11 +148,11 @@ point-digits s = by-years s (parse_int s 0 Two) (parse_int s 0 Four) refl refl
 -- ---- a range has the years of its halves
 
 -- with a half,
-data Halved (s : List ℕ) : ReadHalf → Type 0 where
-  halved : {d : Datetime} → OfDigits s d.year → Halved s (Half d)
-  unhalved : {e : Refusal} → Halved s (NoHalf e)
+data Halved (s : List ℕ) : Result Datetime Refusal → Type 0 where
+  halved : {d : Datetime} → OfDigits s d.year → Halved s (Ok d)
+  unhalved : {e : Refusal} → Halved s (Err e)
 
-moved-half : {s : List ℕ} {r : ReadPoint} (by : TextRefusal → Refusal) → Pointed s r → Halved s (field.moved r by)
+moved-half : {s : List ℕ} {r : Result Datetime TextRefusal} (by : TextRefusal → Refusal) → Pointed s r → Halved s (field.moved r by)
 unfolding field.moved
 moved-half by (pointed g) = halved g
 moved-half by unpointed = unhalved
@@ -180,26 +163,26 @@ record Told (put : Bool) (s : List ℕ) (v : DateValue) : Type 0 where
   each : (put ≡ false) ↔ EachYear FourDigits s v
 
 -- and with what is read of the text
-data Valued (put : Bool) (s : List ℕ) : ReadValue → Type 0 where
-  valued : {v : DateValue} → Told put s v → Valued put s (Read v)
-  unvalued : {e : Refusal} → Valued put s (NoValue e)
+data Valued (put : Bool) (s : List ℕ) : Result DateValue Refusal → Type 0 where
+  valued : {v : DateValue} → Told put s v → Valued put s (Ok v)
+  unvalued : {e : Refusal} → Valued put s (Err e)
 
 or-true : (a b : Bool) → b ≡ true → a || b ≡ true
 or-true true b e = refl
 or-true false b e = e
 
 module _ (s : List ℕ) where
-  at-valued : {r : ReadHalf} → Halved s r → Valued (puts_point s) s (field.on_half r λ d. Read (At d))
+  at-valued : {r : Result Datetime Refusal} → Halved s r → Valued (puts_point s) s (field.on_half r λ d. Ok (At d))
   unfolding field.on_half
   at-valued (halved {d} g) = valued {v = At d} (record { some = g.put; each = g.kept })
   at-valued unhalved = unvalued
 
-  after-valued : {r : ReadHalf} → Halved (half_before s) r → Valued (puts_point (half_before s)) s (field.on_half r λ a. Read (After a))
+  after-valued : {r : Result Datetime Refusal} → Halved (half_before s) r → Valued (puts_point (half_before s)) s (field.on_half r λ a. Ok (After a))
   unfolding field.on_half
   after-valued (halved {d} g) = valued {v = After d} (record { some = g.put; each = g.kept })
   after-valued unhalved = unvalued
 
-  before-valued : {r : ReadHalf} → Halved (half_behind s) r → Valued (puts_point (half_behind s)) s (field.on_half r λ b. Read (Before b))
+  before-valued : {r : Result Datetime Refusal} → Halved (half_behind s) r → Valued (puts_point (half_behind s)) s (field.on_half r λ b. Ok (Before b))
   unfolding field.on_half
   before-valued (halved {d} g) = valued {v = Before d} (record { some = g.put; each = g.kept })
   before-valued unhalved = unvalued
@@ -219,7 +202,7 @@ module _ (s : List ℕ) where
         );
       }
 
-  between-valued : {r q : ReadHalf} → Halved (half_before s) r → Halved (half_behind s) q → Valued (puts_point (half_before s) || puts_point (half_behind s)) s (field.on_half r λ a. field.on_half q λ b. Read (Between a b))
+  between-valued : {r q : Result Datetime Refusal} → Halved (half_before s) r → Halved (half_behind s) q → Valued (puts_point (half_before s) || puts_point (half_behind s)) s (field.on_half r λ a. field.on_half q λ b. Ok (Between a b))
   unfolding field.on_half
   between-valued (halved {d = a} g) (halved {d = b} h) = valued {v = Between a b} (between-told a b g h)
   between-valued (halved g) unhalved = unvalued
@@ -244,12 +227,12 @@ module _ (s : List ℕ) where
 -- ---- what was accepted
 
 -- the value of a Date that was accepted is the one that was read
-pub of-marked : (u a : Bool) (r : ReadValue) {d : Date} → field.marked u a r ≡ Accepted d → r ≡ Read d.value
+pub of-marked : (u a : Bool) (r : Result DateValue Refusal) {d : Date} → field.marked u a r ≡ Ok d → r ≡ Ok d.value
 unfolding field.marked
-of-marked u a (Read v) {d} e = let z : date v u a ≡ d = cc in ap (λ (x : Date). Read x.value) z
-of-marked u a (NoValue f) e = absurd (let z : ◌≡◌ {A = ℕ} 0 1 = cc in omega arith)
+of-marked u a (Ok v) {d} e = let z : date v u a ≡ d = cc in ap (λ (x : Date). Ok x.value) z
+of-marked u a (Err f) e = absurd (let z : ◌≡◌ {A = ℕ} 0 1 = cc in omega arith)
 
-of-valued : {b : Bool} {s : List ℕ} {v : DateValue} → Valued b s (Read v) → Told b s v
+of-valued : {b : Bool} {s : List ℕ} {v : DateValue} → Valued b s (Ok v) → Told b s v
 of-valued (valued t) = t
 
 no_x : (s : List ℕ) → puts_year s ≡ true → stands 0x58 s ≡ false
@@ -258,8 +241,8 @@ no_x s e = of_test (stands 0x58 s) (λ t. absurd (false≢true (rw t at e))) (λ
 
 -- ---- the theorems
 
-module _ (s : List ℕ) {d : Date} (e : parsed s (cell_table s) ≡ Accepted d) where
-  clean : checked s (cell_table s) ≡ Clean
+module _ (s : List ℕ) {d : Date} (e : parsed s (cell_table s) ≡ Ok d) where
+  clean : checked s (cell_table s) ≡ Ok tt
   unfolding parsed
   clean = (of-clean (checked s (cell_table s)) e).0
 

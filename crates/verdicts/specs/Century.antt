@@ -1,13 +1,12 @@
 -- When the ported reader puts a year of two digits into the window of a hundred years, and of which digits the years are that it reads.
 -- Each definition goes as the reader's own: `point` in `points/specs/Point.antt`, `halves` and `value` in `datefield/specs/Value.antt`.
 use Prim.Native.Char.{code}
-use Rattle.std.specs.Prelude.{ℕ, ◌+◌, ◌≡◌, Bool, false, ◌||◌, List, ◌⊎◌, ℤ, take, drop}
+use Rattle.std.specs.Prelude.{ℕ, ◌+◌, ◌≡◌, Bool, false, ◌||◌, List, ◌⊎◌, ℤ, take, drop, Ok}
 use Rattle.chars.specs.Pick.{pick}
 use Rattle.scanner.specs.declared.Cursor.{Cursor}
 use Rattle.dates.specs.declared.DateValue.{DateValue}
 use Rattle.dates.specs.declared.DateValue.TheVariants.{At, After, Before, Between}
 use Rattle.numbers.specs.declared.Digits.TheVariants.{Two, Four}
-use Rattle.numbers.specs.declared.ReadInt.TheVariants.{Int}
 use Rattle.numbers.specs.Number.{parse_int}
 use Rattle.chunks.specs.Format.{formatted}
 use Rattle.chunks.specs.Upper.{uppercase}
@@ -44,11 +43,11 @@ puts_year s =
 
 -- a text begins with two digits, behind white space and a sign or none, and the year is their number put into the window
 pub data TwoDigits (s : List ℕ) : ℤ → Type 0 where
-  two : {y : ℤ} {next : Cursor} → parse_int s 0 Two ≡ Int y next → TwoDigits s (windowed y)
+  two : {y : ℤ} {next : Cursor} → parse_int s 0 Two ≡ Ok (y, next) → TwoDigits s (windowed y)
 
 -- it begins with four digits likewise, and the year is their number as it is
 pub data FourDigits (s : List ℕ) : ℤ → Type 0 where
-  four : {y : ℤ} {next : Cursor} → parse_int s 0 Four ≡ Int y next → FourDigits s y
+  four : {y : ℤ} {next : Cursor} → parse_int s 0 Four ≡ Ok (y, next) → FourDigits s y
 
 -- what holds of the text and the year of every end: of a range an end's text is its half
 abbrev pub EachYear : (List ℕ → ℤ → Type 0) → List ℕ → DateValue → Type 0

@@ -1,10 +1,10 @@
 -- What is said of the six cells year, month, day, end year, end month and end day of a row.
-use Rattle.std.specs.Prelude.{ℕ, ◌-◌, Bool, not, ◌&&◌, ◌||◌, List, ltb, length}
+use Rattle.std.specs.Prelude.{ℕ, ◌-◌, Bool, not, ◌&&◌, ◌||◌, List, ltb, length, Result, Ok, Err}
 use Rattle.chars.specs.Pick.{pick}
 use Rattle.scanner.specs.declared.Class.TheVariants.{Whitespace, AsciiDigit}
 use Rattle.scanner.specs.Scan.{eat_while, done_at}
-use Rattle.refusals.specs.declared.ReadDate.{ReadDate}
-use Rattle.refusals.specs.declared.ReadDate.TheVariants.{Accepted, Refused as NotRead}
+use Rattle.dates.specs.declared.Date.{Date}
+use Rattle.refusals.specs.declared.Refusal.{Refusal}
 use Rattle.chunks.specs.Lent.{Optional, Three, lent, optional, three}
 use Rattle.numbers.specs.Number.{behind_sign}
 use Rattle.datefield.specs.Text.{is_blank}
@@ -56,7 +56,7 @@ abbrev pub fields_of : Cells → Three
 fields_of c = three (lent c.year (cell_table c.year)) (field_of c.month) (field_of c.day)
 
 -- what the reader of six fields says
-unfoldable pub six_read : Cells → Cells → ReadDate
+unfoldable pub six_read : Cells → Cells → Result Date Refusal
 six_read start end = six_fields (fields_of start) (is_given end.year) (fields_of end)
 
 -- one to three bytes from a place to another, and behind them white space alone
@@ -84,9 +84,9 @@ unfoldable pub both_plain : Cells → Cells → Bool
 both_plain start end = are_plain start && are_plain end
 
 -- what was read: a year is short; or it is full, if the cells are plain and its written text is strict
-unfoldable pub verdict_of : Bool → Bool → ReadDate → Verdict
-verdict_of short plain (Accepted d) = pick short (ShortYear d) (pick (plain && is_strict d) Full (NotStrict d))
-verdict_of short plain (NotRead e) = Refused e
+unfoldable pub verdict_of : Bool → Bool → Result Date Refusal → Verdict
+verdict_of short plain (Ok d) = pick short (ShortYear d) (pick (plain && is_strict d) Full (NotStrict d))
+verdict_of short plain (Err e) = Refused e
 
 -- what the reader of six fields says
 unfoldable pub read_verdict : Cells → Cells → Verdict

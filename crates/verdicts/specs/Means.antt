@@ -1,14 +1,9 @@
 -- What plain cells say: the year, the month and the day by their numbers or names, and the date that six cells are.
 use Prim.Native.Char.{code}
-use Rattle.std.specs.Prelude.{ℕ, ◌+◌, ◌≤◌, ◌<◌, ◌≡◌, true, false, List, [], ◌∷◌, ◌++◌, ℤ, pos, neg_ℤ, length}
+use Rattle.std.specs.Prelude.{ℕ, ◌+◌, ◌≤◌, ◌<◌, ◌≡◌, true, false, List, [], ◌∷◌, ◌++◌, ℤ, pos, neg_ℤ, length, Option, Some, None}
 use Rattle.chars.specs.Ascii.{ascii}
 use Rattle.dates.specs.declared.Month.{Month}
-use Rattle.dates.specs.declared.OptionMonth.{OptionMonth}
-use Rattle.dates.specs.declared.OptionMonth.TheVariants.{NoMonth, SomeMonth}
-use Rattle.dates.specs.declared.OptionDay.{OptionDay}
-use Rattle.dates.specs.declared.OptionDay.TheVariants.{NoDay}
-use Rattle.dates.specs.declared.OptionTime.TheVariants.{NoTime}
-use Rattle.dates.specs.declared.OptionSeason.TheVariants.{NoSeason}
+use Rattle.dates.specs.declared.Day.{Day}
 use Rattle.dates.specs.declared.Datetime.{Datetime}
 use Rattle.dates.specs.declared.DateValue.{DateValue}
 use Rattle.dates.specs.declared.DateValue.TheVariants.{At, After, Before, Between}
@@ -32,14 +27,14 @@ pub data YearMeans : List ℕ → ℤ → Type 0 where
   era_digits : (s : List ℕ) {t : List ℕ} {y : ℤ} → AllDigits s → 0 < length s → length s ≤ 4 → 0 < decimal_value s → EraMeans (decimal_value s) t y → YearMeans (s ++ t) y
 
 -- the month that a cell says: a number from 1 on, stored less 1, or a name; an empty cell says none
-pub data MonthMeans : List ℕ → OptionMonth → Type 0 where
-  month_empty : MonthMeans [] NoMonth
+pub data MonthMeans : List ℕ → Option Month → Type 0 where
+  month_empty : MonthMeans [] None
   month_number : {s : List ℕ} {n : ℕ} → AllDigits s → decimal_value s ≡ n + 1 → MonthMeans s (month n)
-  month_name : {s : List ℕ} {m : Month} → month_for s ≡ SomeMonth m → MonthMeans s (SomeMonth m)
+  month_name : {s : List ℕ} {m : Month} → month_for s ≡ Some m → MonthMeans s (Some m)
 
 -- the day likewise: a number from 1 on, stored less 1
-pub data DayMeans : List ℕ → OptionDay → Type 0 where
-  day_empty : DayMeans [] NoDay
+pub data DayMeans : List ℕ → Option Day → Type 0 where
+  day_empty : DayMeans [] None
   day_number : {s : List ℕ} {n : ℕ} → AllDigits s → decimal_value s ≡ n + 1 → DayMeans s (day n)
 
 -- a Datetime is what the three cells say, and has no time and no season
@@ -51,9 +46,9 @@ pub record Means (c : Cells) (a : Datetime) : Type 0 where
   -- and its day
   pub day : DayMeans c.day a.day
   -- no cell says a time
-  pub time : a.time ≡ NoTime
+  pub time : a.time ≡ None
   -- nor a season
-  pub season : a.season ≡ NoSeason
+  pub season : a.season ≡ None
 
 -- a date is what the six cells say: one without an end, whose cells are empty; or a range with an end
 abbrev pub MeansIn : Cells → Cells → DateValue → Type 0

@@ -1,17 +1,13 @@
 -- Cells that leave nothing to be guessed: a year, a month and a day as they should stand, or none; and a Date whose text is strict.
 use Prim.Native.Char.{code}
-use Rattle.std.specs.Prelude.{ℕ, Bool, true, false, ◌&&◌, ◌||◌, List, [], ◌∷◌, ltb, leb, eqb, length}
+use Rattle.std.specs.Prelude.{ℕ, Bool, true, false, ◌&&◌, ◌||◌, List, [], ◌∷◌, ltb, leb, eqb, length, Option, Some, None, Result, Ok, Err}
 use Rattle.chars.specs.Pick.{pick}
 use Rattle.chars.specs.Ascii.{ascii}
 use Rattle.scanner.specs.declared.Class.TheVariants.{AsciiDigit}
 use Rattle.scanner.specs.Scan.{eat_while, eat_text, done_at}
-use Rattle.dates.specs.declared.OptionMonth.{OptionMonth}
-use Rattle.dates.specs.declared.OptionMonth.TheVariants.{NoMonth, SomeMonth}
+use Rattle.dates.specs.declared.Month.{Month}
+use Rattle.refusals.specs.declared.Refusal.{Refusal}
 use Rattle.dates.specs.declared.Date.{Date}
-use Rattle.refusals.specs.declared.ReadDate.{ReadDate}
-use Rattle.refusals.specs.declared.ReadDate.TheVariants.{Accepted, Refused as NotRead}
-use Rattle.puts.specs.declared.Measured.{Measured}
-use Rattle.puts.specs.declared.Measured.TheVariants.{Length, NoLength}
 use Rattle.writer.specs.Texts.{date_text}
 use Rattle.writer.specs.Answers.{date_measured}
 use Rattle.fields.specs.Names.{month_for}
@@ -49,9 +45,9 @@ unfoldable pub is_plain_year : List ℕ → Bool
 is_plain_year s = eqb (length s) 0 || (is_full_year s || is_era_year s)
 
 -- whether a name is one of a month
-unfoldable pub is_named : OptionMonth → Bool
-is_named NoMonth = false
-is_named (SomeMonth m) = true
+unfoldable pub is_named : Option Month → Bool
+is_named None = false
+is_named (Some m) = true
 
 -- a month: one or two digits, or all of a name or of an abbreviation; or an empty cell
 unfoldable pub is_plain_month : List ℕ → Bool
@@ -62,18 +58,18 @@ unfoldable pub is_plain_day : List ℕ → Bool
 is_plain_day s = is_digits 0 2 s
 
 -- a text that has a length, and nothing where the writer refuses
-unfoldable pub text_if : Measured → List ℕ → List ℕ
-text_if (Length n) text = text
-text_if (NoLength e) text = []
+unfoldable pub text_if : Result ℕ Refusal → List ℕ → List ℕ
+text_if (Ok n) text = text
+text_if (Err e) text = []
 
 -- the written text of a Date; a Date that the writer refuses has none
 unfoldable pub written_text : Date → List ℕ
 written_text d = text_if (date_measured d (date_text d)) (date_text d)
 
 -- whether a reader accepts
-unfoldable pub is_accepted : ReadDate → Bool
-is_accepted (Accepted d) = true
-is_accepted (NotRead e) = false
+unfoldable pub is_accepted : Result Date Refusal → Bool
+is_accepted (Ok d) = true
+is_accepted (Err e) = false
 
 -- whether the strict reader accepts a text
 unfoldable pub is_strict_text : List ℕ → Bool

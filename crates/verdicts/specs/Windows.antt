@@ -1,9 +1,9 @@
 -- Whether a year of two digits was put into the window of a hundred years.
 use Prim.Native.Char.{code}
-use Rattle.std.specs.Prelude.{ℕ, ◌+◌, Bool, true, false, not, ◌&&◌, ◌||◌, List, ltb, length, take, drop}
+use Rattle.std.specs.Prelude.{ℕ, ◌+◌, Bool, true, false, not, ◌&&◌, ◌||◌, List, ltb, length, take, drop, Result, Ok, Err, ℤ}
 use Rattle.numbers.specs.declared.Digits.TheVariants.{Two}
-use Rattle.numbers.specs.declared.ReadInt.{ReadInt}
-use Rattle.numbers.specs.declared.ReadInt.TheVariants.{Int, NoInt, IntPanics}
+use Rattle.numbers.specs.declared.NoNumber.{NoNumber}
+use Rattle.scanner.specs.declared.Cursor.{Cursor}
 use Rattle.numbers.specs.Number.{parse_int}
 use Rattle.datefield.specs.Text.{first_of}
 
@@ -16,10 +16,9 @@ unfoldable pub has_x : List ℕ → Bool
 has_x s = stands (code "X") s || stands (code "x") s
 
 -- whether a number was read
-unfoldable pub is_int : ReadInt → Bool
-is_int (Int value next) = true
-is_int (NoInt next) = false
-is_int IntPanics = false
+unfoldable pub is_int : Result (ℤ × Cursor) NoNumber → Bool
+is_int (Ok (value, next)) = true
+is_int (Err e) = false
 
 -- whether a text begins with white space, a sign or none, and a number of just two bytes
 unfoldable pub begins_two : List ℕ → Bool

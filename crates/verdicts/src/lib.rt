@@ -2,17 +2,19 @@
 #![tactic(auto)]
 
 ghost use Rattle.std.specs.Prelude.{◌≡◌};
+ghost use Rattle.std.specs.Bool.{then_some};
 ghost use Rattle.datefield.specs.Text as text;
 ghost use Rattle.verdicts.specs.Dates as dates_specs;
 ghost use Rattle.verdicts.specs.Windows as windows;
 ghost use Rattle.verdicts.specs.Plain as plain;
 ghost use Rattle.verdicts.specs.Fields as six;
 
-use dates::{Date, DateValue, OptionDay, OptionMonth};
-use numbers::{Digits, ReadInt};
-use puts::Written;
-use refusals::{ReadDate, Refusal};
-use scanner::{Class, Cursor, EatIf};
+use chunks::ChunksRef;
+use dates::{Date, DateValue, Day};
+use numbers::Digits;
+use reader::ThreeFields;
+use refusals::Refusal;
+use scanner::{Class, Cursor};
 
 // What is said of a date.
 #[derive(Clone, Copy)]
@@ -34,78 +36,80 @@ pub enum Verdict {
 // ---- a date in one cell
 
 // The day on which a range with both ends ends.
-fn end_day(v: DateValue) -> OptionDay
+fn end_day(v: DateValue) -> Option<Day>
     ensures { result ≡ dates_specs.end_day v }
 {
     match v {
-        DateValue::At(_) => OptionDay::NoDay,
-        DateValue::After(_) => OptionDay::NoDay,
-        DateValue::Before(_) => OptionDay::NoDay,
+        DateValue::At(_) => None,
+        DateValue::After(_) => None,
+        DateValue::Before(_) => None,
         DateValue::Between(_, b) => b.day,
     }
 }
 
 // Whether two days are the same, or both are none.
-fn same_day(a: OptionDay, b: OptionDay) -> bool
+#[tactic(auto, unfolding(crate::specs::Dates::same_day))]
+fn same_day(a: Option<Day>, b: Option<Day>) -> bool
     ensures { result ≡ dates_specs.same_day a b }
 {
-    match a {
-        OptionDay::NoDay => match b {
-            OptionDay::NoDay => true,
-            OptionDay::SomeDay(_) => false,
-        },
-        OptionDay::SomeDay(x) => match b {
-            OptionDay::NoDay => false,
-            OptionDay::SomeDay(y) => x.0 == y.0,
-        },
+    match (a, b) {
+        (None, None) => true,
+        (Some(x), Some(y)) => x.0 == y.0,
+        _ => false,
     }
 }
 
 // Whether the strict reader gives the ported reader's Date, too.
-fn is_same(strict: ReadDate, e: Date) -> bool
+#[tactic(auto, unfolding(crate::specs::Dates::is_same))]
+fn is_same(strict: Result<Date, Refusal>, e: Date) -> bool
     ensures { result ≡ dates_specs.is_same strict e }
 {
-    match strict {
-        ReadDate::Accepted(d) => {
-            let strict_value = d.value;
-            let ported_value = e.value;
-            same_day(end_day(strict_value), end_day(ported_value))
-        }
-        ReadDate::Refused(_) => false,
-    }
+    strict.is_ok_and(|d| same_day(end_day(d.value), end_day(e.value)))
 }
 
 // What is said by the answers of both readers.
-fn by_readers(strict: ReadDate, ported: ReadDate) -> Verdict
+#[tactic(auto, unfolding(crate::specs::Dates::by_readers, chars::specs::Pick::pick))]
+fn by_readers(strict: Result<Date, Refusal>, ported: Result<Date, Refusal>) -> Verdict
     ensures { result ≡ dates_specs.by_readers strict ported }
 {
     match ported {
-        ReadDate::Accepted(e) => {
+        Ok(e) => {
             if is_same(strict, e) {
                 return Verdict::Full;
             }
             Verdict::NotStrict(e)
         }
-        ReadDate::Refused(f) => Verdict::Refused(f),
+        Err(f) => Verdict::Refused(f),
     }
+}
+
+// The table of a cell, which is one Normal chunk.
+fn table_of(cell: &[u8]) -> [u64; 4]
+    ensures { result ≡ dates_specs.cell_table cell.now }
+{
+    let n = cell.len() as u64;
+    [0, n, 0, n]
 }
 
 // A date in one cell. That it is strict, and no range with both ends, is seen from the words: then the ported reader gives the same Date, and is not asked.
 pub fn date_verdict(cell: &[u8]) -> Verdict
     ensures { result ≡ dates_specs.date_verdict cell.now }
 {
-    let n = cell.len() as u64;
-    if n == 0 {
+    if cell.len() == 0 {
         return Verdict::NoDate;
     }
-    let table = [0, n, 0, n];
-    let w = reader::parse_strict_words(cell, &table);
+    let table = table_of(cell);
+    let list = ChunksRef {
+        bytes: cell,
+        table: &table,
+    };
+    let w = reader::parse_strict_words(list);
     if w.last < 4294967296 {
         if w.last % 256 < 3 {
             return Verdict::Full;
         }
     }
-    by_readers(codes::unpack(w), reader::parse(cell, &table))
+    by_readers(codes::unpack(w), reader::parse(list))
 }
 
 // ---- a year of two digits
@@ -114,14 +118,12 @@ pub fn date_verdict(cell: &[u8]) -> Verdict
 fn find(s: &[u8], b: u8) -> usize
     ensures { result ≡ text.first_of b s.now }
 {
-    let mut i = 0;
-    while i < s.len() {
-        if s[i] == b {
+    for (i, x) in s.iter().enumerate() {
+        if *x == b {
             return i;
         }
-        i = i + 1;
     }
-    i
+    s.len()
 }
 
 // Whether there is an X or an x.
@@ -135,14 +137,11 @@ fn has_x(s: &[u8]) -> bool
 }
 
 // Whether a text begins with a number of two bytes.
+#[tactic(auto, unfolding(crate::specs::Windows::begins_two, crate::specs::Windows::is_int))]
 fn begins_two(s: &[u8]) -> bool
     ensures { result ≡ windows.begins_two s.now }
 {
-    match numbers::parse_int(s, Cursor(0), Digits::Two) {
-        ReadInt::Int { value: _, next: _ } => true,
-        ReadInt::NoInt { next: _ } => false,
-        ReadInt::IntPanics => false,
-    }
+    numbers::parse_int(s, Cursor(0), Digits::Two).is_ok()
 }
 
 // Whether a year of two digits was put into the window of a hundred years.
@@ -242,13 +241,11 @@ fn is_full_year(s: &[u8]) -> bool
 }
 
 // Whether a text stands at a place, and nothing behind it.
+#[tactic(auto, unfolding(crate::specs::Plain::ends_in, fields::specs::Year::on_past))]
 fn ends_in(t: &[u8], s: &[u8], c: Cursor) -> bool
     ensures { result ≡ plain.ends_in t.now s.now c.0 }
 {
-    match scanner::eat_text(s, c, t) {
-        EatIf::Past(e) => scanner::done(s, e),
-        EatIf::Kept => false,
-    }
+    scanner::eat_text(s, c, t).is_some_and(|e| scanner::done(s, e))
 }
 
 // Whether an era behind one space stands there.
@@ -283,16 +280,11 @@ fn is_plain_year(s: &[u8]) -> bool
 }
 
 // Whether a month's cell is.
+#[tactic(auto, unfolding(crate::specs::Plain::is_plain_month, crate::specs::Plain::is_named))]
 fn is_plain_month(s: &[u8]) -> bool
     ensures { result ≡ plain.is_plain_month s.now }
 {
-    if is_digits(s, 0, 2) {
-        return true;
-    }
-    match fields::month_for(s) {
-        OptionMonth::SomeMonth(_) => true,
-        OptionMonth::NoMonth => false,
-    }
+    is_digits(s, 0, 2) || fields::month_for(s).is_some()
 }
 
 // Whether three cells are.
@@ -306,8 +298,11 @@ fn are_plain(year: &[u8], month: &[u8], day: &[u8]) -> bool
 fn is_strict_text(s: &[u8]) -> bool
     ensures { result ≡ plain.is_strict_text s.now }
 {
-    let n = s.len() as u64;
-    let w = reader::parse_strict_words(s, &[0, n, 0, n]);
+    let table = table_of(s);
+    let w = reader::parse_strict_words(ChunksRef {
+        bytes: s,
+        table: &table,
+    });
     w.last < 4294967296
 }
 
@@ -317,19 +312,20 @@ fn is_strict(d: Date) -> bool
 {
     let mut text = [0u8; 40];
     match writer::write_text(d, &mut text) {
-        Written::Done(n) => is_strict_text(&text[..n]),
-        Written::Refused(_) => false,
+        Ok(n) => is_strict_text(&text[..n]),
+        Err(_) => false,
     }
 }
 
 // ---- a date in six cells, as it is read
 
 // What was read: a year is short, or it is full, or neither.
-fn verdict_of(short: bool, plain: bool, r: ReadDate) -> Verdict
+#[tactic(auto, unfolding(crate::specs::Fields::verdict_of, chars::specs::Pick::pick))]
+fn verdict_of(short: bool, plain: bool, r: Result<Date, Refusal>) -> Verdict
     ensures { result ≡ six.verdict_of short plain r }
 {
     match r {
-        ReadDate::Accepted(d) => {
+        Ok(d) => {
             if short {
                 return Verdict::ShortYear(d);
             }
@@ -341,8 +337,15 @@ fn verdict_of(short: bool, plain: bool, r: ReadDate) -> Verdict
             }
             Verdict::NotStrict(d)
         }
-        ReadDate::Refused(e) => Verdict::Refused(e),
+        Err(e) => Verdict::Refused(e),
     }
+}
+
+// A cell as a list, if it has a text.
+fn list_if<'a>(cell: &'a [u8], table: &'a [u64]) -> Option<ChunksRef<'a>>
+    ensures { result ≡ then_some (six.is_given cell.now) (record { bytes = cell.entry; table = table.entry }) }
+{
+    (0 < cell.len()).then_some(ChunksRef { bytes: cell, table })
 }
 
 // Cells of a start and of an end, as the reader of six fields reads them.
@@ -353,34 +356,32 @@ fn read_six(
     end_year: &[u8],
     end_month: &[u8],
     end_day: &[u8],
-) -> ReadDate
+) -> Result<Date, Refusal>
     ensures { result ≡ six.six_read (six.cells year.now month.now day.now) (six.cells end_year.now end_month.now end_day.now) }
 {
-    let y = year.len() as u64;
-    let m = month.len() as u64;
-    let d = day.len() as u64;
-    let ey = end_year.len() as u64;
-    let em = end_month.len() as u64;
-    let ed = end_day.len() as u64;
-    sixfields::parse_six_fields(
-        year,
-        &[0, y, 0, y],
-        0 < m,
-        month,
-        &[0, m, 0, m],
-        0 < d,
-        day,
-        &[0, d, 0, d],
-        0 < ey,
-        end_year,
-        &[0, ey, 0, ey],
-        0 < em,
-        end_month,
-        &[0, em, 0, em],
-        0 < ed,
-        end_day,
-        &[0, ed, 0, ed],
-    )
+    let y = table_of(year);
+    let m = table_of(month);
+    let d = table_of(day);
+    let ey = table_of(end_year);
+    let em = table_of(end_month);
+    let ed = table_of(end_day);
+    let start = ThreeFields {
+        year: ChunksRef {
+            bytes: year,
+            table: &y,
+        },
+        month: list_if(month, &m),
+        day: list_if(day, &d),
+    };
+    let end = ThreeFields {
+        year: ChunksRef {
+            bytes: end_year,
+            table: &ey,
+        },
+        month: list_if(end_month, &em),
+        day: list_if(end_day, &ed),
+    };
+    sixfields::parse_six_fields(start, (0 < end_year.len()).then_some(end))
 }
 
 // Whether a cell has a text that the reader of six fields would not look at.

@@ -12,11 +12,9 @@ use mir.Syntax.{w32}
 use mir.Val.{SFits}
 use Rattle.chars.specs.Pick.{pick}
 use Rattle.chars.proofs.Cases.{by-test}
-use Rattle.dates.specs.declared.OptionMonth.{OptionMonth}
-use Rattle.dates.specs.declared.OptionMonth.TheVariants.{NoMonth, SomeMonth}
-use Rattle.dates.specs.declared.OptionDay.{OptionDay}
-use Rattle.dates.specs.declared.OptionDay.TheVariants.{NoDay, SomeDay}
-use Rattle.dates.specs.declared.OptionTime.TheVariants.{NoTime}
+use Rattle.dates.specs.declared.Day.{Day}
+use Rattle.dates.specs.declared.Month.{Month}
+use Rattle.std.specs.Prelude.{Option, Some, None}
 use Rattle.dates.specs.declared.WrittenMonth.{WrittenMonth}
 use Rattle.dates.specs.declared.WrittenDay.{WrittenDay}
 use Rattle.dates.specs.declared.Datetime.{Datetime}
@@ -76,15 +74,15 @@ data Short (k : ℕ) : Parts → Type 0 where
   two : {m : WrittenMonth} {d : WrittenDay} → length (part_text m.0) ≤ k → length (part_text d.0) ≤ k → Short k (WithDay m d)
   over : Short k TooLarge
 
-short-by : (n k : ℕ) → ((i : ℕ) → i ≤ n → length (part_text i) ≤ k) → (m : OptionMonth) (d : OptionDay) → MonthUnder n m → DayUnder n d → Short k (month_parts m d)
+short-by : (n k : ℕ) → ((i : ℕ) → i ≤ n → length (part_text i) ≤ k) → (m : Option Month) (d : Option Day) → MonthUnder n m → DayUnder n d → Short k (month_parts m d)
 unfolding month_parts day_parts written_month written_day
-short-by n k f NoMonth d h g = none
-short-by n k f (SomeMonth m) NoDay h g = by-test (Short k) (eqb m.0 255) (λ _. over) (λ _. one (f (m.0 + 1) (omega arith)))
-short-by n k f (SomeMonth m) (SomeDay d) h g =
+short-by n k f None d h g = none
+short-by n k f (Some m) None h g = by-test (Short k) (eqb m.0 255) (λ _. over) (λ _. one (f (m.0 + 1) (omega arith)))
+short-by n k f (Some m) (Some d) h g =
     by-test (Short k) (eqb m.0 255) (λ _. over)
     (λ _. by-test (Short k) (eqb d.0 255) (λ _. over) (λ _. two (f (m.0 + 1) (omega arith)) (f (d.0 + 1) (omega arith))))
 
-short : (m : OptionMonth) (d : OptionDay) → MonthUnder 256 m → DayUnder 256 d → Short 3 (month_parts m d)
+short : (m : Option Month) (d : Option Day) → MonthUnder 256 m → DayUnder 256 d → Short 3 (month_parts m d)
 short = short-by 256 3 λ i h. part-most i (omega arith)
 
 -- ---- texts
@@ -185,7 +183,7 @@ fields-most d s = values-most d.value s
 
 -- -2147483648-255-255, the longest Datetime
 abbrev longest : Datetime
-longest = datetime (negsuc 2147483647) (month 254) (day 254) NoTime
+longest = datetime (negsuc 2147483647) (month 254) (day 254) None
 
 -- from it to it, uncertain and approximate
 abbrev pub widest : Date

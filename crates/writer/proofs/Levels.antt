@@ -15,12 +15,11 @@ use Rattle.chars.proofs.Cases.{by-test, of_test}
 use Rattle.refusals.specs.declared.Kind.TheVariants.{RustPanics, NoRoom, HasSeason}
 use Rattle.refusals.specs.Refusal.{refusal, number, nowhere}
 use Rattle.dates.specs.declared.Month.{Month}
-use Rattle.dates.specs.declared.OptionMonth.{OptionMonth}
-use Rattle.dates.specs.declared.OptionMonth.TheVariants.{NoMonth, SomeMonth}
-use Rattle.dates.specs.declared.OptionDay.{OptionDay}
-use Rattle.dates.specs.declared.OptionDay.TheVariants.{NoDay, SomeDay}
-use Rattle.dates.specs.declared.OptionSeason.{OptionSeason}
-use Rattle.dates.specs.declared.OptionSeason.TheVariants.{NoSeason, Spring, Summer, Autumn, Winter}
+use Rattle.dates.specs.declared.Day.{Day}
+use Rattle.dates.specs.declared.Season.{Season}
+use Rattle.dates.specs.declared.Season.TheVariants.{Autumn, Spring, Summer, Winter}
+use Rattle.refusals.specs.declared.Refusal.{Refusal}
+use Rattle.std.specs.Prelude.{Option, Some, None, Result, Ok, Err}
 use Rattle.dates.specs.declared.Datetime.{Datetime}
 use Rattle.dates.specs.declared.DateValue.{DateValue}
 use Rattle.dates.specs.declared.DateValue.TheVariants.{At, After, Before, Between}
@@ -28,10 +27,6 @@ use Rattle.dates.specs.declared.Date.{Date}
 use Rattle.dates.specs.Ends.{EachEnd, SomeEnd}
 use Rattle.dates.specs.Value.{is_season, season_number, has_season, any_season}
 use Rattle.dates.proofs.Ends.{any-end}
-use Rattle.puts.specs.declared.Measured.{Measured}
-use Rattle.puts.specs.declared.Measured.TheVariants.{NoLength}
-use Rattle.puts.specs.declared.Written.{Written}
-use Rattle.puts.specs.declared.Written.TheVariants.{Done, Refused}
 use Rattle.puts.specs.Numbers.{count, digit_count, width, decimal}
 use Rattle.writer.specs.Texts.{minus, year_text, written_month, written_day, day_parts, month_parts, parts_of, part_text, hyphen_part, parts_text, datetime_text, value_text, date_text, too_large, end_panics, value_panics, panics}
 use Rattle.puts.specs.Marks.{mark_text}
@@ -46,16 +41,16 @@ use Rattle.writer.proofs.Bounds.{year-by, year-most, year-short, behind-most, da
 -- ---- the answers of a writer
 
 -- the number of an answer's refusal; 0 if it is none
-abbrev told : Written → ℕ
-told (Done n) = 0
-told (Refused e) = number e.kind
+abbrev told : Result ℕ Refusal → ℕ
+told (Ok n) = 0
+told (Err e) = number e.kind
 
-no_answer : {v w : Written} → (told v ≡ told w → ⊥) → v ≡ w → ⊥
+no_answer : {v w : Result ℕ Refusal} → (told v ≡ told w → ⊥) → v ≡ w → ⊥
 no_answer f e = f (ap told e)
 
 -- by two tests: whether there is no text, and whether there is room
-abbrev shown : Bool → Bool → ℕ → Written
-shown p f n = pick p (Refused (nowhere RustPanics)) (pick f (Done n) (Refused (nowhere NoRoom)))
+abbrev shown : Bool → Bool → ℕ → Result ℕ Refusal
+shown p f n = pick p (Err (nowhere RustPanics)) (pick f (Ok n) (Err (nowhere NoRoom)))
 
 in_order : (p : Bool) (t : List ℕ) (room : ℕ) → answer p t room ≡ shown p (leb (length t) room) (length t)
 unfolding answer measured decided pick
@@ -64,25 +59,25 @@ in_order false t room = refl
 
 -- which tests lead to which answer
 module _ (n : ℕ) where
-  panics-only : (p f : Bool) → shown p f n ≡ Refused (nowhere RustPanics) → p ≡ true
+  panics-only : (p f : Bool) → shown p f n ≡ Err (nowhere RustPanics) → p ≡ true
   unfolding refusal pick
   panics-only true f e = refl
   panics-only false true e = absurd (no_answer (λ (z : ◌≡◌ {A = ℕ} 0 9). omega arith) e)
   panics-only false false e = absurd (no_answer (λ (z : ◌≡◌ {A = ℕ} 13 9). omega arith) e)
 
-  room-only : (p f : Bool) → shown p f n ≡ Refused (nowhere NoRoom) → (p ≡ false) × (f ≡ false)
+  room-only : (p f : Bool) → shown p f n ≡ Err (nowhere NoRoom) → (p ≡ false) × (f ≡ false)
   unfolding refusal pick
   room-only true f e = absurd (no_answer (λ (z : ◌≡◌ {A = ℕ} 9 13). omega arith) e)
   room-only false true e = absurd (no_answer (λ (z : ◌≡◌ {A = ℕ} 0 13). omega arith) e)
   room-only false false e = (refl, refl)
 
-  done-only : (p f : Bool) → shown p f n ≡ Done n → (p ≡ false) × (f ≡ true)
+  done-only : (p f : Bool) → shown p f n ≡ Ok n → (p ≡ false) × (f ≡ true)
   unfolding refusal pick
   done-only true f e = absurd (no_answer (λ (z : ◌≡◌ {A = ℕ} 9 0). omega arith) e)
   done-only false true e = (refl, refl)
   done-only false false e = absurd (no_answer (λ (z : ◌≡◌ {A = ℕ} 13 0). omega arith) e)
 
-  no-season : (p f : Bool) → shown p f n ≡ Refused (nowhere HasSeason) → ⊥
+  no-season : (p f : Bool) → shown p f n ≡ Err (nowhere HasSeason) → ⊥
   unfolding refusal pick
   no-season true f e = no_answer (λ (z : ◌≡◌ {A = ℕ} 9 24). omega arith) e
   no-season false true e = no_answer (λ (z : ◌≡◌ {A = ℕ} 0 24). omega arith) e
@@ -92,26 +87,26 @@ module _ (n : ℕ) where
 
 module _ (d : Date) (t : List ℕ) where
   -- an end has a season: HasSeason, and nothing is stored
-  pub season-refused : any_season d.value ≡ true → (date_measured d t ≡ NoLength (nowhere HasSeason)) × ((room : ℕ) → date_answer d t room ≡ Refused (nowhere HasSeason)) × ((out : List ℕ) → date_afterwards d t out ≡ out)
+  pub season-refused : any_season d.value ≡ true → (date_measured d t ≡ Err (nowhere HasSeason)) × ((room : ℕ) → date_answer d t room ≡ Err (nowhere HasSeason)) × ((out : List ℕ) → date_afterwards d t out ≡ out)
   unfolding date_measured date_answer date_afterwards decided left pick
   season-refused e = (
-    ap (λ (x : Bool). pick x (NoLength (nowhere HasSeason)) (measured (panics d) t)) e,
-    λ (room : ℕ). ap (λ (x : Bool). decided (pick x (NoLength (nowhere HasSeason)) (measured (panics d) t)) room) e,
-    λ (out : List ℕ). ap (λ (x : Bool). left (decided (pick x (NoLength (nowhere HasSeason)) (measured (panics d) t)) (length out)) t out) e,
+    ap (λ (x : Bool). pick x (Err (nowhere HasSeason)) (measured (panics d) t)) e,
+    λ (room : ℕ). ap (λ (x : Bool). decided (pick x (Err (nowhere HasSeason)) (measured (panics d) t)) room) e,
+    λ (out : List ℕ). ap (λ (x : Bool). left (decided (pick x (Err (nowhere HasSeason)) (measured (panics d) t)) (length out)) t out) e,
   )
 
   -- without a season all is as before
   pub else-as-before : any_season d.value ≡ false → (date_measured d t ≡ measured (panics d) t) × ((room : ℕ) → date_answer d t room ≡ answer (panics d) t room) × ((out : List ℕ) → date_afterwards d t out ≡ afterwards (panics d) t out)
   unfolding date_measured date_answer date_afterwards answer afterwards pick
   else-as-before e = (
-    ap (λ (x : Bool). pick x (NoLength (nowhere HasSeason)) (measured (panics d) t)) e,
-    λ (room : ℕ). ap (λ (x : Bool). decided (pick x (NoLength (nowhere HasSeason)) (measured (panics d) t)) room) e,
-    λ (out : List ℕ). ap (λ (x : Bool). left (decided (pick x (NoLength (nowhere HasSeason)) (measured (panics d) t)) (length out)) t out) e,
+    ap (λ (x : Bool). pick x (Err (nowhere HasSeason)) (measured (panics d) t)) e,
+    λ (room : ℕ). ap (λ (x : Bool). decided (pick x (Err (nowhere HasSeason)) (measured (panics d) t)) room) e,
+    λ (out : List ℕ). ap (λ (x : Bool). left (decided (pick x (Err (nowhere HasSeason)) (measured (panics d) t)) (length out)) t out) e,
   )
 
 module _ (d : Date) (t : List ℕ) where
   -- HasSeason is answered exactly if an end has a season, whatever else is wrong,
-  pub season-answered : (room : ℕ) → (date_answer d t room ≡ Refused (nowhere HasSeason)) ↔ (any_season d.value ≡ true)
+  pub season-answered : (room : ℕ) → (date_answer d t room ≡ Err (nowhere HasSeason)) ↔ (any_season d.value ≡ true)
   season-answered room = (
     λ e. of_test (any_season d.value) (λ q. q)
         (λ q. absurd (no-season (length t) (panics d) (leb (length t) room) (sym (in_order (panics d) t room) ∙ sym ((else-as-before d t q).1 room) ∙ e))),
@@ -119,24 +114,24 @@ module _ (d : Date) (t : List ℕ) where
   )
 
   -- and so it is with the length
-  pub season-exactly : (date_measured d t ≡ NoLength (nowhere HasSeason)) ↔ (any_season d.value ≡ true)
+  pub season-exactly : (date_measured d t ≡ Err (nowhere HasSeason)) ↔ (any_season d.value ≡ true)
   unfolding date_answer decided
-  season-exactly = (λ e. (season-answered 0).0 (ap (λ (m : Measured). decided m 0) e), λ q. (season-refused d t q).0)
+  season-exactly = (λ e. (season-answered 0).0 (ap (λ (m : Result ℕ Refusal). decided m 0) e), λ q. (season-refused d t q).0)
 
 -- ---- when the writer of level one refuses
 
-day-large : (m : Month) (d : OptionDay) → too_large (day_parts m d) ≡ true → Unwritten (SomeMonth m) d
+day-large : (m : Month) (d : Option Day) → too_large (day_parts m d) ≡ true → Unwritten (Some m) d
 unfolding too_large day_parts pick
-day-large m NoDay e = absurd (false≢true e)
-day-large m (SomeDay d) e =
+day-large m None e = absurd (false≢true e)
+day-large m (Some d) e =
     of_test (eqb d.0 255) (λ q. day_255 (eqb-true d.0 255 q)) (λ q. absurd (false≢true (rw q at e)))
 
-large : (m : OptionMonth) (d : OptionDay) → too_large (month_parts m d) ≡ true → Unwritten m d
+large : (m : Option Month) (d : Option Day) → too_large (month_parts m d) ≡ true → Unwritten m d
 unfolding too_large month_parts pick
-large NoMonth d e = absurd (false≢true e)
-large (SomeMonth m) d e = of_test (eqb m.0 255) (λ q. month_255 (eqb-true m.0 255 q)) (λ q. day-large m d (rw q at e))
+large None d e = absurd (false≢true e)
+large (Some m) d e = of_test (eqb m.0 255) (λ q. month_255 (eqb-true m.0 255 q)) (λ q. day-large m d (rw q at e))
 
-unwritten : {m : OptionMonth} {d : OptionDay} → Unwritten m d → too_large (month_parts m d) ≡ true
+unwritten : {m : Option Month} {d : Option Day} → Unwritten m d → too_large (month_parts m d) ≡ true
 unfolding too_large month_parts day_parts pick
 unwritten (month_255 {m} e) = rw (eq-eqb m.0 255 e)
 unwritten (day_255 {m} {d} e) = rw (eq-eqb d.0 255 e) (of_test (eqb m.0 255) (λ q. rw q) (λ q. rw q))
@@ -176,7 +171,7 @@ module _ (d : Date) (room : ℕ) where
   has-text f = of_test (level_panics d) (λ q. absurd (f ((level-refuses d).0 q))) (λ q. q)
 
   -- RustPanics is answered exactly if an end has no text,
-  pub level-panics : (answer (level_panics d) (level_text d) room ≡ Refused (nowhere RustPanics)) ↔ SomeEnd NoText d.value
+  pub level-panics : (answer (level_panics d) (level_text d) room ≡ Err (nowhere RustPanics)) ↔ SomeEnd NoText d.value
   unfolding pick
   level-panics = (
     λ e. (level-refuses d).0 (panics-only n (level_panics d) (leb n room) (sym given ∙ e)),
@@ -184,7 +179,7 @@ module _ (d : Date) (room : ℕ) where
   )
 
   -- NoRoom exactly if each has one and the buffer is shorter than the text,
-  pub level-no-room : (answer (level_panics d) (level_text d) room ≡ Refused (nowhere NoRoom)) ↔ ((SomeEnd NoText d.value → ⊥) × (room < length (level_text d)))
+  pub level-no-room : (answer (level_panics d) (level_text d) room ≡ Err (nowhere NoRoom)) ↔ ((SomeEnd NoText d.value → ⊥) × (room < length (level_text d)))
   unfolding pick
   level-no-room = (
     λ e. let q = room-only n (level_panics d) (leb n room) (sym given ∙ e) in (no_end q.0, leb-false n room q.1),
@@ -192,7 +187,7 @@ module _ (d : Date) (room : ℕ) where
   )
 
   -- and the text is written exactly if it is not
-  pub level-written : (answer (level_panics d) (level_text d) room ≡ Done (length (level_text d))) ↔ ((SomeEnd NoText d.value → ⊥) × (length (level_text d) ≤ room))
+  pub level-written : (answer (level_panics d) (level_text d) room ≡ Ok (length (level_text d))) ↔ ((SomeEnd NoText d.value → ⊥) × (length (level_text d) ≤ room))
   unfolding pick
   level-written = (
     λ e. let q = done-only n (level_panics d) (leb n room) (sym given ∙ e) in (no_end q.0, leb-true n room q.1),
@@ -216,7 +211,7 @@ module _ {d e : Datetime} (w : Alike d e) where
   unfolding behind_text
   same-behind =
       picked (has_season d) (hyphen_part (season_number d.season)) (λ q. ap parts_text (same_parts q))
-      ∙ ap (λ (s : OptionSeason). pick (is_season s) (hyphen_part (season_number s)) (parts_text (parts_of e))) w.seasons
+      ∙ ap (λ (s : Option Season). pick (is_season s) (hyphen_part (season_number s)) (parts_text (parts_of e))) w.seasons
 
   same_end : level_end d ≡ level_end e
   unfolding level_end
@@ -228,7 +223,7 @@ module _ {d e : Datetime} (w : Alike d e) where
   unfolding level_end_panics end_panics
   same-panics =
       picked (has_season d) false (λ q. ap too_large (same_parts q))
-      ∙ ap (λ (s : OptionSeason). pick (is_season s) false (too_large (parts_of e))) w.seasons
+      ∙ ap (λ (s : Option Season). pick (is_season s) false (too_large (parts_of e))) w.seasons
 
 same-value : {v w : DateValue} → AlikeValues v w → (level_value v ≡ level_value w) × (level_value_panics v ≡ level_value_panics w)
 unfolding level_value level_value_panics
@@ -274,13 +269,13 @@ unfolding long_sign
 sign-most y = by-test (λ (l : List ℕ). length l ≤ 1) (ltb (nat_abs y) 10000) (λ _. omega arith) (λ _. omega arith)
 
 -- a hyphen and two digits
-season-most : (s : OptionSeason) → length (hyphen_part (season_number s)) ≤ 3
+season-most : (s : Option Season) → length (hyphen_part (season_number s)) ≤ 3
 unfolding hyphen_part part_text decimal width digit_count count pick
-season-most NoSeason = omega arith
-season-most Spring = omega arith
-season-most Summer = omega arith
-season-most Autumn = omega arith
-season-most Winter = omega arith
+season-most None = omega arith
+season-most (Some Spring) = omega arith
+season-most (Some Summer) = omega arith
+season-most (Some Autumn) = omega arith
+season-most (Some Winter) = omega arith
 
 end-length : (d : Datetime) → length (level_end d) ≡ length (long_sign d.year) + length (year_text d.year) + length (behind_text d)
 unfolding level_end
@@ -298,7 +293,7 @@ season-behind : (d : Datetime) → has_season d ≡ true → length (behind_text
 unfolding behind_text
 season-behind d q = by-test (λ (l : List ℕ). length l ≤ 3) (has_season d) (λ _. season-most d.season) (λ e. absurd (false≢true (sym e ∙ q)))
 
-none-behind : (d : Datetime) → has_season d ≡ false → d.month ≡ NoMonth → length (behind_text d) ≤ 0
+none-behind : (d : Datetime) → has_season d ≡ false → d.month ≡ None → length (behind_text d) ≤ 0
 unfolding behind_text parts_of month_parts parts_text
 none-behind d q e =
     by-test (λ (l : List ℕ). length l ≤ 0) (has_season d) (λ e. absurd (false≢true (sym q ∙ e))) (λ _. rw e (omega arith))

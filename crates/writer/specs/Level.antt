@@ -1,13 +1,9 @@
 -- The text of a date by the writer of level one: seasons, and a Y before a year of more than four digits.
-use Rattle.std.specs.Prelude.{ℕ, ◌≡◌, Bool, false, List, [], ◌++◌, ltb, ℤ, nat_abs}
+use Rattle.std.specs.Prelude.{ℕ, ◌≡◌, Bool, false, List, [], ◌++◌, ltb, ℤ, nat_abs, Option, Some}
 use Rattle.chars.specs.Pick.{pick}
 use Rattle.chars.specs.Ascii.{ascii}
 use Rattle.dates.specs.declared.Month.{Month}
 use Rattle.dates.specs.declared.Day.{Day}
-use Rattle.dates.specs.declared.OptionMonth.{OptionMonth}
-use Rattle.dates.specs.declared.OptionMonth.TheVariants.{SomeMonth}
-use Rattle.dates.specs.declared.OptionDay.{OptionDay}
-use Rattle.dates.specs.declared.OptionDay.TheVariants.{SomeDay}
 use Rattle.dates.specs.declared.Datetime.{Datetime}
 use Rattle.dates.specs.declared.DateValue.{DateValue}
 use Rattle.dates.specs.declared.DateValue.TheVariants.{At, After, Before, Between}
@@ -50,9 +46,9 @@ unfoldable pub level_panics : Date → Bool
 level_panics d = level_value_panics d.value
 
 -- a month 255, or a day 255 beside a month
-pub data Unwritten : OptionMonth → OptionDay → Type 0 where
-  month_255 : {m : Month} {d : OptionDay} → m.0 ≡ 255 → Unwritten (SomeMonth m) d
-  day_255 : {m : Month} {d : Day} → d.0 ≡ 255 → Unwritten (SomeMonth m) (SomeDay d)
+pub data Unwritten : Option Month → Option Day → Type 0 where
+  month_255 : {m : Month} {d : Option Day} → m.0 ≡ 255 → Unwritten (Some m) d
+  day_255 : {m : Month} {d : Day} → d.0 ≡ 255 → Unwritten (Some m) (Some d)
 
 -- an end that has no text: one without a season that has such a part
 abbrev pub NoText : Datetime → Type 0

@@ -1,25 +1,23 @@
 -- How large the parts of a Date can be: as it is stored, and as the readers give it.
-use Rattle.std.specs.Prelude.{ℕ, ◌<◌, ◌≡◌, true, false, nat_abs}
+use Rattle.std.specs.Prelude.{ℕ, ◌<◌, ◌≡◌, true, false, nat_abs, Option, Some, None}
 use Rattle.std.specs.Int.{w32}
 use Rattle.std.proofs.Common.{SFits}
-use Rattle.dates.specs.declared.OptionMonth.{OptionMonth}
-use Rattle.dates.specs.declared.OptionMonth.TheVariants.{NoMonth, SomeMonth}
-use Rattle.dates.specs.declared.OptionDay.{OptionDay}
-use Rattle.dates.specs.declared.OptionDay.TheVariants.{NoDay, SomeDay}
+use Rattle.dates.specs.declared.Day.{Day}
+use Rattle.dates.specs.declared.Month.{Month}
 use Rattle.dates.specs.declared.Datetime.{Datetime}
 use Rattle.dates.specs.declared.DateValue.{DateValue}
 use Rattle.dates.specs.Ends.{EachEnd}
 use Rattle.dates.specs.Value.{has_season}
 
 -- a month below a number, if there is one
-abbrev pub MonthUnder : ℕ → OptionMonth → Type 0
-MonthUnder n NoMonth = Unit {0}
-MonthUnder n (SomeMonth m) = m.0 < n
+abbrev pub MonthUnder : ℕ → Option Month → Type 0
+MonthUnder n None = Unit {0}
+MonthUnder n (Some m) = m.0 < n
 
 -- a day likewise
-abbrev pub DayUnder : ℕ → OptionDay → Type 0
-DayUnder n NoDay = Unit {0}
-DayUnder n (SomeDay d) = d.0 < n
+abbrev pub DayUnder : ℕ → Option Day → Type 0
+DayUnder n None = Unit {0}
+DayUnder n (Some d) = d.0 < n
 
 -- as it is stored
 pub record Stored (d : Datetime) : Type 0 where
@@ -51,4 +49,4 @@ NarrowEnds v = EachEnd Narrow v
 pub data LevelNarrow : Datetime → Type 0 where
   narrow : {d : Datetime} → has_season d ≡ false → Narrow d → LevelNarrow d
   seasoned : {d : Datetime} → has_season d ≡ true → nat_abs d.year < 10000 → LevelNarrow d
-  long : {d : Datetime} → has_season d ≡ false → d.month ≡ NoMonth → nat_abs d.year < 1000000000 → LevelNarrow d
+  long : {d : Datetime} → has_season d ≡ false → d.month ≡ None → nat_abs d.year < 1000000000 → LevelNarrow d

@@ -1,14 +1,10 @@
 -- The text of a date.
-use Rattle.std.specs.Prelude.{ℕ, ◌+◌, Bool, true, false, List, [], ◌++◌, eqb, ℤ, pos, negsuc, nat_abs}
+use Rattle.std.specs.Prelude.{ℕ, ◌+◌, Bool, true, false, List, [], ◌++◌, eqb, ℤ, pos, negsuc, nat_abs, Option, Some, None}
 use Rattle.chars.specs.Pick.{pick}
 use Rattle.dates.specs.declared.Month.{Month}
 use Rattle.dates.specs.declared.Day.{Day}
 use Rattle.dates.specs.declared.WrittenMonth.{WrittenMonth}
 use Rattle.dates.specs.declared.WrittenDay.{WrittenDay}
-use Rattle.dates.specs.declared.OptionMonth.{OptionMonth}
-use Rattle.dates.specs.declared.OptionMonth.TheVariants.{NoMonth, SomeMonth}
-use Rattle.dates.specs.declared.OptionDay.{OptionDay}
-use Rattle.dates.specs.declared.OptionDay.TheVariants.{NoDay, SomeDay}
 use Rattle.dates.specs.declared.Datetime.{Datetime}
 use Rattle.dates.specs.declared.DateValue.{DateValue}
 use Rattle.dates.specs.declared.Date.{Date}
@@ -37,14 +33,14 @@ unfoldable pub written_day : Day → WrittenDay
 written_day d = record { 0 = d.0 + 1 }
 
 -- the day beside a month; 255 has no written number in a byte
-unfoldable pub day_parts : Month → OptionDay → Parts
-day_parts m NoDay = WithMonth (written_month m)
-day_parts m (SomeDay d) = pick (eqb d.0 255) TooLarge (WithDay (written_month m) (written_day d))
+unfoldable pub day_parts : Month → Option Day → Parts
+day_parts m None = WithMonth (written_month m)
+day_parts m (Some d) = pick (eqb d.0 255) TooLarge (WithDay (written_month m) (written_day d))
 
 -- a day without a month is not written
-unfoldable pub month_parts : OptionMonth → OptionDay → Parts
-month_parts NoMonth d = NoParts
-month_parts (SomeMonth m) d = pick (eqb m.0 255) TooLarge (day_parts m d)
+unfoldable pub month_parts : Option Month → Option Day → Parts
+month_parts None d = NoParts
+month_parts (Some m) d = pick (eqb m.0 255) TooLarge (day_parts m d)
 
 -- what is written of a Datetime behind its year; never the time
 unfoldable pub parts_of : Datetime → Parts

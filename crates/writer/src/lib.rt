@@ -13,12 +13,9 @@ ghost use Rattle.puts.specs.Answers.{Put};
 ghost use Rattle.writer.specs.Answers as spec;
 ghost use Rattle.writer.specs.Level as level;
 
-use dates::{
-    Date, DateValue, Datetime, Day, Month, OptionDay, OptionMonth, WrittenDay, WrittenMonth,
-    season_number,
-};
-use puts::{Measured, Written, decide, put_bytes, put_digits, put_mark, width};
-use refusals::{Kind, nowhere};
+use dates::{Date, DateValue, Datetime, Day, Month, WrittenDay, WrittenMonth, season_number};
+use puts::{decide, put_bytes, put_digits, put_mark, width};
+use refusals::{Kind, Refusal, nowhere};
 
 // What is written behind a year.
 #[derive(Clone, Copy)]
@@ -114,13 +111,14 @@ fn written_day(d: Day) -> WrittenDay
 }
 
 // The day beside a month; 255 has no written number in a byte.
-fn day_parts(m: Month, day: OptionDay) -> Parts
+#[tactic(auto, unfolding(crate::specs::Texts::day_parts, chars::specs::Pick::pick))]
+fn day_parts(m: Month, day: Option<Day>) -> Parts
     requires { m.0 < 255 }
     ensures { result ≡ text.day_parts m day }
 {
     match day {
-        OptionDay::NoDay => Parts::WithMonth(written_month(m)),
-        OptionDay::SomeDay(d) => {
+        None => Parts::WithMonth(written_month(m)),
+        Some(d) => {
             if d.0 == 255 {
                 return Parts::TooLarge;
             }
@@ -130,14 +128,15 @@ fn day_parts(m: Month, day: OptionDay) -> Parts
 }
 
 // What is written of a Datetime behind its year.
+#[tactic(auto, unfolding(crate::specs::Texts::parts_of, crate::specs::Texts::month_parts, chars::specs::Pick::pick))]
 fn parts_of(d: Datetime) -> Parts
     ensures { result ≡ text.parts_of d }
 {
     let month = d.month;
     let day = d.day;
     match month {
-        OptionMonth::NoMonth => Parts::NoParts,
-        OptionMonth::SomeMonth(m) => {
+        None => Parts::NoParts,
+        Some(m) => {
             if m.0 == 255 {
                 return Parts::TooLarge;
             }
@@ -442,69 +441,63 @@ fn value_lines_length(v: DateValue) -> usize
 // ---- the calls
 
 // How long the text of a date is: at most 40 bytes. It refuses what `write_text` refuses, apart from NoRoom.
-pub fn date_length(d: Date) -> Measured
+pub fn date_length(d: Date) -> Result<usize, Refusal>
     ensures value { result ≡ spec.date_measured d (text.date_text d) }
     ensures d_len_bound { text.panics d ≡ false → length (text.date_text d) ≤ 40 }
 {
     let v = d.value;
     let n = value_length(v) + mark_length(d.uncertain, d.approximate);
     if v.has_season() {
-        return Measured::NoLength(nowhere(Kind::HasSeason));
+        return Err(nowhere(Kind::HasSeason));
     }
     if value_panics(v) {
-        return Measured::NoLength(nowhere(Kind::RustPanics));
+        return Err(nowhere(Kind::RustPanics));
     }
-    Measured::Length(n)
+    Ok(n)
 }
 
 // How long the fields of a date are. It refuses what `write_fields` refuses, apart from NoRoom.
-pub fn fields_length(d: Date) -> Measured
+pub fn fields_length(d: Date) -> Result<usize, Refusal>
     ensures { result ≡ spec.date_measured d (field.fields_text d) }
 {
     let value = d.value;
     if value.has_season() {
-        return Measured::NoLength(nowhere(Kind::HasSeason));
+        return Err(nowhere(Kind::HasSeason));
     }
     if value_panics(value) {
-        return Measured::NoLength(nowhere(Kind::RustPanics));
+        return Err(nowhere(Kind::RustPanics));
     }
-    Measured::Length(value_lines_length(value))
+    Ok(value_lines_length(value))
 }
 
 // The text of a date, at the front of the lent buffer; a refusal stores nothing. Whoever measured the date knows the room that it needs.
-pub fn write_text(d: Date, out: &mut [u8]) -> Written
+pub fn write_text(d: Date, out: &mut [u8]) -> Result<usize, Refusal>
     ensures value { result ≡ spec.date_answer d (text.date_text d) (length out.old) }
     ensures out_after { out.new ≡ spec.date_afterwards d (text.date_text d) out.old }
     ensures d_len_bound { text.panics d ≡ false → length (text.date_text d) ≤ 40 }
 {
-    match decide(date_length(d), out.len()) {
-        Written::Done(_) => Written::Done(put_date(d, out)),
-        Written::Refused(e) => Written::Refused(e),
-    }
+    decide(date_length(d), out.len())?;
+    Ok(put_date(d, out))
 }
 
 // Both in one call: the date is measured, then its text is written.
-pub fn write_date(d: Date, out: &mut [u8]) -> Written
+pub fn write_date(d: Date, out: &mut [u8]) -> Result<usize, Refusal>
     ensures value { result ≡ spec.date_answer d (text.date_text d) (length out.old) }
     ensures out_after { out.new ≡ spec.date_afterwards d (text.date_text d) out.old }
     ensures d_len_bound { text.panics d ≡ false → length (text.date_text d) ≤ 40 }
 {
-    match date_length(d) {
-        Measured::Length(_) => write_text(d, out),
-        Measured::NoLength(e) => Written::Refused(e),
-    }
+    date_length(d)?;
+    write_text(d, out)
 }
 
 // The fields of a date, at the front of the lent buffer; a refusal stores nothing.
-pub fn write_fields(d: Date, out: &mut [u8]) -> Written
+pub fn write_fields(d: Date, out: &mut [u8]) -> Result<usize, Refusal>
     ensures value { result ≡ spec.date_answer d (field.fields_text d) (length out.old) }
     ensures out_after { out.new ≡ spec.date_afterwards d (field.fields_text d) out.old }
 {
     let v = d.value;
-    match decide(fields_length(d), out.len()) {
-        Written::Done(_) => Written::Done(put_value_lines(v, out)),
-        Written::Refused(e) => Written::Refused(e),
-    }
+    decide(fields_length(d), out.len())?;
+    Ok(put_value_lines(v, out))
 }
 
 // ---- level one
@@ -652,26 +645,24 @@ fn level_value_panics(v: DateValue) -> bool
 }
 
 // How long the text of a date is by the writer of level one: at most 42 bytes. It refuses what `write_level` refuses, apart from NoRoom.
-pub fn level_length(d: Date) -> Measured
+pub fn level_length(d: Date) -> Result<usize, Refusal>
     ensures value { result ≡ shared.measured (level.level_panics d) (level.level_text d) }
     ensures d_len_bound { length (level.level_text d) ≤ 42 }
 {
     let v = d.value;
     let n = level_value_length(v) + mark_length(d.uncertain, d.approximate);
     if level_value_panics(v) {
-        return Measured::NoLength(nowhere(Kind::RustPanics));
+        return Err(nowhere(Kind::RustPanics));
     }
-    Measured::Length(n)
+    Ok(n)
 }
 
 // The text of a date by the writer of level one, at the front of the lent buffer; a refusal stores nothing. It knows seasons, and refuses none.
-pub fn write_level(d: Date, out: &mut [u8]) -> Written
+pub fn write_level(d: Date, out: &mut [u8]) -> Result<usize, Refusal>
     ensures value { result ≡ shared.answer (level.level_panics d) (level.level_text d) (length out.old) }
     ensures out_after { out.new ≡ shared.afterwards (level.level_panics d) (level.level_text d) out.old }
     ensures d_len_bound { length (level.level_text d) ≤ 42 }
 {
-    match decide(level_length(d), out.len()) {
-        Written::Done(_) => Written::Done(put_level_date(d, out)),
-        Written::Refused(e) => Written::Refused(e),
-    }
+    decide(level_length(d), out.len())?;
+    Ok(put_level_date(d, out))
 }

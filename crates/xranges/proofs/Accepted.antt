@@ -11,31 +11,27 @@ use Rattle.scanner.specs.Scan.{eat_while, part}
 use Rattle.scanner.proofs.Parts.{part-short}
 use Rattle.refusals.specs.declared.TextRefusal.{TextRefusal}
 use Rattle.dates.specs.declared.Datetime.{Datetime}
-use Rattle.numbers.specs.declared.ParsedNumber.{ParsedNumber}
-use Rattle.numbers.specs.declared.ParsedNumber.TheVariants.{Value, NoValue}
+use Rattle.scanner.specs.declared.Cursor.{Cursor}
+use Rattle.std.specs.Prelude.{Option, Some, None, Result, Ok, Err}
 use Rattle.numbers.specs.Parse.{parse}
 use Rattle.numbers.proofs.Whole.{value_in, value-digits}
-use Rattle.xranges.specs.declared.ReadHyphen.{ReadHyphen}
-use Rattle.xranges.specs.declared.ReadHyphen.TheVariants.{Behind, NoHyphen}
-use Rattle.xranges.specs.declared.ReadRange.{ReadRange}
-use Rattle.xranges.specs.declared.ReadRange.TheVariants.{Range, NoRange}
 use Rattle.xranges.specs.Accepted.{XRange, some_years, all_months, all_days}
 use Rattle.xranges.specs.Range.{get_hyphen, on_hyphen, on_value, years, months, days, second_run, second_at, behind_months, end_of_days, day_run, behind_month, month_run, month, months_run, behind_year, year_run, digit_run, range_from, range_dates}
 
-data Good : ReadRange → Type 0 where
-  good : {a b : Datetime} → XRange a b → Good (Range a b)
-  refused : {e : TextRefusal} → Good (NoRange e)
+data Good : Result (Datetime × Datetime) TextRefusal → Type 0 where
+  good : {a b : Datetime} → XRange a b → Good (Ok (a, b))
+  refused : {e : TextRefusal} → Good (Err e)
 
 -- each step, and what goes on from it
-on-hyphen : (r : ReadHyphen) {go : ℕ → ReadRange} → ((c : ℕ) → Good (go c)) → Good (on_hyphen r go)
+on-hyphen : (r : Result Cursor TextRefusal) {go : ℕ → Result (Datetime × Datetime) TextRefusal} → ((c : ℕ) → Good (go c)) → Good (on_hyphen r go)
 unfolding on_hyphen
-on-hyphen (Behind c) g = g c.0
-on-hyphen (NoHyphen e) g = refused
+on-hyphen (Ok c) g = g c.0
+on-hyphen (Err e) g = refused
 
-on_value_lem : (r : ParsedNumber) {go : ℕ → ReadRange} → ((v : ℕ) → r ≡ Value v → Good (go v)) → Good (on_value r go)
+on_value_lem : (r : Option ℕ) {go : ℕ → Result (Datetime × Datetime) TextRefusal} → ((v : ℕ) → r ≡ Some v → Good (go v)) → Good (on_value r go)
 unfolding on_value
-on_value_lem (Value v) g = g v refl
-on_value_lem NoValue g = refused
+on_value_lem (Some v) g = g v refl
+on_value_lem None g = refused
 
 months-good : (year : ℕ) → year < 10000 → Good (months year)
 unfolding months
@@ -101,9 +97,9 @@ range-good s =
     λ _. years-good (c - a) v (ltb-false _ _ h) (ltb-false _ _ l) (value-digits 9999 (part s a c) (c - a) (part-short s a c) e))
     (λ _. refused)
 
-of-good : {a b : Datetime} → Good (Range a b) → XRange a b
+of-good : {a b : Datetime} → Good (Ok (a, b)) → XRange a b
 of-good (good w) = w
 
 -- every range that the reader gives is one of them
-pub accepted-range : (s : List ℕ) {a b : Datetime} → range_dates s ≡ Range a b → XRange a b
+pub accepted-range : (s : List ℕ) {a b : Datetime} → range_dates s ≡ Ok (a, b) → XRange a b
 accepted-range s e = of-good (subst Good e (range-good s))

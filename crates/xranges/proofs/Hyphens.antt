@@ -11,11 +11,13 @@ use Rattle.scanner.specs.declared.Class.TheVariants.{Whitespace, Is}
 use Rattle.scanner.proofs.Laws.{not_white}
 use Rattle.scanner.proofs.Digits.{is-it, is-other}
 use Rattle.scanner.proofs.Front.{From, front_rest, front-go, front-stop}
-use Rattle.xranges.specs.declared.ReadRange.{ReadRange}
+use Rattle.dates.specs.declared.Datetime.{Datetime}
+use Rattle.refusals.specs.declared.TextRefusal.{TextRefusal}
+use Rattle.std.specs.Prelude.{Result}
 use Rattle.xranges.specs.Range.{hyphen_run, hyphen_from, get_hyphen, on_hyphen}
 
 -- a printing ASCII character other than a hyphen stands behind it: reading goes on there
-pub one-hyphen : {s t : List ℕ} {i c : ℕ} (go : ℕ → ReadRange) → 0x20 < c → c < 0x80 → (c ≡ 0x2D → ⊥) → From s i (0x2D ∷ c ∷ t) → on_hyphen (get_hyphen s i) go ≡ go (i + 1)
+pub one-hyphen : {s t : List ℕ} {i c : ℕ} (go : ℕ → Result (Datetime × Datetime) TextRefusal) → 0x20 < c → c < 0x80 → (c ≡ 0x2D → ⊥) → From s i (0x2D ∷ c ∷ t) → on_hyphen (get_hyphen s i) go ≡ go (i + 1)
 unfolding on_hyphen get_hyphen hyphen_from hyphen_run pick
 one-hyphen {s} {t} {i} {c} go l h n f =
     rw (

@@ -19,24 +19,18 @@ use Rattle.scanner.proofs.Laws.{at_least}
 use Rattle.scanner.proofs.Parts.{part-grown}
 use Rattle.scanner.proofs.Eaten.{eaten-long, eaten-same}
 use Rattle.refusals.specs.declared.TextRefusal.{TextRefusal}
-use Rattle.dates.specs.declared.OptionMonth.TheVariants.{NoMonth}
-use Rattle.dates.specs.declared.OptionDay.TheVariants.{NoDay}
-use Rattle.dates.specs.declared.OptionTime.TheVariants.{NoTime}
+use Rattle.std.specs.Prelude.{Option, Some, None, Result, Ok, Err}
 use Rattle.dates.specs.declared.Datetime.{Datetime}
 use Rattle.dates.specs.Value.{datetime}
-use Rattle.numbers.specs.declared.ParsedNumber.{ParsedNumber}
-use Rattle.numbers.specs.declared.ParsedNumber.TheVariants.{Value, NoValue}
 use Rattle.numbers.specs.Parse.{AllDigits, decimal_value, parse}
 use Rattle.numbers.proofs.Decimal.{decimal-append, decimal-below, digits_append, eaten-denoted}
-use Rattle.xranges.specs.declared.ReadRange.{ReadRange}
-use Rattle.xranges.specs.declared.ReadRange.TheVariants.{Range, NoRange}
 use Rattle.xranges.specs.Written.{year_chars, past_hyphens, month_chars, DigitsOf, in_year, WrittenRange, century, decade, all_months, all_days}
 use Rattle.xranges.specs.Range.{hyphen_run, hyphen_from, get_hyphen, on_hyphen, on_value, years, months, days, second_run, second_at, behind_months, end_of_days, day_run, behind_month, month_run, month, months_run, behind_year, year_run, digit_run, range_from, range_dates}
 
 -- ---- what was eaten
 
 -- digits that are read as a number: so many of them
-eaten-digits : (s : List ℕ) (at n top : ℕ) {v : ℕ} → eat_while AsciiDigit s at - at ≡ n → parse top (part s at (eat_while AsciiDigit s at)) ≡ Value v → DigitsOf n (take n (drop at s)) × (v ≡ decimal_value (take n (drop at s)))
+eaten-digits : (s : List ℕ) (at n top : ℕ) {v : ℕ} → eat_while AsciiDigit s at - at ≡ n → parse top (part s at (eat_while AsciiDigit s at)) ≡ Some v → DigitsOf n (take n (drop at s)) × (v ≡ decimal_value (take n (drop at s)))
 unfolding part
 eaten-digits s at n top {v} e p =
     let q = eaten-denoted s at top p in
@@ -50,27 +44,27 @@ eaten-x s at n e = subst (λ (m : ℕ). take m (drop at s) ≡ replicate m 0x58)
 
 -- ---- each step, and what goes on from it
 
-data Good (s : List ℕ) : ReadRange → Type 0 where
-  good : {a b : Datetime} → WrittenRange s a b → Good s (Range a b)
-  refused : {e : TextRefusal} → Good s (NoRange e)
+data Good (s : List ℕ) : Result (Datetime × Datetime) TextRefusal → Type 0 where
+  good : {a b : Datetime} → WrittenRange s a b → Good s (Ok (a, b))
+  refused : {e : TextRefusal} → Good s (Err e)
 
 module _ (s : List ℕ) where
-  on-hyphen : (at : ℕ) (go : ℕ → ReadRange) → Good s (go (past_hyphens s at)) → Good s (on_hyphen (get_hyphen s at) go)
+  on-hyphen : (at : ℕ) (go : ℕ → Result (Datetime × Datetime) TextRefusal) → Good s (go (past_hyphens s at)) → Good s (on_hyphen (get_hyphen s at) go)
   unfolding on_hyphen get_hyphen hyphen_from hyphen_run
   on-hyphen at go g = by-test (λ r. Good s (on_hyphen r go)) _ (λ _. refused) (λ _. g)
 
-  on_value_lem : (r : ParsedNumber) {go : ℕ → ReadRange} → ((v : ℕ) → r ≡ Value v → Good s (go v)) → Good s (on_value r go)
+  on_value_lem : (r : Option ℕ) {go : ℕ → Result (Datetime × Datetime) TextRefusal} → ((v : ℕ) → r ≡ Some v → Good s (go v)) → Good s (on_value r go)
   unfolding on_value
-  on_value_lem (Value v) g = g v refl
-  on_value_lem NoValue g = refused
+  on_value_lem (Some v) g = g v refl
+  on_value_lem None g = refused
 
   -- the years with each digit in place of an X
-  range-years : (t u v : List ℕ) → WrittenRange s (in_year (t ++ u) NoMonth NoDay) (in_year (t ++ v) NoMonth NoDay) → (n : ℕ) → length u ≡ n → length v ≡ n → decimal_value u ≡ 0 → decimal_value v ≡ 10 ^ n - 1 → Good s (years (decimal_value t) (10 ^ n))
+  range-years : (t u v : List ℕ) → WrittenRange s (in_year (t ++ u) None None) (in_year (t ++ v) None None) → (n : ℕ) → length u ≡ n → length v ≡ n → decimal_value u ≡ 0 → decimal_value v ≡ 10 ^ n - 1 → Good s (years (decimal_value t) (10 ^ n))
   unfolding years
   range-years t u v w n lu lv eu ev =
       let a : decimal_value (t ++ u) ≡ decimal_value t * 10 ^ n = decimal-append t u ∙ rw (lu, eu) (add-zero (decimal_value t * 10 ^ n)) in
       let b : decimal_value (t ++ v) ≡ decimal_value t * 10 ^ n + (10 ^ n - 1) = decimal-append t v ∙ rw (lv, ev) in
-      let y : ℕ → Datetime = λ k. datetime (pos k) NoMonth NoDay NoTime in
+      let y : ℕ → Datetime = λ k. datetime (pos k) None None None in
       good (subst (λ (k : ℕ). WrittenRange s (y (decimal_value t * 10 ^ n)) (y k)) b (subst (λ (k : ℕ). WrittenRange s (y k) (y (decimal_value (t ++ v)))) a w))
 
   years-good : (n : ℕ) {t : List ℕ} → DigitsOf n t → year_chars s ≡ t ++ replicate (4 - n) 0x58 → 2 ≤ n → n < 4 → Good s (years (decimal_value t) (10 ^ (4 - n)))
@@ -166,11 +160,11 @@ module _ (s : List ℕ) where
       (λ g. rw q.1 (years-good n q.0 y (ltb-false n 2 h) (omega (arith, eqb-false n 4 g)))))
       (λ _. refused)
 
-of-good : {s : List ℕ} {a b : Datetime} → Good s (Range a b) → WrittenRange s a b
+of-good : {s : List ℕ} {a b : Datetime} → Good s (Ok (a, b)) → WrittenRange s a b
 of-good (good w) = w
 
 -- every range that the reader gives is one of them
-pub written-range : (s : List ℕ) {a b : Datetime} → range_dates s ≡ Range a b → WrittenRange s a b
+pub written-range : (s : List ℕ) {a b : Datetime} → range_dates s ≡ Ok (a, b) → WrittenRange s a b
 written-range s e = of-good (subst (Good s) e (range-good s))
 
 -- ---- how large their years are

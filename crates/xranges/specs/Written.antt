@@ -1,15 +1,12 @@
 -- The first and the last date of an X range that is read, by the characters that stand in its text.
 use Prim.Native.Char.{code}
-use Rattle.std.specs.Prelude.{ℕ, ◌+◌, ◌<◌, ◌≡◌, List, ◌++◌, pos, length, take, drop}
+use Rattle.std.specs.Prelude.{ℕ, ◌+◌, ◌<◌, ◌≡◌, List, ◌++◌, pos, length, take, drop, Option, None}
 use Rattle.chars.specs.Ascii.{ascii}
 use Rattle.scanner.specs.declared.Class.TheVariants.{Whitespace, Is}
 use Rattle.scanner.specs.Scan.{eat_while}
 use Rattle.numbers.specs.Parse.{AllDigits, decimal_value}
-use Rattle.dates.specs.declared.OptionMonth.{OptionMonth}
-use Rattle.dates.specs.declared.OptionMonth.TheVariants.{NoMonth}
-use Rattle.dates.specs.declared.OptionDay.{OptionDay}
-use Rattle.dates.specs.declared.OptionDay.TheVariants.{NoDay}
-use Rattle.dates.specs.declared.OptionTime.TheVariants.{NoTime}
+use Rattle.dates.specs.declared.Day.{Day}
+use Rattle.dates.specs.declared.Month.{Month}
 use Rattle.dates.specs.declared.Datetime.{Datetime}
 use Rattle.dates.specs.Value.{datetime, month as stored, day}
 
@@ -33,13 +30,13 @@ pub record DigitsOf (n : ℕ) (t : List ℕ) : Type 0 where
   pub long : length t ≡ n
 
 -- the date of the year that a text's digits denote, with this month and this day
-abbrev pub in_year : List ℕ → OptionMonth → OptionDay → Datetime
-in_year t m d = datetime (pos (decimal_value t)) m d NoTime
+abbrev pub in_year : List ℕ → Option Month → Option Day → Datetime
+in_year t m d = datetime (pos (decimal_value t)) m d None
 
 -- two digits and XX: the years with 00 and with 99 for XX. Three and X: those with 0 and with 9 for X. Four, and XX for the month: January
 -- and December of the year. Four, and two for the month: its first day and the 31st, whatever its length
 pub data WrittenRange (s : List ℕ) : Datetime → Datetime → Type 0 where
-  century : {t : List ℕ} → DigitsOf 2 t → year_chars s ≡ t ++ ascii "XX" → WrittenRange s (in_year (t ++ ascii "00") NoMonth NoDay) (in_year (t ++ ascii "99") NoMonth NoDay)
-  decade : {t : List ℕ} → DigitsOf 3 t → year_chars s ≡ t ++ ascii "X" → WrittenRange s (in_year (t ++ ascii "0") NoMonth NoDay) (in_year (t ++ ascii "9") NoMonth NoDay)
-  all_months : DigitsOf 4 (year_chars s) → month_chars s ≡ ascii "XX" → WrittenRange s (in_year (year_chars s) (stored 0) NoDay) (in_year (year_chars s) (stored 11) NoDay)
+  century : {t : List ℕ} → DigitsOf 2 t → year_chars s ≡ t ++ ascii "XX" → WrittenRange s (in_year (t ++ ascii "00") None None) (in_year (t ++ ascii "99") None None)
+  decade : {t : List ℕ} → DigitsOf 3 t → year_chars s ≡ t ++ ascii "X" → WrittenRange s (in_year (t ++ ascii "0") None None) (in_year (t ++ ascii "9") None None)
+  all_months : DigitsOf 4 (year_chars s) → month_chars s ≡ ascii "XX" → WrittenRange s (in_year (year_chars s) (stored 0) None) (in_year (year_chars s) (stored 11) None)
   all_days : {m : ℕ} → DigitsOf 4 (year_chars s) → DigitsOf 2 (month_chars s) → decimal_value (month_chars s) ≡ m + 1 → m < 12 → WrittenRange s (in_year (year_chars s) (stored m) (day 0)) (in_year (year_chars s) (stored m) (day 30))

@@ -1,34 +1,18 @@
 // X ranges of a date field: a century or a decade, the months of a year, the days of a month.
 #![tactic(auto)]
 
-ghost use Rattle.std.specs.Prelude.{◌≡◌, ◌-◌, ◌+◌, ◌^◌, ◌<◌, pos};
+ghost use Rattle.std.specs.Prelude.{◌≡◌, ◌-◌, ◌+◌, ◌^◌, ◌<◌, pos, None};
 ghost use Rattle.refusals.specs.Offset.{text_refusal};
 ghost use Rattle.xranges.specs.Range as spec;
 ghost use Rattle.dates.specs.Value.{datetime};
-ghost use Rattle.dates.specs.declared.OptionTime.TheVariants.{NoTime};
 
-use dates::{Datetime, Day, Month, OptionDay, OptionMonth, OptionTime};
-use numbers::ParsedNumber;
+use dates::{Datetime, Day, Month};
 use refusals::{Kind, TextRefusal, panics, refuse_text};
 use scanner::{Class, Cursor};
 
 const HYPHEN: u32 = b'-' as u32;
 
 const LETTER_X: u32 = b'X' as u32;
-
-// The first and the last date of a range, or why there is none.
-#[derive(Clone, Copy)]
-pub enum ReadRange {
-    Range(Datetime, Datetime),
-    NoRange(TextRefusal),
-}
-
-// The place behind a hyphen, or why there is none.
-#[derive(Clone, Copy)]
-enum ReadHyphen {
-    Behind(Cursor),
-    NoHyphen(TextRefusal),
-}
 
 // A refusal where nothing is taken.
 fn here(kind: Kind, c: Cursor) -> TextRefusal
@@ -45,23 +29,23 @@ fn len(start: Cursor, c: Cursor) -> usize
 }
 
 // A date without a time.
-fn date(year: u32, month: OptionMonth, day: OptionDay) -> Datetime
+fn date(year: u32, month: Option<Month>, day: Option<Day>) -> Datetime
     requires { year < 0x80000000 }
-    ensures { result ≡ datetime (pos year) month day NoTime }
+    ensures { result ≡ datetime (pos year) month day None }
 {
-    Datetime::new(year as i32, month, day, OptionTime::NoTime)
+    Datetime::new(year as i32, month, day, None)
 }
 
 // Hyphens, and white space around them.
-fn get_hyphen(s: &[u8], c: Cursor) -> ReadHyphen
+fn get_hyphen(s: &[u8], c: Cursor) -> Result<Cursor, TextRefusal>
     ensures { result ≡ spec.get_hyphen s.now c.0 }
 {
     let start = scanner::eat_whitespace(s, c);
     let next = scanner::eat_while(s, start, Class::Is(HYPHEN));
     if len(start, next) == 0 {
-        return ReadHyphen::NoHyphen(here(Kind::InvalidFormat, next));
+        return Err(here(Kind::InvalidFormat, next));
     }
-    ReadHyphen::Behind(scanner::eat_whitespace(s, next))
+    Ok(scanner::eat_whitespace(s, next))
 }
 
 // How many years a decade, a century has: what the digits that are not sure leave open.
@@ -78,53 +62,42 @@ fn variable(sure: usize) -> u32
 }
 
 // The years that begin with the digits: a century or a decade.
-fn years(digits: u32, variable: u32) -> ReadRange
+fn years(digits: u32, variable: u32) -> Result<(Datetime, Datetime), TextRefusal>
     requires { (digits < 10000) × ((variable < 10001) × (0 < variable)) }
     ensures { result ≡ spec.years digits variable }
 {
     let year = digits * variable;
-    ReadRange::Range(
-        date(year, OptionMonth::NoMonth, OptionDay::NoDay),
-        date(
-            year + (variable - 1),
-            OptionMonth::NoMonth,
-            OptionDay::NoDay,
-        ),
-    )
+    Ok((
+        date(year, None, None),
+        date(year + (variable - 1), None, None),
+    ))
 }
 
 // The months of a year, from January to December.
-fn months(year: u32) -> ReadRange
+fn months(year: u32) -> Result<(Datetime, Datetime), TextRefusal>
     requires { year < 10000 }
     ensures { result ≡ spec.months year }
 {
-    ReadRange::Range(
-        date(year, OptionMonth::SomeMonth(Month(0)), OptionDay::NoDay),
-        date(year, OptionMonth::SomeMonth(Month(11)), OptionDay::NoDay),
-    )
+    Ok((
+        date(year, Some(Month(0)), None),
+        date(year, Some(Month(11)), None),
+    ))
 }
 
 // The days of a month. The ported code takes 31 of them for any month.
-fn days(year: u32, month: Month) -> ReadRange
+fn days(year: u32, month: Month) -> Result<(Datetime, Datetime), TextRefusal>
     requires { year < 10000 }
     ensures { result ≡ spec.days year month.0 }
 {
-    ReadRange::Range(
-        date(
-            year,
-            OptionMonth::SomeMonth(month),
-            OptionDay::SomeDay(Day(0)),
-        ),
-        date(
-            year,
-            OptionMonth::SomeMonth(month),
-            OptionDay::SomeDay(Day(30)),
-        ),
-    )
+    Ok((
+        date(year, Some(month), Some(Day(0))),
+        date(year, Some(month), Some(Day(30))),
+    ))
 }
 
 // Behind the XX of the months: the end, or a second XX, behind which nothing is read.
-fn behind_months(s: &[u8], c: Cursor, year: u32) -> ReadRange
+#[tactic(auto, unfolding(crate::specs::Range::behind_months, crate::specs::Range::second_at, crate::specs::Range::on_hyphen, crate::specs::Range::second_run, chars::specs::Pick::pick))]
+fn behind_months(s: &[u8], c: Cursor, year: u32) -> Result<(Datetime, Datetime), TextRefusal>
     requires { year < 10000 }
     ensures { result ≡ spec.behind_months s.now c.0 year }
 {
@@ -132,82 +105,78 @@ fn behind_months(s: &[u8], c: Cursor, year: u32) -> ReadRange
     if scanner::done(s, pos) {
         return months(year);
     }
-    match get_hyphen(s, pos) {
-        ReadHyphen::Behind(day_start) => {
-            let day_end = scanner::eat_while(s, day_start, Class::Is(LETTER_X));
-            if len(day_start, day_end) == 2 {
-                return months(year);
-            }
-            ReadRange::NoRange(here(Kind::InvalidFormat, day_end))
-        }
-        ReadHyphen::NoHyphen(e) => ReadRange::NoRange(e),
+    let day_start = get_hyphen(s, pos)?;
+    let day_end = scanner::eat_while(s, day_start, Class::Is(LETTER_X));
+    if len(day_start, day_end) == 2 {
+        return months(year);
     }
+    Err(here(Kind::InvalidFormat, day_end))
 }
 
 // Behind the month: XX, and the end.
-fn behind_month(s: &[u8], c: Cursor, year: u32, month: Month) -> ReadRange
+#[tactic(auto, unfolding(crate::specs::Range::behind_month, crate::specs::Range::on_hyphen, crate::specs::Range::day_run, crate::specs::Range::end_of_days, chars::specs::Pick::pick))]
+fn behind_month(
+    s: &[u8],
+    c: Cursor,
+    year: u32,
+    month: Month,
+) -> Result<(Datetime, Datetime), TextRefusal>
     requires { year < 10000 }
     ensures { result ≡ spec.behind_month s.now c.0 year month.0 }
 {
-    match get_hyphen(s, c) {
-        ReadHyphen::Behind(day_start) => {
-            let day_end = scanner::eat_while(s, day_start, Class::Is(LETTER_X));
-            if len(day_start, day_end) == 2 {
-                let pos = scanner::eat_whitespace(s, day_end);
-                if scanner::done(s, pos) {
-                    return days(year, month);
-                }
-                return ReadRange::NoRange(here(Kind::InvalidFormat, pos));
-            }
-            ReadRange::NoRange(here(Kind::InvalidFormat, day_end))
+    let day_start = get_hyphen(s, c)?;
+    let day_end = scanner::eat_while(s, day_start, Class::Is(LETTER_X));
+    if len(day_start, day_end) == 2 {
+        let pos = scanner::eat_whitespace(s, day_end);
+        if scanner::done(s, pos) {
+            return days(year, month);
         }
-        ReadHyphen::NoHyphen(e) => ReadRange::NoRange(e),
+        return Err(here(Kind::InvalidFormat, pos));
     }
+    Err(here(Kind::InvalidFormat, day_end))
 }
 
 // The month of two digits, whose days are the range.
-fn month(s: &[u8], start: Cursor, year: u32) -> ReadRange
+#[tactic(auto, unfolding(crate::specs::Range::month, crate::specs::Range::month_run, crate::specs::Range::on_value, chars::specs::Pick::pick))]
+fn month(s: &[u8], start: Cursor, year: u32) -> Result<(Datetime, Datetime), TextRefusal>
     requires { year < 10000 }
     ensures { result ≡ spec.month s.now start.0 year }
 {
     let c = scanner::eat_while(s, start, Class::AsciiDigit);
     if len(start, c) != 2 {
-        return ReadRange::NoRange(refuse_text(Kind::WrongNumberOfDigits, start, c));
+        return Err(refuse_text(Kind::WrongNumberOfDigits, start, c));
     }
     match numbers::parse(scanner::from(s, start, c), 255) {
-        ParsedNumber::Value(written) => {
+        Some(written) => {
             if written == 0 {
-                return ReadRange::NoRange(panics());
+                return Err(panics());
             }
             if 12 < written {
-                return ReadRange::NoRange(refuse_text(Kind::MonthOutOfRange, start, c));
+                return Err(refuse_text(Kind::MonthOutOfRange, start, c));
             }
             behind_month(s, c, year, Month((written - 1) as u8))
         }
-        ParsedNumber::NoValue => ReadRange::NoRange(panics()),
+        None => Err(panics()),
     }
 }
 
 // Behind a year of four digits: a hyphen, then XX or a month.
-fn behind_year(s: &[u8], c: Cursor, year: u32) -> ReadRange
+#[tactic(auto, unfolding(crate::specs::Range::behind_year, crate::specs::Range::on_hyphen, crate::specs::Range::months_run, chars::specs::Pick::pick))]
+fn behind_year(s: &[u8], c: Cursor, year: u32) -> Result<(Datetime, Datetime), TextRefusal>
     requires { year < 10000 }
     ensures { result ≡ spec.behind_year s.now c.0 year }
 {
-    match get_hyphen(s, c) {
-        ReadHyphen::Behind(idx) => {
-            let month_end = scanner::eat_while(s, idx, Class::Is(LETTER_X));
-            match len(idx, month_end) {
-                0 => month(s, idx, year),
-                2 => behind_months(s, month_end, year),
-                _ => ReadRange::NoRange(refuse_text(Kind::WrongNumberOfDigits, idx, month_end)),
-            }
-        }
-        ReadHyphen::NoHyphen(e) => ReadRange::NoRange(e),
+    let idx = get_hyphen(s, c)?;
+    let month_end = scanner::eat_while(s, idx, Class::Is(LETTER_X));
+    match len(idx, month_end) {
+        0 => month(s, idx, year),
+        2 => behind_months(s, month_end, year),
+        _ => Err(refuse_text(Kind::WrongNumberOfDigits, idx, month_end)),
     }
 }
 
 // The range that a text with an X stands for.
-pub fn range_dates(s: &[u8]) -> ReadRange
+pub fn range_dates(s: &[u8]) -> Result<(Datetime, Datetime), TextRefusal>
     ensures { result ≡ spec.range_dates s.now }
 {
     let run = scanner::next_run(s, Cursor(0), Class::AsciiDigit);
@@ -216,23 +185,23 @@ pub fn range_dates(s: &[u8]) -> ReadRange
     let sure_digits = len(start, digits_end);
     // 10_i32.pow(4 - sure_digits)
     if 4 < sure_digits {
-        return ReadRange::NoRange(panics());
+        return Err(panics());
     }
     // The run of X is taken only behind two digits or more.
     if sure_digits < 2 {
-        return ReadRange::NoRange(refuse_text(Kind::WrongNumberOfDigits, Cursor(0), digits_end));
+        return Err(refuse_text(Kind::WrongNumberOfDigits, Cursor(0), digits_end));
     }
     let year_end = scanner::eat_while(s, digits_end, Class::Is(LETTER_X));
     if len(digits_end, year_end) != 4 - sure_digits {
-        return ReadRange::NoRange(refuse_text(Kind::WrongNumberOfDigits, Cursor(0), year_end));
+        return Err(refuse_text(Kind::WrongNumberOfDigits, Cursor(0), year_end));
     }
     match numbers::parse(scanner::from(s, start, digits_end), 9999) {
-        ParsedNumber::Value(year_part) => {
+        Some(year_part) => {
             if sure_digits == 4 {
                 return behind_year(s, year_end, year_part);
             }
             years(year_part, variable(sure_digits))
         }
-        ParsedNumber::NoValue => ReadRange::NoRange(panics()),
+        None => Err(panics()),
     }
 }

@@ -1,5 +1,5 @@
 use mathlib.Core.Path.{ap}
-use Rattle.puts.specs.declared.Written.TheVariants.{Refused}
+use Rattle.std.specs.Prelude.{Err}
 use Rattle.puts.specs.Answers.{decided}
 use Rattle.refusals.specs.Refusal.{nowhere}
 use Rattle.chars.specs.Pick.{pick}
@@ -8,4 +8,4 @@ use Rattle.answers.proofs.no_room.Goals as goal
 
 pub returns : goal.returns
 unfolding decided pick
-returns c = ap Refused c.nowhere.ensures
+returns c = ap Err c.nowhere.ensures

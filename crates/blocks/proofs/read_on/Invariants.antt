@@ -1,8 +1,5 @@
 use Rattle.std.specs.Io.{ReadsAtMost}
 use Rattle.blocks.proofs.read_on.Given as goal
 
-abbrev pub invariant-loop-tries : goal.invariant-loop-tries
-invariant-loop-tries g l = ReadsAtMost l.got l.buf
-
-abbrev pub decreases-loop-tries : goal.decreases-loop-tries
-decreases-loop-tries g l = l.tries
+abbrev pub invariant-loop : goal.invariant-loop
+invariant-loop g l = ReadsAtMost l.got l.buf

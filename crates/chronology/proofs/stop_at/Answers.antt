@@ -1,17 +1,13 @@
-use lib.ListN.{drop}
-use native.Mathlib.Omega.{arith}
-use native.Mathlib.Nat.{zero-add}
-use Prim.Native.Nat.{◌+◌, ◌-◌, ◌≤◌}
 use mathlib.Core.Path.{◌≡◌, sym, ◌∙◌}
-use Rattle.chronology.specs.Store.{store, contents, first_where}
+use native.Mathlib.Nat.{zero-add}
+use native.Mathlib.Omega.{arith}
 use Rattle.chronology.specs.Asked.{stops, stop_at}
 use Rattle.chronology.proofs.Columns.{room, where_found, where-passed, where-end}
-use borrow.Author.Rules.{rules}
 use Rattle.chronology.proofs.stop_at.Goals as goal
 
 pub loop-i-init : goal.loop-i-init
 unfolding stop_at
-loop-i-init c = (sym (zero-add _), omega arith)
+loop-i-init c = sym (zero-add _)
 
 pub entry_at-e-requires : goal.entry_at-e-requires
 entry_at-e-requires c =
@@ -20,18 +16,15 @@ entry_at-e-requires c =
 pub returns-then-stops : goal.returns-then-stops
 unfolding stop_at
 returns-then-stops c =
-    (where_found _ (room _ c.requires.1 c.requires.0) c.loop-i.i (stops c.args.period) c.loop-i-test.true c.entry_at-e.ensures (sym c.stops.ensures ∙ c.if-stops.true) ∙ sym c.loop-i.invariant.0, c.loop-i.invariant.1)
-
-pub overflow_add-i : goal.overflow_add-i
-overflow_add-i c =
-    omega arith
+    (where_found _ (room _ c.requires.1 c.requires.0) c.loop-i.i (stops c.args.period) c.loop-i-test.true c.entry_at-e.ensures (sym c.stops.ensures ∙ c.if-stops.true) ∙ sym c.loop-i.invariant, omega arith)
 
 pub loop-i-preserved : goal.loop-i-preserved
 unfolding stop_at
 loop-i-preserved c =
-    (c.loop-i.invariant.0 ∙ where-passed _ (room _ c.requires.1 c.requires.0) c.loop-i.i (stops c.args.period) c.loop-i-test.true c.entry_at-e.ensures (sym c.stops.ensures ∙ c.if-stops.false), omega arith)
+    c.loop-i.invariant ∙ where-passed _ (room _ c.requires.1 c.requires.0) c.loop-i.i (stops c.args.period) c.loop-i-test.true c.entry_at-e.ensures (sym c.stops.ensures ∙ c.if-stops.false)
 
 pub returns : goal.returns
 unfolding stop_at
 returns c =
-    (where-end _ (room _ c.requires.1 c.requires.0) c.loop-i.i (stops c.args.period) c.loop-i-test.false ∙ sym c.loop-i.invariant.0, c.loop-i.invariant.1)
+    let e : c.args.count.now ≡ c.loop-i.i = omega arith in
+    (e ∙ where-end _ (room _ c.requires.1 c.requires.0) c.loop-i.i (stops c.args.period) c.loop-i-test.false ∙ sym c.loop-i.invariant, omega arith)

@@ -1,17 +1,10 @@
+use mathlib.Core.Path.{◌≡◌}
+use Prim.Native.Nat.{◌+◌}
 use lib.ListN.{drop}
-use native.Mathlib.Omega.{arith}
-use native.Mathlib.Nat.{zero-add}
-use Prim.Native.Nat.{◌+◌, ◌-◌, ◌≤◌}
-use mathlib.Core.Path.{◌≡◌, sym, ◌∙◌}
 use Rattle.chronology.specs.Store.{store, contents, first_where}
-use Rattle.chronology.specs.Asked.{stops, stop_at}
-use Rattle.chronology.proofs.Columns.{room, where_found, where-passed, where-end}
-use borrow.Author.Rules.{rules}
+use Rattle.chronology.specs.Asked.{stops}
 use Rattle.chronology.proofs.stop_at.Given as goal
 
 abbrev pub invariant-loop-i : goal.invariant-loop-i
 invariant-loop-i l =
-    (first_where (stops (l.period)) (contents (store l.count l.firsts l.lasts l.ids)) ≡ l.i + first_where (stops (l.period)) (drop l.i (contents (store l.count l.firsts l.lasts l.ids)))) × (l.i ≤ l.count)
-
-abbrev pub decreases-loop-i : goal.decreases-loop-i
-decreases-loop-i l = l.count - l.i
+    first_where (stops l.period) (contents (store l.count l.firsts l.lasts l.ids)) ≡ l.i + first_where (stops l.period) (drop l.i (contents (store l.count l.firsts l.lasts l.ids)))

@@ -1,13 +1,10 @@
 use Rattle.chars.specs.declared.Decoded.TheVariants.{Char}
 use Rattle.chunks.specs.Format.{last_white}
 use Rattle.chars.specs.Utf8.{decode_at}
-use Rattle.chunks.specs.Characters.{codes}
 use Rattle.chars.proofs.Laws.{found, OfChar}
-use Rattle.chunks.proofs.Walk.{code-char, code-end, code-bad}
-use lib.ListN.{length, drop}
-use borrow.Author.Rules.{rules}
+use Rattle.chunks.proofs.Walk.{code-char, code-over}
 use native.Mathlib.Omega.{arith}
-use Prim.Native.Nat.{ℕ, ◌-◌}
+use Prim.Native.Nat.{ℕ}
 use mathlib.Core.List.{List}
 use mathlib.Core.Path.{◌≡◌, refl, sym, ◌∙◌}
 use Rattle.chunks.proofs.last_white_each.Goals as goal
@@ -30,9 +27,6 @@ module _ (c : In-Char) where
 pub loop-code-init : goal.loop-code-init
 loop-code-init c = refl
 
-pub enum_known-code : goal.enum_known-code
-enum_known-code c = c.in-Char.in-Char-own.keys1
-
 pub overflow_add-i : goal.overflow_add-i
 overflow_add-i c = omega (arith, (sees (goal.at.overflow_add-i c).In-Char).inside, (sees (goal.at.overflow_add-i c).In-Char).some)
 
@@ -43,16 +37,6 @@ pub loop-code-preserved : goal.loop-code-preserved
 unfolding last_white
 loop-code-preserved c = rw c.is_whitespace-w.ensures (rw (code-char _ _ (is-char (goal.at.loop-code-preserved c).In-Char)) at c.loop-code.invariant)
 
-pub enum_told-1 : goal.enum_told-1
-enum_told-1 c = c.in-Bad.in-Bad-own.keys2
-
-pub returns-in-Bad : goal.returns-in-Bad
+pub returns : goal.returns
 unfolding last_white
-returns-in-Bad c = rw (code-bad _ _ (sym c.decode_at.ensures ∙ c.in-Bad.is)) at c.loop-code.invariant
-
-pub enum_told-in-End : goal.enum_told-in-End
-enum_told-in-End c = c.in-End.in-End-own.keys3
-
-pub returns-in-End : goal.returns-in-End
-unfolding last_white
-returns-in-End c = rw (code-end _ _ (sym c.decode_at.ensures ∙ c.in-End.is)) at c.loop-code.invariant
+returns c = rw (code-over _ _ (rw c.decode_at.ensures at c.in_default.not-Char)) at c.loop-code.invariant

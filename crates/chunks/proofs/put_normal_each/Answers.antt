@@ -2,17 +2,16 @@
 -- The measure is what is left of the text. Assumes nothing.
 use Rattle.chars.specs.declared.Decoded.TheVariants.{Char}
 use Rattle.chunks.specs.Characters.{codes}
-use Rattle.chunks.proofs.Fill.{fill_start, fill_end, Filling, fill-put}
-use Rattle.chunks.proofs.Walk.{code-bad, code-char, code-end}
+use Rattle.chunks.proofs.Fill.{fill_start, fill_end, fill-put}
+use Rattle.chunks.proofs.Walk.{code-char, code-over}
 use Rattle.chunks.proofs.Room.{one-short}
 use Rattle.chars.proofs.Laws.{OfChar, found}
 use Rattle.chunks.specs.Format.{last_white, normal, one_out}
 use Rattle.chars.specs.Utf8.{decode_at}
 use mathlib.Core.Path.{◌≡◌, refl, sym, ◌∙◌}
 use mathlib.Core.List.{List, ◌∷◌}
-use Prim.Native.Nat.{ℕ, ◌+◌, ◌-◌, ◌≤◌}
+use Prim.Native.Nat.{ℕ, ◌+◌, ◌≤◌}
 use native.Mathlib.Omega.{arith}
-use borrow.Author.Rules.{rules}
 use lib.ListN.{length, drop}
 use Rattle.chunks.proofs.put_normal_each.Goals as goal
 use Rattle.chunks.proofs.put_normal_each.Goals.{In-Char}
@@ -46,9 +45,6 @@ module _ (c : In-Char) where
 pub loop-code-init : goal.loop-code-init
 loop-code-init c = (fill_start _ _ _, refl, omega arith)
 
-pub enum_known-code : goal.enum_known-code
-enum_known-code c = c.in-Char.in-Char-own.keys1
-
 pub put_one-p-requires : goal.put_one-p-requires
 put_one-p-requires c = ((sees (goal.at.put_one-p-requires c).In-Char).below, omega (arith, out-short (goal.at.put_one-p-requires c).In-Char, (sees (goal.at.put_one-p-requires c).In-Char).inside, c.loop-code.invariant.2))
 
@@ -68,28 +64,9 @@ loop-code-preserved c =
       omega (arith, out-short (goal.at.loop-code-preserved c).In-Char, (sees (goal.at.loop-code-preserved c).In-Char).inside, (sees (goal.at.loop-code-preserved c).In-Char).some, v.2, e.0, c.put_one-p.auto.buf),
     )
 
-pub enum_told-1 : goal.enum_told-1
-enum_told-1 c = c.in-Bad.in-Bad-own.keys2
-
-pub shape_of-buf-in-Bad : goal.shape_of-buf-in-Bad
-shape_of-buf-in-Bad c = c.loop-code.invariant.0.long
-
-pub returns-in-Bad : goal.returns-in-Bad
+pub returns : goal.returns
 unfolding normal last_white
-returns-in-Bad c =
+returns c =
     let v = c.loop-code.invariant in
-    let e = code-bad _ _ (sym c.decode_at.ensures ∙ c.in-Bad.is) in
-    (fill_end (rw e at v.0), rw e at v.1, (rw e at v.0).same)
-
-pub enum_told-in-End : goal.enum_told-in-End
-enum_told-in-End c = c.in-End.in-End-own.keys3
-
-pub shape_of-buf-in-End : goal.shape_of-buf-in-End
-shape_of-buf-in-End c = c.loop-code.invariant.0.long
-
-pub returns-in-End : goal.returns-in-End
-unfolding normal last_white
-returns-in-End c =
-    let v = c.loop-code.invariant in
-    let e = code-end _ _ (sym c.decode_at.ensures ∙ c.in-End.is) in
+    let e = code-over _ _ (rw c.decode_at.ensures at c.in_default.not-Char) in
     (fill_end (rw e at v.0), rw e at v.1, (rw e at v.0).same)

@@ -2,13 +2,12 @@ use native.Mathlib.Omega.{arith}
 use mathlib.Core.Path.{◌≡◌, refl, sym, ap, ◌∙◌}
 use mathlib.Core.Bool.{true}
 use mathlib.Core.List.{List, [], ◌∷◌}
-use Prim.Native.Nat.{ℕ, ◌+◌, ◌-◌, ◌≤◌, ◌<◌}
+use Prim.Native.Nat.{ℕ, ◌+◌, ◌<◌}
 use lib.ListN.{length, get_or, drop, drop_of_length-le}
-use borrow.Author.Rules.{rules}
 use lib.Seq.{drop-drop, drop-cons, sets}
 use Rattle.chunks.specs.Upper.{uppercase, uppers}
 use Rattle.chunks.specs.Plain.{all_ascii, plain_byte}
-use Rattle.chunks.proofs.Fill.{Filling, fill_start, fill-put, behind}
+use Rattle.chunks.proofs.Fill.{fill_start, fill-put, behind}
 use Rattle.chunks.proofs.Lengths.{ascii-on}
 use Rattle.chunks.proofs.Plains.{ascii-codes}
 use Rattle.chunks.proofs.Whole.{upper-step, low-at}
@@ -17,7 +16,7 @@ use Rattle.chunks.proofs.upper_bytes.Goals as goal
 
 start : (b : List ℕ) → all_ascii b ≡ true → Raised b b 0
 unfolding uppercase
-start b e = record { fill = rw (ascii-codes b e) (fill_start b 0 (uppers b)); same = refl; ascii = e; inside = omega arith }
+start b e = record { fill = rw (ascii-codes b e) (fill_start b 0 (uppers b)); same = refl; ascii = e }
 
 -- a byte is raised
 turn : (b₀ b : List ℕ) (i x : ℕ) → Raised b₀ b i → i < length b₀ → x ≡ plain_byte true (get_or b i 0) → (b' : List ℕ) → b' ≡ sets b i (x ∷ []) → Raised b₀ b' (i + 1)
@@ -29,32 +28,16 @@ turn b₀ b i x v h e b' g =
       fill = fill-put (x ∷ []) (rw f at v.fill) refl g;
       same = ap (drop (i + 1)) g ∙ behind (x ∷ []) b i (omega arith) ∙ sym (drop-drop 1 i b) ∙ ap (drop 1) v.same ∙ drop-drop 1 i b₀;
       ascii = sym (ascii-on b₀ i h (low-at b₀ i h v.ascii)) ∙ v.ascii;
-      inside = omega arith;
     }
 
-pub loop-i-init : goal.loop-i-init
-loop-i-init c = start _ c.requires
+pub loop-b-init : goal.loop-b-init
+loop-b-init c = start _ c.requires
 
-pub bounds-buf-i : goal.bounds-buf-i
-bounds-buf-i c = omega (arith, c.loop-i.invariant.fill.long)
-
-pub bounds-buf-i-in-loop-i : goal.bounds-buf-i-in-loop-i
-bounds-buf-i-in-loop-i c = omega (arith, c.loop-i.invariant.fill.long)
-
-pub overflow_add-i : goal.overflow_add-i
-overflow_add-i c = omega (arith, c.loop-i.invariant.fill.long)
-
-pub loop-i-smaller : goal.loop-i-smaller
-loop-i-smaller c = omega (arith, c.loop-i.invariant.fill.long)
-
-pub loop-i-preserved : goal.loop-i-preserved
-loop-i-preserved c = turn _ _ _ _ c.loop-i.invariant (omega (arith, c.loop-i.invariant.fill.long)) c.plain_byte.ensures _ refl
-
-pub shape_of-buf : goal.shape_of-buf
-shape_of-buf c = c.loop-i.invariant.fill.long
+pub loop-b-preserved : goal.loop-b-preserved
+loop-b-preserved c = turn _ _ _ _ c.loop-b.invariant (omega (arith, c.loop-b.invariant.fill.long)) c.plain_byte.ensures _ refl
 
 pub returns : goal.returns
 unfolding uppers
 returns c =
-    let v = c.loop-i.invariant in
-    (rw (drop_of_length-le c.args.buf.now {i = c.loop-i.i} (omega (arith, v.fill.long))) at v.fill).same
+    let v = c.loop-b.invariant in
+    (rw (drop_of_length-le c.args.buf.now {i = c.loop-b.b-index} (omega (arith, v.fill.long))) at v.fill).same

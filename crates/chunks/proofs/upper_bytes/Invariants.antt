@@ -1,17 +1,11 @@
-use native.Mathlib.Omega.{arith}
-use mathlib.Core.Path.{◌≡◌, refl, sym, ap, ◌∙◌}
+use mathlib.Core.Path.{◌≡◌}
 use mathlib.Core.Bool.{true}
-use mathlib.Core.List.{List, [], ◌∷◌}
-use Prim.Native.Nat.{ℕ, ◌+◌, ◌-◌, ◌≤◌, ◌<◌}
-use lib.ListN.{length, get_or, drop, drop_of_length-le}
-use borrow.Author.Rules.{rules}
-use lib.Seq.{drop-drop, drop-cons, sets}
+use mathlib.Core.List.{List}
+use Prim.Native.Nat.{ℕ}
+use lib.ListN.{drop}
 use Rattle.chunks.specs.Upper.{uppercase, uppers}
-use Rattle.chunks.specs.Plain.{all_ascii, plain_byte}
-use Rattle.chunks.proofs.Fill.{Filling, fill_start, fill-put, behind}
-use Rattle.chunks.proofs.Lengths.{ascii-on}
-use Rattle.chunks.proofs.Plains.{ascii-codes}
-use Rattle.chunks.proofs.Whole.{upper-step, low-at}
+use Rattle.chunks.specs.Plain.{all_ascii}
+use Rattle.chunks.proofs.Fill.{Filling}
 use Rattle.chunks.proofs.upper_bytes.Given as goal
 
 -- what the buffer comes to with the upper case of the bytes that are left, which still stand there
@@ -19,10 +13,6 @@ pub record Raised (buf₀ buf : List ℕ) (i : ℕ) : Type 0 where
   pub fill : Filling buf₀ 0 (uppercase buf₀) buf i (uppers (drop i buf₀))
   pub same : drop i buf ≡ drop i buf₀
   pub ascii : all_ascii (drop i buf₀) ≡ true
-  pub inside : i ≤ length buf₀
 
-abbrev pub invariant-loop-i : goal.invariant-loop-i
-invariant-loop-i l = Raised l.initial.buf l.buf l.i
-
-abbrev pub decreases-loop-i : goal.decreases-loop-i
-decreases-loop-i l = length l.initial.buf - l.i
+abbrev pub invariant-loop-b : goal.invariant-loop-b
+invariant-loop-b l = Raised l.initial.buf l.buf l.b-index

@@ -1,15 +1,12 @@
 use Rattle.chunks.proofs.Cased.{raise-fill, raise-same}
-use Rattle.chunks.specs.Characters.{codes}
 use Rattle.chars.specs.declared.Decoded.TheVariants.{Char}
-use Rattle.chunks.proofs.Fill.{Filling, fill_start}
+use Rattle.chunks.proofs.Fill.{fill_start}
 use Rattle.chunks.proofs.Room.{upper_long}
 use Rattle.chars.specs.Utf8.{decode_at}
-use Rattle.chunks.proofs.Walk.{code-end, code-bad}
+use Rattle.chunks.proofs.Walk.{code-over}
 use Rattle.chunks.specs.Upper.{uppercase, uppers}
 use mathlib.Core.List.{List}
-use lib.ListN.{length, drop}
-use Prim.Native.Nat.{◌+◌, ◌-◌, ◌≤◌, ℕ}
-use borrow.Author.Rules.{rules}
+use Prim.Native.Nat.{◌+◌, ℕ}
 use native.Mathlib.Omega.{arith}
 use mathlib.Core.Path.{sym, ap, ◌∙◌, refl, ◌≡◌}
 use Rattle.chars.proofs.Laws.{OfChar, found, decode-same}
@@ -47,9 +44,6 @@ pub loop-code-init : goal.loop-code-init
 unfolding uppercase
 loop-code-init c = record { fill = fill_start _ _ _; same = refl; inside = omega arith }
 
-pub enum_known-code : goal.enum_known-code
-enum_known-code c = c.in-Char.in-Char-own.keys1
-
 pub put_upper-i-requires : goal.put_upper-i-requires
 put_upper-i-requires c =
     ((sees (goal.at.put_upper-i-requires c).In-Char).below, omega (arith, upper_long (code (goal.at.put_upper-i-requires c).In-Char), (sees (goal.at.put_upper-i-requires c).In-Char).long, (sees (goal.at.put_upper-i-requires c).In-Char).inside, (v (goal.at.put_upper-i-requires c).In-Char).inside, (v (goal.at.put_upper-i-requires c).In-Char).fill.long))
@@ -69,28 +63,10 @@ loop-code-preserved c =
       inside = omega (arith, next, (sees (goal.at.loop-code-preserved c).In-Char).inside, (v (goal.at.loop-code-preserved c).In-Char).inside);
     }
 
-pub enum_told-1 : goal.enum_told-1
-enum_told-1 c = c.in-Bad.in-Bad-own.keys2
-
-pub shape_of-buf-in-Bad : goal.shape_of-buf-in-Bad
-shape_of-buf-in-Bad c = c.loop-code.invariant.fill.long
-
-pub returns-in-Bad : goal.returns-in-Bad
+pub returns : goal.returns
 unfolding uppers
-returns-in-Bad c =
+returns c =
     let w = c.loop-code.invariant in
     let b0 = c.args.buf.now in
-    (rw (code-bad b0 c.loop-code.i (sym (decode-same c.loop-code.buf b0 _ _ w.same) ∙ sym c.decode_at.ensures ∙ c.in-Bad.is)) at w.fill).same
-
-pub enum_told-in-End : goal.enum_told-in-End
-enum_told-in-End c = c.in-End.in-End-own.keys3
-
-pub shape_of-buf-in-End : goal.shape_of-buf-in-End
-shape_of-buf-in-End c = c.loop-code.invariant.fill.long
-
-pub returns-in-End : goal.returns-in-End
-unfolding uppers
-returns-in-End c =
-    let w = c.loop-code.invariant in
-    let b0 = c.args.buf.now in
-    (rw (code-end b0 c.loop-code.i (sym (decode-same c.loop-code.buf b0 _ _ w.same) ∙ sym c.decode_at.ensures ∙ c.in-End.is)) at w.fill).same
+    let same : c.decode_at.result ≡ decode_at b0 c.loop-code.i = c.decode_at.ensures ∙ decode-same c.loop-code.buf b0 _ _ w.same in
+    (rw (code-over b0 c.loop-code.i (rw same at c.in_default.not-Char)) at w.fill).same

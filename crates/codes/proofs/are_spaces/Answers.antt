@@ -1,14 +1,13 @@
 use mathlib.Core.Path.{◌≡◌, sym, ap, ◌∙◌}
 use mathlib.Core.Bool.{Bool, true, ◌&&◌}
 use mathlib.Core.List.{List}
-use Prim.Native.Nat.{ℕ, ◌+◌, ◌-◌, ◌≤◌, ◌<◌}
+use Prim.Native.Nat.{ℕ, ◌+◌, ◌≤◌, ◌<◌}
 use native.Mathlib.Omega.{arith}
-use native.Mathlib.Nat.{add-zero, add_assoc}
+use native.Mathlib.Nat.{add_assoc}
 use borrow.Author.Tests.{eqb-true}
 use lib.Dec.{eqb}
-use lib.ListN.{length, get_or, take}
+use lib.ListN.{length, get_or}
 use Rattle.chars.proofs.Cases.{and-true}
-use Rattle.codes.specs.Texts.{unspaced}
 use Rattle.codes.proofs.Spaces.{space-behind}
 use Rattle.codes.proofs.are_spaces.Invariants.{before}
 use Rattle.codes.proofs.are_spaces.Goals as goal
@@ -19,15 +18,5 @@ on s at i ok h l f e =
     let p = and-true ok (eqb (get_or s (at + i) 0) 0x20) e in
     ap (before s) (sym (add_assoc at i 1)) ∙ space-behind s (at + i) (omega arith) (eqb-true _ 0x20 p.1) ∙ f p.0
 
-pub loop-i-init : goal.loop-i-init
-loop-i-init c = (λ _. ap (before c.args.s.now) (add-zero c.args.at), omega arith)
-
 pub loop-i-preserved : goal.loop-i-preserved
-loop-i-preserved c = (on _ _ _ _ c.requires c.loop-i-test.true c.loop-i.invariant.0, omega arith)
-
-pub returns : goal.returns
-returns c =
-    let a = c.args in
-    let i = c.loop-i.i in
-    let full : a.at + 16 ≡ a.at + i = omega (arith, c.loop-i.invariant.1) in
-    λ e. ap (before a.s.now) full ∙ c.loop-i.invariant.0 e
+loop-i-preserved c = on _ _ _ _ c.requires c.loop-i-test.true c.loop-i.invariant

@@ -1,25 +1,22 @@
-use mathlib.Core.Path.{◌≡◌, refl, sym, ◌∙◌}
-use Prim.Native.Nat.{◌≤◌}
+use mathlib.Core.Path.{◌≡◌, sym, ◌∙◌}
+use Prim.Native.Nat.{◌+◌, ◌-◌}
 use native.Mathlib.Omega.{arith}
-use lib.ListN.{take}
-use Rattle.codes.specs.Texts.{unspaced}
 use Rattle.codes.proofs.Spaces.{space-before, byte-before, none_before}
 use Rattle.codes.proofs.shed_each.Goals as goal
-
-pub loop-n-init : goal.loop-n-init
-loop-n-init c = (refl, omega arith)
 
 pub loop-n-preserved : goal.loop-n-preserved
 loop-n-preserved c =
     let l = c.loop-n in
-    (sym (space-before _ l.n c.loop-n-test.true (omega arith) c.if-s-n-eq32.true) ∙ l.invariant.0, omega arith)
+    sym (space-before c.args.s.now l.n (omega arith) (omega arith) c.if-s-n-ne32.false) ∙ l.invariant
 
-pub returns-else-s-n-eq32 : goal.returns-else-s-n-eq32
-returns-else-s-n-eq32 c =
+pub returns-then-s-n-ne32 : goal.returns-then-s-n-ne32
+returns-then-s-n-ne32 c =
     let l = c.loop-n in
-    (sym (byte-before _ l.n c.loop-n-test.true (omega arith) c.if-s-n-eq32.false) ∙ l.invariant.0, omega arith)
+    let here : l.n - 1 + 1 ≡ l.n = omega arith in
+    (rw here (sym (byte-before c.args.s.now l.n (omega arith) (omega arith) c.if-s-n-ne32.true) ∙ l.invariant), omega arith)
 
 pub returns : goal.returns
 returns c =
     let l = c.loop-n in
-    (none_before _ l.n (omega arith) ∙ l.invariant.0, omega arith)
+    let z : l.n ≡ 0 = omega arith in
+    (none_before c.args.s.now 0 (omega arith) ∙ rw z at l.invariant, omega arith)

@@ -1,7 +1,7 @@
 use mathlib.Core.Path.{ap}
 use borrow.Author.Tests.{le-leb, lt-leb}
 use Rattle.chars.specs.Pick.{pick}
-use Rattle.csv_rows.specs.declared.Copied.TheVariants.{Text}
+use Rattle.std.specs.Prelude.{Some}
 use Rattle.csv_rows.specs.Texts.{copied, copied_into}
 use borrow.Author.Rules.{rules}
 use Rattle.csv_rows.proofs.copy_text.Goals as goal
@@ -10,7 +10,7 @@ pub returns-then-raw-out : goal.returns-then-raw-out
 unfolding copied copied_into pick
 returns-then-raw-out c =
     let t = le-leb _ _ c.if-raw-out.true in
-    record { value = rw t (ap Text c.copy_in.ensures.value); out_after = rw t c.copy_in.ensures.out_after }
+    record { value = rw t (ap Some c.copy_in.ensures.value); out_after = rw t c.copy_in.ensures.out_after }
 
 pub returns : goal.returns
 unfolding copied copied_into pick

@@ -1,14 +1,8 @@
-use Prim.Native.Nat.{◌+◌, ◌-◌}
-use mathlib.Core.Path.{◌≡◌, refl, sym, ◌∙◌}
+use mathlib.Core.Path.{sym, ◌∙◌}
 use native.Mathlib.Omega.{arith}
-use lib.ListN.{length, drop}
-use borrow.Author.Rules.{rules}
-use Rattle.csv_rows.specs.Reader.{is_special, up_to}
+use Rattle.csv_rows.specs.Reader.{is_special}
 use Rattle.csv_rows.proofs.Laws.{run-go, run-stop, run_past}
 use Rattle.csv_rows.proofs.plain_from.Goals as goal
-
-pub loop-i-init : goal.loop-i-init
-loop-i-init c = refl
 
 pub returns-then-is_special : goal.returns-then-is_special
 returns-then-is_special c =
@@ -21,6 +15,4 @@ loop-i-preserved c =
     sym (run-go (is_special a.sep) a.s.now c.loop-i.i c.loop-i-test.true (sym c.is_special.ensures ∙ c.if-is_special.false)) ∙ c.loop-i.invariant
 
 pub returns : goal.returns
-returns c =
-    let a = c.args in
-    sym (run_past (is_special a.sep) a.s.now c.loop-i.i c.loop-i-test.false) ∙ c.loop-i.invariant
+returns c = let a = c.args in grind (arith, run_past)

@@ -1,14 +1,8 @@
-use Prim.Native.Nat.{◌+◌, ◌-◌}
-use mathlib.Core.Path.{◌≡◌, refl, sym, ◌∙◌}
-use native.Mathlib.Omega.{arith}
-use lib.ListN.{length, drop}
-use borrow.Author.Rules.{rules}
+use mathlib.Core.Path.{◌≡◌}
+use Prim.Native.Nat.{◌+◌}
+use lib.ListN.{drop}
 use Rattle.csv_rows.specs.Reader.{is_special, up_to}
-use Rattle.csv_rows.proofs.Laws.{run-go, run-stop, run_past}
 use Rattle.csv_rows.proofs.plain_from.Given as goal
 
 abbrev pub invariant-loop-i : goal.invariant-loop-i
 invariant-loop-i l = l.i + up_to (is_special l.sep) (drop l.i l.s) ≡ l.at + up_to (is_special l.sep) (drop l.at l.s)
-
-abbrev pub decreases-loop-i : goal.decreases-loop-i
-decreases-loop-i l = length l.s - l.i

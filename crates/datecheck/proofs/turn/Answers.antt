@@ -10,15 +10,14 @@ refill-requires g c =
     let l = leaves-room c.args.buf.now d.new.out p.from p.have d.result.from d.result.put (omega arith) (omega arith) d.ensures.from_in_bounds.0 d.ensures.went c.in-Waits.is in
     (i, (omega arith, omega arith))
 
-pub returns-then-good-clause-turned : goal.returns-then-good-clause-turned
-returns-then-good-clause-turned g c =
+pub returns-in-Waits-clause-turned : goal.returns-in-Waits-clause-turned
+returns-in-Waits-clause-turned g c =
     let p = c.args.p in
     let d = c.steps-d in
-    let n = c.refill.ensures.state_value in
-    λ more. rw n.0 (turned-waits c.args.buf.now d.new.out p.from p.have d.result.from d.result.put (omega arith) (omega arith) d.ensures.from_in_bounds.0 d.ensures.went d.ensures.from_in_bounds.1 c.in-Waits.is (n.1 more))
+    turned-waits c.args.buf.now d.new.out p.from p.have d.result.from d.result.put (omega arith) (omega arith) d.ensures.from_in_bounds.0 d.ensures.went c.refill.new.buf c.refill.result d.ensures.from_in_bounds.1 c.in-Waits.is c.refill.ensures.state_value
 
 pub returns-in-Full-clause-turned : goal.returns-in-Full-clause-turned
 returns-in-Full-clause-turned g c =
     let p = c.args.p in
     let d = c.steps-d in
-    λ more. turned-full c.args.buf.now d.new.out p.from p.have d.result.from d.result.put (omega arith) (omega arith) d.ensures.from_in_bounds.0 d.ensures.went d.ensures.from_in_bounds.1 c.in-Full.is
+    turned-full c.args.buf.now d.new.out p.from p.have d.result.from d.result.put (omega arith) (omega arith) d.ensures.from_in_bounds.0 d.ensures.went d.ensures.from_in_bounds.1 c.in-Full.is

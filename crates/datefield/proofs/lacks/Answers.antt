@@ -1,14 +1,13 @@
 use mathlib.Core.Path.{◌≡◌, refl, sym, ap, ◌∙◌}
 use mathlib.Core.Bool.{Bool, true, false, not, ◌&&◌}
 use mathlib.Core.List.{List}
-use Prim.Native.Nat.{ℕ, ◌+◌, ◌-◌, ◌≤◌, ◌<◌}
-use native.Mathlib.Nat.{add-zero, add_assoc}
+use Prim.Native.Nat.{ℕ, ◌+◌, ◌≤◌, ◌<◌}
+use native.Mathlib.Nat.{add_assoc}
 use native.Mathlib.Omega.{arith}
 use borrow.Author.Tests.{eqb-false}
 use lib.Dec.{eqb}
-use lib.ListN.{length, get_or, drop}
+use lib.ListN.{length, get_or}
 use Rattle.chars.proofs.Cases.{and-true}
-use Rattle.datefield.specs.Text.{first_of}
 use Rattle.datefield.proofs.Finding.{first_on}
 use Rattle.datefield.proofs.lacks.Invariants.{from}
 use Rattle.datefield.proofs.lacks.Goals as goal
@@ -25,11 +24,5 @@ on b s at i ok h l f e =
     ∙ sym (first_on b s (at + i) (omega arith) (eqb-false (get_or s (at + i) 0) b (is-not (eqb (get_or s (at + i) 0) b) p.1)))
     ∙ f p.0
 
-pub loop-i-init : goal.loop-i-init
-loop-i-init c = (λ _. ap (from _ _) (add-zero _), omega arith)
-
 pub loop-i-preserved : goal.loop-i-preserved
-loop-i-preserved c = (on _ _ _ _ _ c.requires c.loop-i-test.true c.loop-i.invariant.0, omega arith)
-
-pub returns : goal.returns
-returns c = λ e. ap (from _ _) (omega (arith, c.loop-i.invariant.1)) ∙ c.loop-i.invariant.0 e
+loop-i-preserved c = on _ _ _ _ _ c.requires c.loop-i-test.true c.loop-i.invariant

@@ -4,8 +4,8 @@ use lib.ListN.{length-take}
 use Rattle.dateframes.proofs.Blocks.{left-onward, left-free, read-onward}
 use Rattle.dateframes.proofs.answer_read.Goals as goal
 
-pub overflow_sub-result : goal.overflow_sub-result
-overflow_sub-result g c = omega (arith, simp length-take at c.steps-d.ensures.from_in_bounds)
+pub overflow_sub-state : goal.overflow_sub-state
+overflow_sub-state g c = omega (arith, simp length-take at c.steps-d.ensures.from_in_bounds)
 
 pub returns : goal.returns
 returns g c =

@@ -1,6 +1,5 @@
 use native.Mathlib.Omega.{arith}
 use Rattle.days.proofs.Months.{early, late-leap, late}
-use borrow.Author.Rules.{rules}
 use Rattle.days.proofs.before_month.Goals as goal
 
 pub returns-then-month-lt2 : goal.returns-then-month-lt2

@@ -1,7 +1,6 @@
 use mathlib.Core.Path.{sym}
 use native.Mathlib.Omega.{arith}
 use Rattle.days.proofs.Years.{from_is, from-most}
-use borrow.Author.Rules.{rules}
 use Rattle.days.proofs.before_year.Goals as goal
 
 pub returns : goal.returns

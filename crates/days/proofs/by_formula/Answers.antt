@@ -10,7 +10,6 @@ use Rattle.dates.specs.Calendar.{leap_year, month_lengths}
 use Rattle.days.specs.Days.{total, days_before}
 use Rattle.days.specs.Counts.{days_to}
 use Rattle.days.proofs.Engines.{formula-is}
-use borrow.Author.Rules.{rules}
 use Rattle.days.proofs.by_formula.Goals as goal
 
 pub returns : goal.returns

@@ -7,7 +7,6 @@ use Rattle.days.specs.Ways.{by_table}
 use Rattle.days.proofs.Counts.{to-most}
 use Rattle.days.proofs.Table.{entry-is}
 use Rattle.days.proofs.Engines.{months-are}
-use borrow.Author.Rules.{rules}
 use Rattle.days.proofs.by_table.Goals as goal
 use Rattle.days.proofs.by_table.Goals.{After-entry}
 

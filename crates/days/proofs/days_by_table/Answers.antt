@@ -1,7 +1,6 @@
 use Rattle.chars.specs.Pick.{pick}
 use Rattle.days.specs.Covered.{covered}
 use Rattle.days.proofs.Engines.{table-days}
-use borrow.Author.Rules.{rules}
 use Rattle.days.proofs.days_by_table.Goals as goal
 
 pub returns-then-has_season : goal.returns-then-has_season

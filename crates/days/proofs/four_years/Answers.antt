@@ -2,7 +2,6 @@ use mathlib.Core.Path.{◌≡◌, ap, ◌∙◌}
 use native.Mathlib.Omega.{arith}
 use Prim.Native.Nat.{ℕ, ◌+◌, ◌/◌, ◌%◌}
 use Rattle.days.proofs.Table.{four_years, last}
-use borrow.Author.Rules.{rules}
 use Rattle.days.proofs.four_years.Goals as goal
 
 -- what a century has is what is asked for

@@ -1,8 +1,6 @@
-use native.Mathlib.Omega.{arith}
 use Rattle.days.specs.Counts.{period_from}
 use mir.Syntax.{w32}
 use mir.ValLaws.{to_z-of_z}
-use borrow.Author.Rules.{rules}
 use Rattle.days.proofs.period_from.Goals as goal
 
 pub returns : goal.returns

@@ -1,9 +1,8 @@
 use mathlib.Core.Path.{ap}
-use Rattle.days.specs.declared.Covered.TheVariants.{Refused}
+use Rattle.std.specs.Prelude.{Err}
 use Rattle.days.specs.Covered.{seasoned}
-use borrow.Author.Rules.{rules}
 use Rattle.days.proofs.seasoned.Goals as goal
 
 pub returns : goal.returns
 unfolding seasoned
-returns c = ap Refused c.nowhere.ensures
+returns c = ap Err c.nowhere.ensures

@@ -5,7 +5,6 @@ use mir.Syntax.{w32}
 use mir.ValLaws.{to_z-of_z}
 use Rattle.days.proofs.Years.{one-if, year_is}
 use Prim.Native.Nat.{◌+◌}
-use borrow.Author.Rules.{rules}
 use Rattle.days.proofs.year_length.Goals as goal
 
 pub returns-then-is_leap : goal.returns-then-is_leap

@@ -26,23 +26,17 @@ returns-then-start-c c =
     let e = c.next_run-run.ensures in
     simp (← run-start _ _ _ _ e, ← run_end _ _ _ _ e, ← c.from-digits.ensures, ne_eqb _ _ c.if-digits-eq0.false, le-ltb _ _ c.if-digits-gt4.false, ne_eqb _ _ c.if-start-c.true, ← c.panics.ensures)
 
-pub enum_known-n : goal.enum_known-n
-enum_known-n c = c.in-Value.in-Value-own.keys1
-
 pub behind_digits-requires : goal.behind_digits-requires
-behind_digits-requires c = let h = value_in 9999 _ (sym c.parse.ensures ∙ c.in-Value.is) in omega arith
+behind_digits-requires c = let h = value_in 9999 _ (sym c.parse.ensures ∙ c.in-Some.is) in omega arith
 
-pub enum_told-1 : goal.enum_told-1
-enum_told-1 c = c.in-NoValue.in-NoValue-own.keys2
-
-pub returns-in-Value : goal.returns-in-Value
+pub returns-in-Some : goal.returns-in-Some
 unfolding behind_sign year_from year_digits on_number pick
-returns-in-Value c =
+returns-in-Some c =
     let e = c.next_run-run.ensures in
-    simp (← run-start _ _ _ _ e, ← run_end _ _ _ _ e, ← c.from-digits.ensures, ne_eqb _ _ c.if-digits-eq0.false, le-ltb _ _ c.if-digits-gt4.false, eq-eqb _ _ c.if-start-c.false, ← c.parse.ensures, c.in-Value.is, ← c.behind_digits.ensures)
+    simp (← run-start _ _ _ _ e, ← run_end _ _ _ _ e, ← c.from-digits.ensures, ne_eqb _ _ c.if-digits-eq0.false, le-ltb _ _ c.if-digits-gt4.false, eq-eqb _ _ c.if-start-c.false, ← c.parse.ensures, c.in-Some.is, ← c.behind_digits.ensures)
 
-pub returns-in-NoValue : goal.returns-in-NoValue
+pub returns-in-None : goal.returns-in-None
 unfolding behind_sign year_from year_digits on_number pick
-returns-in-NoValue c =
+returns-in-None c =
     let e = c.next_run-run.ensures in
-    simp (← run-start _ _ _ _ e, ← run_end _ _ _ _ e, ← c.from-digits.ensures, ne_eqb _ _ c.if-digits-eq0.false, le-ltb _ _ c.if-digits-gt4.false, eq-eqb _ _ c.if-start-c.false, ← c.parse.ensures, c.in-NoValue.is, ← c.panics-in-NoValue.ensures)
+    simp (← run-start _ _ _ _ e, ← run_end _ _ _ _ e, ← c.from-digits.ensures, ne_eqb _ _ c.if-digits-eq0.false, le-ltb _ _ c.if-digits-gt4.false, eq-eqb _ _ c.if-start-c.false, ← c.parse.ensures, c.in-None.is, ← c.panics-in-None.ensures)

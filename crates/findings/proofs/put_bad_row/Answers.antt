@@ -1,7 +1,6 @@
 use Rattle.findings.proofs.Runs.{both}
 use Rattle.findings.specs.Escapes.{escaped}
 use Rattle.findings.specs.Lines.{finding, bad_row_line}
-use borrow.Author.Rules.{rules}
 use Rattle.findings.proofs.put_bad_row.Goals as goal
 
 pub returns : goal.returns

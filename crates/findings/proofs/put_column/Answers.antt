@@ -1,6 +1,5 @@
 use Rattle.findings.proofs.Runs.{ran-as}
 use Rattle.findings.specs.Lines.{column_name}
-use borrow.Author.Rules.{rules}
 use Rattle.findings.proofs.put_column.Goals as goal
 
 pub returns-in-Date : goal.returns-in-Date

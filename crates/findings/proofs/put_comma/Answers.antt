@@ -1,6 +1,5 @@
 use Rattle.findings.proofs.Runs.{nothing, ran-as}
 use Rattle.chars.specs.Pick.{pick}
-use borrow.Author.Rules.{rules}
 use Rattle.findings.proofs.put_comma.Goals as goal
 
 pub returns-then-first : goal.returns-then-first

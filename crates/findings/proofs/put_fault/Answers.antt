@@ -1,6 +1,5 @@
 use Rattle.findings.proofs.Runs.{both, ran-as}
 use Rattle.findings.specs.Words.{fault_words}
-use borrow.Author.Rules.{rules}
 use Rattle.findings.proofs.put_fault.Goals as goal
 
 pub returns-in-QuoteInside : goal.returns-in-QuoteInside

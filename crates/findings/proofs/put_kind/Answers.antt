@@ -2,7 +2,6 @@ use Rattle.findings.proofs.Runs.{ran-as}
 use borrow.Author.Tests.{ne_eqb}
 use Rattle.findings.specs.Words.{kind_words}
 use Rattle.chars.specs.Pick.{pick}
-use borrow.Author.Rules.{rules}
 use Rattle.findings.proofs.put_kind.Goals as goal
 
 pub returns-in-1 : goal.returns-in-1

@@ -2,7 +2,6 @@ use Rattle.findings.proofs.Runs.{both, nothing, ran-as}
 use borrow.Author.Tests.{eq-eqb, ne_eqb}
 use Rattle.findings.specs.Lines.{named_cell}
 use Rattle.chars.specs.Pick.{pick}
-use borrow.Author.Rules.{rules}
 use Rattle.findings.proofs.put_named.Goals as goal
 
 pub returns-then-cell-eq0 : goal.returns-then-cell-eq0

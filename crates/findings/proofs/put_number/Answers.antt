@@ -1,6 +1,5 @@
 use Rattle.findings.proofs.Runs.{both, ran-as}
 use Rattle.findings.proofs.Texts.{last-digit}
-use borrow.Author.Rules.{rules}
 use Rattle.findings.proofs.put_number.Goals as goal
 
 pub returns-then-n-lt10 : goal.returns-then-n-lt10

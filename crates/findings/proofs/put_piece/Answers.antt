@@ -1,5 +1,4 @@
 use Rattle.findings.proofs.Runs.{tried}
-use borrow.Author.Rules.{rules}
 use Rattle.findings.proofs.put_piece.Goals as goal
 
 pub returns : goal.returns

@@ -1,7 +1,6 @@
 use Rattle.findings.proofs.Runs.{both, nothing, ran-as}
 use Rattle.findings.specs.Words.{place_words}
 use Rattle.chars.specs.Pick.{pick}
-use borrow.Author.Rules.{rules}
 use Rattle.findings.proofs.put_place.Goals as goal
 
 pub returns-then-has_place : goal.returns-then-has_place

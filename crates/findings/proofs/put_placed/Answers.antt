@@ -1,5 +1,4 @@
 use Rattle.findings.proofs.Runs.{ran-as}
-use borrow.Author.Rules.{rules}
 use Rattle.findings.proofs.put_placed.Goals as goal
 
 pub returns : goal.returns

@@ -1,6 +1,5 @@
 use Rattle.findings.proofs.Runs.{both}
 use Rattle.findings.specs.Escapes.{quoted}
-use borrow.Author.Rules.{rules}
 use Rattle.findings.proofs.put_quoted.Goals as goal
 
 pub returns : goal.returns

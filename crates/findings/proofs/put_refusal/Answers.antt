@@ -1,6 +1,5 @@
 use Rattle.findings.proofs.Runs.{both, ran-as}
 use Rattle.findings.specs.Words.{refusal_words}
-use borrow.Author.Rules.{rules}
 use Rattle.findings.proofs.put_refusal.Goals as goal
 
 pub returns : goal.returns

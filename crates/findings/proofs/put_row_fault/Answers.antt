@@ -1,6 +1,5 @@
 use Rattle.findings.proofs.Runs.{both, ran-as}
 use Rattle.findings.specs.Words.{row_words}
-use borrow.Author.Rules.{rules}
 use Rattle.findings.proofs.put_row_fault.Goals as goal
 
 pub returns-in-Broken : goal.returns-in-Broken

@@ -1,7 +1,6 @@
 use Rattle.findings.proofs.Runs.{ran-as}
 use Rattle.findings.specs.Escapes.{shown_byte}
 use Rattle.chars.specs.Pick.{pick}
-use borrow.Author.Rules.{rules}
 use Rattle.findings.proofs.put_shown.Goals as goal
 
 pub returns-then-is_hidden : goal.returns-then-is_hidden

@@ -2,7 +2,6 @@ use Rattle.findings.proofs.Runs.{both, ran-as}
 use borrow.Author.Tests.{eq-eqb, ne_eqb}
 use Rattle.findings.specs.Lines.{signing}
 use Rattle.chars.specs.Pick.{pick}
-use borrow.Author.Rules.{rules}
 use Rattle.findings.proofs.put_signing.Goals as goal
 
 pub returns-then-n-eq0 : goal.returns-then-n-eq0

@@ -1,7 +1,6 @@
 use Rattle.findings.proofs.Texts.{said, unsaid}
 use Rattle.findings.proofs.Runs.{both, nothing, ran-as}
 use Rattle.findings.specs.Lines.{six_line}
-use borrow.Author.Rules.{rules}
 use Rattle.findings.proofs.put_six_line.Goals as goal
 
 pub returns-then-is_said : goal.returns-then-is_said

@@ -1,7 +1,6 @@
 use Rattle.findings.proofs.Runs.{both, ran-as}
 use mathlib.Core.Path.{◌∙◌}
 use Rattle.findings.specs.Lines.{six_text}
-use borrow.Author.Rules.{rules}
 use Rattle.findings.proofs.put_six_text.Goals as goal
 
 pub shape_of-out : goal.shape_of-out

@@ -1,7 +1,6 @@
 use Rattle.findings.proofs.Runs.{both, ran-as}
 use mathlib.Core.Path.{◌∙◌}
 use Rattle.findings.specs.Lines.{summary}
-use borrow.Author.Rules.{rules}
 use Rattle.findings.proofs.put_summary.Goals as goal
 
 pub put_signing-requires : goal.put_signing-requires

@@ -1,5 +1,4 @@
 use Rattle.findings.proofs.Runs.{both}
-use borrow.Author.Rules.{rules}
 use Rattle.findings.proofs.put_tail.Goals as goal
 
 pub returns : goal.returns

@@ -1,6 +1,5 @@
 use Rattle.findings.proofs.Runs.{both}
 use Rattle.findings.specs.Lines.{unread_line}
-use borrow.Author.Rules.{rules}
 use Rattle.findings.proofs.put_unread.Goals as goal
 
 pub returns : goal.returns

@@ -1,6 +1,5 @@
 use Rattle.findings.proofs.Runs.{both, ran-as}
 use Rattle.findings.specs.Lines.{unusable_words}
-use borrow.Author.Rules.{rules}
 use Rattle.findings.proofs.put_unusable.Goals as goal
 
 pub returns-in-Empty : goal.returns-in-Empty

@@ -1,7 +1,6 @@
 use Rattle.findings.proofs.Runs.{nothing, ran-as}
 use Rattle.findings.specs.Words.{window_words}
 use Rattle.chars.specs.Pick.{pick}
-use borrow.Author.Rules.{rules}
 use Rattle.findings.proofs.put_window.Goals as goal
 
 pub returns-then-windowed : goal.returns-then-windowed

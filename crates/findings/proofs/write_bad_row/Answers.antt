@@ -1,12 +1,13 @@
 use Rattle.findings.proofs.Runs.{stored, refused}
 use native.Mathlib.Omega.{arith}
-use borrow.Author.Rules.{rules}
+use Rattle.std.proofs.lemmas.Result.{err_from_is_err_and}
 use Rattle.findings.proofs.write_bad_row.Goals as goal
 
-pub returns-in-Done : goal.returns-in-Done
-returns-in-Done c =
-    let both = stored c.put_bad_row-n.ensures c.args.out.now (omega (arith, c.well_formed)) c.decide.ensures c.in-Done.is c.put_bad_row.ensures in record { value = both.0; out_after = both.1 }
+pub returns : goal.returns
+returns c =
+    let both = stored c.put_bad_row-n.ensures c.args.out.now (omega (arith, c.well_formed)) c.decide.ensures c.in_ok-decide.was c.put_bad_row.ensures in record { value = both.0; out_after = both.1 }
 
-pub returns-in-Refused : goal.returns-in-Refused
-returns-in-Refused c =
-    let both = refused c.put_bad_row-n.ensures c.args.out.now (omega (arith, c.well_formed)) c.decide.ensures c.in-Refused.is in record { value = both.0; out_after = both.1 }
+pub returns-in_err-decide : goal.returns-in_err-decide
+returns-in_err-decide c =
+    let p = err_from_is_err_and c.from_residual.result c.from_residual.ensures.1 in
+    let both = refused c.put_bad_row-n.ensures c.args.out.now (omega (arith, c.well_formed)) c.decide.ensures c.in_err-decide.was in record { value = rw (p.1, p.2) both.0; out_after = both.1 }

@@ -10,22 +10,22 @@ use Rattle.frames.proofs.answer_line.Goals as goal
 
 pub slice_bounds-answer_frame-end : goal.slice_bounds-answer_frame-end
 slice_bounds-answer_frame-end c =
-    bytes-in c.args.line.now c.args.frame.now c.requires.0 c.requires.1 c.decode.ensures.value c.decode.ensures.frame_after c.in-Bytes.is
+    bytes-in c.args.line.now c.args.frame.now c.requires.0 c.requires.1 c.decode.ensures.value c.decode.ensures.frame_after c.in-Some.is
 
-pub slice_bounds-answer_frame-end-in-Bytes : goal.slice_bounds-answer_frame-end-in-Bytes
-slice_bounds-answer_frame-end-in-Bytes c =
-    sym (length-take-le _ _ (bytes-in c.args.line.now c.args.frame.now c.requires.0 c.requires.1 c.decode.ensures.value c.decode.ensures.frame_after c.in-Bytes.is))
+pub slice_bounds-answer_frame-end-in-Some : goal.slice_bounds-answer_frame-end-in-Some
+slice_bounds-answer_frame-end-in-Some c =
+    sym (length-take-le _ _ (bytes-in c.args.line.now c.args.frame.now c.requires.0 c.requires.1 c.decode.ensures.value c.decode.ensures.frame_after c.in-Some.is))
 
 pub answer_frame-requires : goal.answer_frame-requires
 answer_frame-requires c =
-    frame_small c.args.line.now c.args.frame.now c.requires.0 c.requires.1 c.decode.ensures.value c.decode.ensures.frame_after c.in-Bytes.is
+    frame_small c.args.line.now c.args.frame.now c.requires.0 c.requires.1 c.decode.ensures.value c.decode.ensures.frame_after c.in-Some.is
 
-pub returns-in-Bytes : goal.returns-in-Bytes
-returns-in-Bytes c =
-    let e = line-is c.args.line.now c.args.frame.now c.requires.0 c.requires.1 c.decode.ensures.value c.decode.ensures.frame_after c.in-Bytes.is in
+pub returns-in-Some : goal.returns-in-Some
+returns-in-Some c =
+    let e = line-is c.args.line.now c.args.frame.now c.requires.0 c.requires.1 c.decode.ensures.value c.decode.ensures.frame_after c.in-Some.is in
     tried-as (sym e) c.answer_frame.ensures
 
-pub returns-in-Bad : goal.returns-in-Bad
-returns-in-Bad c =
-    let e = line-bad c.args.line.now c.args.frame.now c.requires.0 c.requires.1 c.decode.ensures.value c.decode.ensures.frame_after c.in-Bad.is in
+pub returns-in-None : goal.returns-in-None
+returns-in-None c =
+    let e = line-bad c.args.line.now c.args.frame.now c.requires.0 c.requires.1 c.decode.ensures.value c.decode.ensures.frame_after c.in-None.is in
     tried-as (sym e) (answer-tried (answer_line bad_frame) c.args.out.now c.answer_long.ensures.value c.answer_long.ensures.out_after c.length_of.ensures)

@@ -9,20 +9,20 @@ pub unpack_list-u-requires : goal.unpack_list-u-requires
 unpack_list-u-requires c =
     asks c.requires.0 c.requires.1
 
-pub slice_bounds-read_by-end : goal.slice_bounds-read_by-end
-slice_bounds-read_by-end c =
+pub slice_bounds-list-end : goal.slice_bounds-list-end
+slice_bounds-list-end c =
     text_in c.requires.0 c.requires.1 c.unpack_list-u.ensures.put
 
-pub slice_bounds-read_by-end-2 : goal.slice_bounds-read_by-end-2
-slice_bounds-read_by-end-2 c =
+pub slice_bounds-list-end-2 : goal.slice_bounds-list-end-2
+slice_bounds-list-end-2 c =
     sym (length-take-le _ _ (text_in c.requires.0 c.requires.1 c.unpack_list-u.ensures.put))
 
-pub slice_bounds-read_by-end-3 : goal.slice_bounds-read_by-end-3
-slice_bounds-read_by-end-3 c =
+pub slice_bounds-list-end-3 : goal.slice_bounds-list-end-3
+slice_bounds-list-end-3 c =
     table-in c.requires.0 c.requires.1 c.unpack_list-u.ensures.put_2
 
-pub slice_bounds-read_by-end-4 : goal.slice_bounds-read_by-end-4
-slice_bounds-read_by-end-4 c =
+pub slice_bounds-list-end-4 : goal.slice_bounds-list-end-4
+slice_bounds-list-end-4 c =
     sym (length-take-le _ _ (table-in c.requires.0 c.requires.1 c.unpack_list-u.ensures.put_2))
 
 pub returns : goal.returns

@@ -7,13 +7,13 @@ use Rattle.frames.proofs.Said.{carried}
 use borrow.Author.Rules.{rules}
 use Rattle.frames.proofs.read_list.Goals as goal
 
-pub slice_bounds-read_by-count : goal.slice_bounds-read_by-count
-slice_bounds-read_by-count c =
+pub slice_bounds-list-count : goal.slice_bounds-list-count
+slice_bounds-list-count c =
     let o = single c.args.f.now c.requires.1 c.byte_at.ensures c.if-byte_at-eq1.true in
     omega (arith, o.long)
 
-pub slice_bounds-read_by-start : goal.slice_bounds-read_by-start
-slice_bounds-read_by-start c =
+pub slice_bounds-list-start : goal.slice_bounds-list-start
+slice_bounds-list-start c =
     let o = single c.args.f.now c.requires.1 c.byte_at.ensures c.if-byte_at-eq1.true in
     omega (arith, o.long)
 

@@ -1,16 +1,7 @@
-use borrow.Author.Rules.{rules}
+use mathlib.Core.Path.{ap, sym, ◌∙◌}
 use Rattle.headers.specs.Names.{is_name}
-use types.Run.{from}
-use Rattle.headers.specs.Columns.{column_from}
 use Rattle.headers.proofs.Cells.{column-here, column-none, column-on}
-use Rattle.headers.specs.Tables.{cells_from}
-use native.Mathlib.Omega.{arith}
-use mathlib.Core.Path.{ap, refl, sym, ◌∙◌, ◌≡◌}
-use Prim.Native.Nat.{◌-◌}
 use Rattle.headers.proofs.column_from.Goals as goal
-
-pub loop-i-init : goal.loop-i-init
-loop-i-init c = refl
 
 pub returns-then-is_name : goal.returns-then-is_name
 returns-then-is_name c =

@@ -1,7 +1,7 @@
 use Rattle.headers.proofs.Csv.{row-cells}
 use Rattle.headers.specs.Columns.{known, columns_of}
 use mathlib.Core.Path.{ap, sym, ◌∙◌, refl}
-use Rattle.headers.specs.declared.Names.TheVariants.{Many}
+use Rattle.std.specs.Prelude.{Some}
 use Rattle.headers.specs.Header.{names_by, names_in}
 use borrow.Author.Rules.{rules}
 use Rattle.headers.proofs.names_by.Goals as goal
@@ -12,7 +12,7 @@ returns-in-Row c =
     let a = c.args in
     let h = sym c.next_row.ensures.value ∙ c.in-Row.is in
     let e = row-cells a.separator a.last a.s.now _ c.next_row.ensures.table_after refl h in
-    rw h (ap Many (c.known.ensures ∙ ap known (c.columns_in.ensures ∙ ap columns_of e)))
+    rw h (ap Some (c.known.ensures ∙ ap known (c.columns_in.ensures ∙ ap columns_of e)))
 
 pub returns-in-Faulty : goal.returns-in-Faulty
 unfolding names_by names_in

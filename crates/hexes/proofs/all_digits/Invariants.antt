@@ -1,14 +1,7 @@
-use mathlib.Core.Path.{◌≡◌, refl, ◌∙◌}
-use Prim.Native.Nat.{◌-◌, ◌≤◌}
-use native.Mathlib.Omega.{arith}
-use lib.ListN.{length, drop}
+use mathlib.Core.Path.{◌≡◌}
+use lib.ListN.{drop}
 use Rattle.hexes.specs.Hex.{all_digits}
-use Rattle.hexes.proofs.Laws.{last_block, ended}
-use borrow.Author.Rules.{rules}
 use Rattle.hexes.proofs.all_digits.Given as goal
 
 abbrev pub invariant-loop-i : goal.invariant-loop-i
-invariant-loop-i l = (all_digits (drop l.i l.line) ≡ all_digits l.line) × (l.i ≤ length l.line)
-
-abbrev pub decreases-loop-i : goal.decreases-loop-i
-decreases-loop-i l = length l.line - l.i
+invariant-loop-i l = all_digits (drop l.i l.line) ≡ all_digits l.line

@@ -1,5 +1,4 @@
 use Rattle.instants.specs.Instants.{refused_instant}
-use borrow.Author.Rules.{rules}
 use Rattle.instants.proofs.refuse.Goals as goal
 
 pub returns : goal.returns

@@ -3,7 +3,6 @@ use lib.IntN.{ℤ, pos, ◌+ℤ◌, ◌*ℤ◌}
 use Rattle.dates.proofs.Signs.{wide_fits}
 use Rattle.instants.specs.Instants.{seconds_at}
 use Rattle.instants.proofs.Sums.{times-fits, plus-fits, plus}
-use borrow.Author.Rules.{rules}
 use Rattle.instants.proofs.seconds_at.Goals as goal
 
 pub overflow_cast-result : goal.overflow_cast-result

@@ -2,12 +2,12 @@ use Rattle.numbers.specs.Number.{behind_sign, or_kept}
 use borrow.Author.Rules.{rules}
 use Rattle.numbers.proofs.eat_sign.Goals as goal
 
-pub returns-in-Past : goal.returns-in-Past
+pub returns-in-Some : goal.returns-in-Some
 unfolding behind_sign or_kept
-returns-in-Past c =
-    simp (← c.eat_if.ensures, c.in-Past.is)
+returns-in-Some c =
+    simp (← c.eat_if.ensures, c.in-Some.is)
 
-pub returns-in-Kept : goal.returns-in-Kept
+pub returns-in-None : goal.returns-in-None
 unfolding behind_sign or_kept
-returns-in-Kept c =
-    simp (← c.eat_if.ensures, c.in-Kept.is)
+returns-in-None c =
+    simp (← c.eat_if.ensures, c.in-None.is)

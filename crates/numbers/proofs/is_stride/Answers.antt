@@ -1,35 +1,13 @@
-use mathlib.Core.Path.{◌≡◌, sym}
-use mathlib.Core.Bool.{Bool, true, ◌&&◌}
-use mathlib.Core.List.{List}
-use Prim.Native.Nat.{ℕ, ◌+◌, ◌-◌, ◌≤◌, ◌<◌}
-use native.Mathlib.Decide.{dec_lt}
+use mathlib.Core.Path.{sym}
+use Prim.Native.Nat.{ℕ, ◌+◌, ◌≤◌, ◌<◌}
 use native.Mathlib.Omega.{arith}
-use borrow.Author.Tests.{ltb-true}
-use lib.Dec.{ltb}
 use lib.ListN.{get_or}
-use Rattle.chars.proofs.Cases.{and-true}
 use Rattle.scanner.proofs.Laws.{not_white}
 use Rattle.numbers.proofs.Trims.{over-ascii}
-use Rattle.numbers.proofs.is_stride.Invariants.{Looked}
 use Rattle.numbers.proofs.is_stride.Goals as goal
-
-on : (s : List ℕ) (at i : ℕ) (ok : Bool) → (ok ≡ true → Looked s at i) → (ok && ltb (get_or s (at + i) 0) 0x80) ≡ true → Looked s at (i + 1)
-on s at i ok f e =
-    let p = and-true ok (ltb (get_or s (at + i) 0) 0x80) e in
-    let here : get_or s (at + i) 0 < 0x80 = ltb-true _ 0x80 p.1 in (
-      (f p.0).0,
-      λ j l. elim (dec_lt j i) [ yes m ↦ (f p.0).1 j m | no m ↦ let z : j ≡ i = omega arith in rw z here ],
-    )
-
-pub loop-i-init : goal.loop-i-init
-loop-i-init c = (λ e. (ltb-true 0x20 _ e, λ j l. absurd (omega arith)), omega arith)
-
-pub loop-i-preserved : goal.loop-i-preserved
-loop-i-preserved c = let a = c.args in (on a.s.now a.at _ _ c.loop-i.invariant.0, omega arith)
 
 pub returns : goal.returns
 returns c = λ e.
-    let l = c.loop-i in
-    let v = l.invariant.0 e in
-    let low : (j : ℕ) → j ≤ 15 → get_or c.args.s.now (c.args.at + j) 0 < 0x80 = λ j h. v.1 j (omega (arith, c.loop-i-test.false)) in
+    let v = c.loop-i.invariant e in
+    let low : (j : ℕ) → j ≤ 15 → get_or c.args.s.now (c.args.at + j) 0 < 0x80 = λ j h. v.1 j (omega arith) in
     sym (over-ascii 15 c.args.s.now c.args.at (omega (arith, c.requires)) low (not_white _ v.0 (low 15 (omega arith)))).1

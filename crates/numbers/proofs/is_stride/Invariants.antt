@@ -1,15 +1,8 @@
-use mathlib.Core.Path.{◌≡◌, sym}
-use mathlib.Core.Bool.{Bool, true, ◌&&◌}
+use mathlib.Core.Path.{◌≡◌}
+use mathlib.Core.Bool.{true}
 use mathlib.Core.List.{List}
-use Prim.Native.Nat.{ℕ, ◌+◌, ◌-◌, ◌≤◌, ◌<◌}
-use native.Mathlib.Decide.{dec_lt}
-use native.Mathlib.Omega.{arith}
-use borrow.Author.Tests.{ltb-true}
-use lib.Dec.{ltb}
+use Prim.Native.Nat.{ℕ, ◌+◌, ◌<◌}
 use lib.ListN.{get_or}
-use Rattle.chars.proofs.Cases.{and-true}
-use Rattle.scanner.proofs.Laws.{not_white}
-use Rattle.numbers.proofs.Trims.{over-ascii}
 use Rattle.numbers.proofs.is_stride.Given as goal
 
 -- the last byte prints, and those looked at are ASCII
@@ -17,7 +10,4 @@ abbrev pub Looked : List ℕ → ℕ → ℕ → Type 0
 Looked s at i = (0x20 < get_or s (at + 15) 0) × ((j : ℕ) → j < i → get_or s (at + j) 0 < 0x80)
 
 abbrev pub invariant-loop-i : goal.invariant-loop-i
-invariant-loop-i l = (l.ok ≡ true → Looked l.s l.at l.i) × (l.i ≤ 16)
-
-abbrev pub decreases-loop-i : goal.decreases-loop-i
-decreases-loop-i l = 16 - l.i
+invariant-loop-i l = l.ok ≡ true → Looked l.s l.at l.i

@@ -1,31 +1,13 @@
-use Rattle.order.specs.Order.{from_day, both, day_of, in_turn}
-use Rattle.order.proofs.Numbers.{stored-less, stored-greater, stored-equal}
-use borrow.Author.Rules.{rules}
+use Rattle.order.specs.Order.{from_day, from_time, both, day_of, in_turn}
+use Rattle.order.proofs.Numbers.{stored-order, next-unequal}
 use Rattle.order.proofs.from_day.Goals as goal
 
-pub returns-then-x-y : goal.returns-then-x-y
+pub returns-in-Equal : goal.returns-in-Equal
 unfolding from_day both day_of in_turn
-returns-then-x-y c =
-    simp (c.in-SomeDay.is, c.in-SomeDay-e-2.is, stored-less _ _ c.if-x-y.true)
+returns-in-Equal c =
+    simp (c.in-Some-Some.is-0, c.in-Some-Some.is-1, ← stored-order c.in-Some-Some.d.0 c.in-Some-Some.e.0, ← c.cmp.ensures, c.in-Equal.is, ← c.from_time.ensures)
 
-pub returns-then-y-x : goal.returns-then-y-x
-unfolding from_day both day_of in_turn
-returns-then-y-x c =
-    simp (c.in-SomeDay.is, c.in-SomeDay-e-2.is, stored-greater _ _ c.if-y-x.true)
-
-pub returns-in-NoDay-e : goal.returns-in-NoDay-e
-unfolding from_day both day_of in_turn
-returns-in-NoDay-e c = simp (c.in-NoDay.is, c.in-NoDay-e.is)
-
-pub returns-in-SomeDay-e : goal.returns-in-SomeDay-e
-unfolding from_day both day_of in_turn
-returns-in-SomeDay-e c = simp (c.in-NoDay.is, c.in-SomeDay-e.is)
-
-pub returns-in-NoDay-e-2 : goal.returns-in-NoDay-e-2
-unfolding from_day both day_of in_turn
-returns-in-NoDay-e-2 c = simp (c.in-SomeDay.is, c.in-NoDay-e-2.is)
-
-pub returns-else-y-x : goal.returns-else-y-x
-unfolding from_day both day_of in_turn
-returns-else-y-x c =
-    simp (c.in-SomeDay.is, c.in-SomeDay-e-2.is, stored-equal _ _ c.if-x-y.false c.if-y-x.false, ← c.from_time.ensures)
+pub returns-in_default-cmp : goal.returns-in_default-cmp
+unfolding from_day both day_of
+returns-in_default-cmp c =
+    simp (c.in-Some-Some.is-0, c.in-Some-Some.is-1, ← stored-order c.in-Some-Some.d.0 c.in-Some-Some.e.0, ← c.cmp.ensures, next-unequal c.cmp.result (from_time c.args.a c.args.b) c.in_default-cmp.not-Equal)

@@ -1,31 +1,13 @@
-use Rattle.order.specs.Order.{from_month, both, month_of, in_turn}
-use Rattle.order.proofs.Numbers.{stored-less, stored-greater, stored-equal}
-use borrow.Author.Rules.{rules}
+use Rattle.order.specs.Order.{from_month, from_day, both, month_of, in_turn}
+use Rattle.order.proofs.Numbers.{stored-order, next-unequal}
 use Rattle.order.proofs.from_month.Goals as goal
 
-pub returns-then-x-y : goal.returns-then-x-y
+pub returns-in-Equal : goal.returns-in-Equal
 unfolding from_month both month_of in_turn
-returns-then-x-y c =
-    simp (c.in-SomeMonth.is, c.in-SomeMonth-n-2.is, stored-less _ _ c.if-x-y.true)
+returns-in-Equal c =
+    simp (c.in-Some-Some.is-0, c.in-Some-Some.is-1, ← stored-order c.in-Some-Some.m.0 c.in-Some-Some.n.0, ← c.cmp.ensures, c.in-Equal.is, ← c.from_day.ensures)
 
-pub returns-then-y-x : goal.returns-then-y-x
-unfolding from_month both month_of in_turn
-returns-then-y-x c =
-    simp (c.in-SomeMonth.is, c.in-SomeMonth-n-2.is, stored-greater _ _ c.if-y-x.true)
-
-pub returns-in-NoMonth-n : goal.returns-in-NoMonth-n
-unfolding from_month both month_of in_turn
-returns-in-NoMonth-n c = simp (c.in-NoMonth.is, c.in-NoMonth-n.is)
-
-pub returns-in-SomeMonth-n : goal.returns-in-SomeMonth-n
-unfolding from_month both month_of in_turn
-returns-in-SomeMonth-n c = simp (c.in-NoMonth.is, c.in-SomeMonth-n.is)
-
-pub returns-in-NoMonth-n-2 : goal.returns-in-NoMonth-n-2
-unfolding from_month both month_of in_turn
-returns-in-NoMonth-n-2 c = simp (c.in-SomeMonth.is, c.in-NoMonth-n-2.is)
-
-pub returns-else-y-x : goal.returns-else-y-x
-unfolding from_month both month_of in_turn
-returns-else-y-x c =
-    simp (c.in-SomeMonth.is, c.in-SomeMonth-n-2.is, stored-equal _ _ c.if-x-y.false c.if-y-x.false, ← c.from_day.ensures)
+pub returns-in_default-cmp : goal.returns-in_default-cmp
+unfolding from_month both month_of
+returns-in_default-cmp c =
+    simp (c.in-Some-Some.is-0, c.in-Some-Some.is-1, ← stored-order c.in-Some-Some.m.0 c.in-Some-Some.n.0, ← c.cmp.ensures, next-unequal c.cmp.result (from_day c.args.a c.args.b) c.in_default-cmp.not-Equal)

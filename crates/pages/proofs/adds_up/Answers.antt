@@ -5,7 +5,7 @@ use borrow.Author.Rules.{rules}
 use Rattle.pages.proofs.adds_up.Goals as goal
 
 pub lengths_fit-requires : goal.lengths_fit-requires
-lengths_fit-requires c = fours (total c.args.counts.now) (length c.args.table.now) c.counts_fit.ensures c.if-counts_fit.true
+lengths_fit-requires c = fours (total c.args.counts.now) (length c.args.list.table.now) c.counts_fit.ensures c.if-counts_fit.true
 
 pub returns-then-counts_fit : goal.returns-then-counts_fit
 unfolding adds_up

@@ -1,6 +1,6 @@
 use Rattle.pages.proofs.Written.{length-range, no_room, done}
 use Rattle.pages.specs.Text.{written_range}
-use Rattle.puts.specs.declared.Written.TheVariants.{Refused}
+use Rattle.std.specs.Prelude.{Err}
 use native.Mathlib.Omega.{arith}
 use mathlib.Core.Path.{ap, ◌∙◌}
 use borrow.Author.Rules.{rules}
@@ -17,7 +17,7 @@ returns-then-out-first c =
     let t = written_range c.args.start c.args.end in
     let g = length-range c.args.start c.args.end in
     let q = no_room t c.args.out.now (omega (arith, c.width-first.ensures.value, c.width-second.ensures.value, g, c.if-out-first.true)) in
-    record { value = ap Refused c.nowhere.ensures ∙ q.0; out_after = q.1; end_len_bound = omega (arith, c.width-first.ensures.value, c.width-first.ensures.upper_bound (omega arith), c.width-second.ensures.value, c.width-second.ensures.upper_bound (omega arith), g) }
+    record { value = ap Err c.nowhere.ensures ∙ q.0; out_after = q.1; end_len_bound = omega (arith, c.width-first.ensures.value, c.width-first.ensures.upper_bound (omega arith), c.width-second.ensures.value, c.width-second.ensures.upper_bound (omega arith), g) }
 
 pub put_text-requires : goal.put_text-requires
 put_text-requires c =

@@ -12,15 +12,15 @@ use Rattle.reader.proofs.any_words.Goals as goal
 
 pub returns-then-stands : goal.returns-then-stands
 returns-then-stands c =
-    let b = c.args.bytes.now in
-    let t = c.args.table.now in
+    let b = c.args.list.bytes.now in
+    let t = c.args.list.table.now in
     let s = sym c.stands.ensures ∙ c.if-stands.true in
     let both = carried (parse_text c.span.result b) (parsed b t)
     (ap (λ (z : FileSpan). parse_text z b) c.span.ensures ∙ parsed-clean b t (stands-clean true b t s) (sym (stands-text true b t s)))
     (c.text_words.ensures.value, c.text_words.ensures.typed) in record { value = both.0; typed = both.1 }
 
 pub words_in-requires : goal.words_in-requires
-words_in-requires c = let a = c.args in small-room a.bytes.now a.table.now c.if-bytes-le56.true c.if-table-le16.true
+words_in-requires c = let a = c.args in small-room a.list.bytes.now a.list.table.now c.if-list-le56.true c.if-list-le16.true
 
 pub words_in-requires-2 : goal.words_in-requires-2
-words_in-requires-2 c = let a = c.args in large-room a.bytes.now a.table.now
+words_in-requires-2 c = let a = c.args in large-room a.list.bytes.now a.list.table.now

@@ -10,7 +10,7 @@ pub returns-then-stands : goal.returns-then-stands
 returns-then-stands c =
     let a = c.args in
     let s = sym c.stands.ensures ∙ c.if-stands.true in
-    c.day_field.ensures ∙ rw (c.span.ensures, stands-formatted false a.bytes.now a.table.now s)
+    c.day_field.ensures ∙ rw (c.span.ensures, stands-formatted false a.list.bytes.now a.list.table.now s)
 
 pub slice_bounds-day_field-end-2 : goal.slice_bounds-day_field-end-2
 slice_bounds-day_field-end-2 c =

@@ -12,7 +12,7 @@ unfolding month_alone
 returns-then-stands c =
     let a = c.args in
     let s = sym c.stands.ensures ∙ c.if-stands.true in
-    c.month_text.ensures ∙ rw (stands-formatted false a.bytes.now a.table.now s)
+    c.month_text.ensures ∙ rw (stands-formatted false a.list.bytes.now a.list.table.now s)
 
 pub slice_bounds-month_text-end-2 : goal.slice_bounds-month_text-end-2
 slice_bounds-month_text-end-2 c =

@@ -9,13 +9,13 @@ use Rattle.reader.proofs.parse_by.Goals as goal
 pub returns-then-stands : goal.returns-then-stands
 returns-then-stands c =
     let a = c.args in
-    let b = a.bytes.now in
-    let t = a.table.now in
+    let b = a.list.bytes.now in
+    let t = a.list.table.now in
     let s = sym c.stands.ensures ∙ c.if-stands.true in
     c.match_by.ensures ∙ exact-clean b t a.level (stands-clean false b t s) (sym (stands-text false b t s))
 
 pub parse_by_in-requires : goal.parse_by_in-requires
-parse_by_in-requires c = let a = c.args in small-room a.bytes.now a.table.now c.if-bytes-le56.true c.if-table-le16.true
+parse_by_in-requires c = let a = c.args in small-room a.list.bytes.now a.list.table.now c.if-list-le56.true c.if-list-le16.true
 
 pub parse_by_in-requires-2 : goal.parse_by_in-requires-2
-parse_by_in-requires-2 c = let a = c.args in large-room a.bytes.now a.table.now
+parse_by_in-requires-2 c = let a = c.args in large-room a.list.bytes.now a.list.table.now

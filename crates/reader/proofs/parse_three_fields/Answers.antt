@@ -5,4 +5,4 @@ use borrow.Author.Rules.{rules}
 use Rattle.reader.proofs.parse_three_fields.Goals as goal
 
 pub returns : goal.returns
-returns c = c.unpack.ensures ∙ ap read_in c.three_words-words.ensures.value ∙ read_back _ c.three_words-words.ensures.typed
+returns c = c.unpack.ensures ∙ ap read_in c.three_words.ensures.value ∙ read_back _ c.three_words.ensures.typed

@@ -11,16 +11,16 @@ use Rattle.reader.proofs.parse_words.Goals as goal
 pub returns-then-w : goal.returns-then-w
 returns-then-w c =
     let a = c.args in
-    let l = a.bytes.now in
-    let t = a.table.now in
+    let l = a.list.bytes.now in
+    let t = a.list.table.now in
     let p = at_once (list_usual l t) (parsed l t) c.usual_words-w.ensures c.if-w.true (λ r e. usual-parsed l t e) (λ r e. usual-typed l t e) in
     record { value = c.again.ensures ∙ p.0; typed = p.1 }
 
 pub returns-then-p : goal.returns-then-p
 returns-then-p c =
     let a = c.args in
-    let l = a.bytes.now in
-    let t = a.table.now in
+    let l = a.list.bytes.now in
+    let t = a.list.table.now in
     let p = at_once (list_ported l t) (parsed l t) c.ported_words-p.ensures c.if-p.true (λ r e. ported-parsed l t e) (λ r e. ported-typed l t e) in
     record { value = c.again-then-p.ensures ∙ p.0; typed = p.1 }
 

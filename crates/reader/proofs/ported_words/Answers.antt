@@ -10,10 +10,10 @@ use Rattle.reader.proofs.Said.{normal-ported, none-ported}
 use borrow.Author.Rules.{rules}
 use Rattle.reader.proofs.ported_words.Goals as goal
 
-pub bounds-table-2 : goal.bounds-table-2
+pub bounds-list-2 : goal.bounds-list-2
 unfolding one_normal
-bounds-table-2 c =
-    let t = c.args.table.now in
+bounds-list-2 c =
+    let t = c.args.list.table.now in
     let e = eqb-true (length t) 4 (and-true (eqb (length t) 4) _ (sym c.is_one_normal.ensures ∙ c.if-is_one_normal.true)).0 in
     omega arith
 

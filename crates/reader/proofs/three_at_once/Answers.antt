@@ -1,6 +1,7 @@
 use mathlib.Core.Path.{◌∙◌}
 use native.Mathlib.Omega.{arith}
-use Rattle.chunks.specs.Lent.{Three, lent, optional, three}
+use Rattle.chunks.specs.Lent.{Three}
+use Rattle.reader.specs.Fields.{three_of}
 use Rattle.codes.specs.Words.{words_or}
 use Rattle.codes.specs.Lists.{day_or, list_three}
 use Rattle.reader.proofs.Fields.{Joined, joined}
@@ -10,9 +11,7 @@ use Rattle.reader.proofs.three_at_once.Goals.{After-day_at_once-d}
 
 module _ (c : After-day_at_once-d) where
   abbrev lists : Three
-  lists =
-      let a = c.args in
-      three (lent a.year.now a.year_table.now) (optional a.has_month a.month.now a.month_table.now) (optional a.has_day a.day.now a.day_table.now)
+  lists = three_of c.args.fields
 
   parts : Joined c.year_at_once-y.result c.month_at_once-m.result c.day_at_once-d.result (words_or (list_three lists))
   unfolding day_or

@@ -12,7 +12,7 @@ unfolding year_of
 returns-then-stands c =
     let a = c.args in
     let s = sym c.stands.ensures ∙ c.if-stands.true in
-    c.moved_year.ensures ∙ rw (c.span.ensures, c.get_year.ensures, stands-formatted false a.bytes.now a.table.now s)
+    c.moved_year.ensures ∙ rw (c.span.ensures, c.get_year.ensures, stands-formatted false a.list.bytes.now a.list.table.now s)
 
 pub slice_bounds-get_year-end-2 : goal.slice_bounds-get_year-end-2
 slice_bounds-get_year-end-2 c =

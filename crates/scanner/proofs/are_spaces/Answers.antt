@@ -1,9 +1,8 @@
 use mathlib.Core.Path.{◌≡◌, sym, ap, ◌∙◌}
 use mathlib.Core.Bool.{Bool, true, ◌&&◌}
 use mathlib.Core.List.{List}
-use Prim.Native.Nat.{ℕ, ◌+◌, ◌-◌, ◌≤◌, ◌<◌}
+use Prim.Native.Nat.{ℕ, ◌+◌, ◌≤◌, ◌<◌}
 use native.Mathlib.Omega.{arith}
-use native.Mathlib.Nat.{add-zero}
 use borrow.Author.Tests.{eqb-true}
 use lib.Dec.{eqb}
 use lib.ListN.{length, get_or}
@@ -25,11 +24,5 @@ on s at i ok h l f e =
     ∙ sym (go-ascii Whitespace s (at + i) (omega arith) (omega (arith, b)) (ap (in_class Whitespace) b ∙ space-white))
     ∙ f p.0
 
-pub loop-i-init : goal.loop-i-init
-loop-i-init c = (λ _. ap (eat_while Whitespace _) (add-zero _), omega arith)
-
 pub loop-i-preserved : goal.loop-i-preserved
-loop-i-preserved c = (on _ _ _ _ c.requires c.loop-i-test.true c.loop-i.invariant.0, omega arith)
-
-pub returns : goal.returns
-returns c = λ e. ap (eat_while Whitespace _) (omega (arith, c.loop-i.invariant.1)) ∙ c.loop-i.invariant.0 e
+loop-i-preserved c = on _ _ _ _ c.requires c.loop-i-test.true c.loop-i.invariant

@@ -1,14 +1,10 @@
-use mathlib.Core.Path.{◌≡◌, refl, ◌∙◌}
-use Prim.Native.Nat.{◌-◌}
 use native.Mathlib.Omega.{arith}
-use borrow.Author.Rules.{rules}
-use lib.ListN.{length}
-use Rattle.scanner.specs.declared.Class.TheVariants.{Whitespace}
-use Rattle.scanner.specs.Scan.{eat_while}
 use Rattle.scanner.proofs.eat_spaces.Goals as goal
+use Rattle.scanner.proofs.eat_spaces.Goals.{else-loop-i-test, then-loop-i-test+else-s-i-lt64+else-not-are_spaces+else-i-end-i-gt64}
 
-pub loop-i-init : goal.loop-i-init
-loop-i-init c = refl
-
-pub loop-i-preserved : goal.loop-i-preserved
-loop-i-preserved c = c.are_spaces.ensures c.if-are_spaces.true ∙ c.loop-i.invariant
+pub returns : goal.returns
+returns c =
+    elim c.loop-i-test.branch [
+      | else-loop-i-test w ↦ grind arith
+      | then-loop-i-test+else-s-i-lt64+else-not-are_spaces+else-i-end-i-gt64 w ↦ grind arith
+    ]

@@ -1,5 +1,4 @@
 use Rattle.sheets.specs.Rows.{any_long}
-use borrow.Author.Rules.{rules}
 use Rattle.sheets.proofs.any_long.Goals as goal
 
 pub returns-then-is_long : goal.returns-then-is_long

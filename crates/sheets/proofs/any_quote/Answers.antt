@@ -1,6 +1,5 @@
 use mathlib.Core.Path.{sym}
 use mathlib.Core.Bool.{false≢true}
-use borrow.Author.Rules.{rules}
 use Rattle.sheets.proofs.any_quote.Goals as goal
 
 pub returns-then-has_quote : goal.returns-then-has_quote

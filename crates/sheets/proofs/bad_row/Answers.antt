@@ -1,4 +1,3 @@
-use borrow.Author.Rules.{rules}
 use Rattle.sheets.proofs.bad_row.Goals as goal
 
 pub returns : goal.returns

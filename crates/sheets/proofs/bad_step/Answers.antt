@@ -4,7 +4,6 @@ use Rattle.findings.proofs.Bounds.{bad-row-most}
 use native.Mathlib.Omega.{arith}
 use mathlib.Core.Path.{ap, ◌∙◌}
 use Rattle.headers.specs.declared.RowFault.TheVariants.{Broken}
-use borrow.Author.Rules.{rules}
 use Rattle.sheets.proofs.bad_step.Goals as goal
 
 pub shape_of-out : goal.shape_of-out

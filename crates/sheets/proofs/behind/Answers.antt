@@ -2,7 +2,6 @@ use mathlib.Core.Path.{sym}
 use lib.Seq.{length-take-le}
 use Rattle.sheets.specs.Steps.{behind}
 use native.Mathlib.Omega.{arith}
-use borrow.Author.Rules.{rules}
 use Rattle.sheets.proofs.behind.Goals as goal
 
 pub slice_bounds-count_feeds-end : goal.slice_bounds-count_feeds-end

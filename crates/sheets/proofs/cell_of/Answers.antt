@@ -2,7 +2,6 @@ use native.Mathlib.Nat.{zero-add}
 use Rattle.sheets.proofs.Owns.{own_in, own_out}
 use Rattle.headers.specs.Tables.{cell_at}
 use mathlib.Core.Path.{ap, sym, ◌∙◌}
-use borrow.Author.Rules.{rules}
 use Rattle.sheets.proofs.cell_of.Goals as goal
 
 pub returns-then-k-count : goal.returns-then-k-count

@@ -4,7 +4,6 @@ use native.Mathlib.Omega.{arith}
 use Rattle.chars.specs.Pick.{pick}
 use Rattle.sheets.specs.Rows.{checked_row}
 use borrow.Author.Tests.{lt-ltb, le-ltb, eq-eqb, ne_eqb}
-use borrow.Author.Rules.{rules}
 use Rattle.sheets.proofs.check_row.Goals as goal
 
 pub slice_bounds-utf8_end-end : goal.slice_bounds-utf8_end-end

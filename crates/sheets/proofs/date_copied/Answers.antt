@@ -1,7 +1,6 @@
 use Rattle.sheets.proofs.OneDate.{text-told}
 use mathlib.Core.Path.{sym}
 use lib.Seq.{length-take-le}
-use borrow.Author.Rules.{rules}
 use Rattle.sheets.proofs.date_copied.Goals as goal
 
 pub slice_bounds-text-end : goal.slice_bounds-text-end

@@ -1,6 +1,5 @@
 use Rattle.sheets.proofs.OneDate.{text-told}
 use mathlib.Core.Path.{sym}
-use borrow.Author.Rules.{rules}
 use Rattle.sheets.proofs.date_own.Goals as goal
 
 pub returns-then-has_quote : goal.returns-then-has_quote

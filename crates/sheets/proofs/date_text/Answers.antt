@@ -1,5 +1,4 @@
 use Rattle.sheets.proofs.OneDate.{date-told}
-use borrow.Author.Rules.{rules}
 use Rattle.sheets.proofs.date_text.Goals as goal
 
 pub returns : goal.returns

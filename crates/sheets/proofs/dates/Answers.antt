@@ -4,7 +4,6 @@ use Rattle.sheets.proofs.OneDate.{own-told}
 use Rattle.sheets.specs.Rows.{dates_counted, dates_said}
 use native.Mathlib.Omega.{arith}
 use Rattle.findings.specs.declared.Column.TheVariants.{Date, Eventdate, Origdate, Urldate}
-use borrow.Author.Rules.{rules}
 use Rattle.sheets.proofs.dates.Goals as goal
 
 pub date_own-d1-requires : goal.date_own-d1-requires

@@ -5,7 +5,6 @@ use Rattle.sheets.specs.Steps.{behind, row_step}
 use native.Mathlib.Omega.{arith}
 use mathlib.Core.Path.{ap, ◌∙◌}
 use Rattle.sheets.specs.declared.Phase.TheVariants.{Rows}
-use borrow.Author.Rules.{rules}
 use Rattle.sheets.proofs.good_step.Goals as goal
 
 pub shape_of-out : goal.shape_of-out

@@ -1,4 +1,3 @@
-use borrow.Author.Rules.{rules}
 use Rattle.sheets.proofs.is_long.Goals as goal
 
 pub returns : goal.returns

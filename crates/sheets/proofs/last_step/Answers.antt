@@ -1,7 +1,6 @@
 use Rattle.findings.proofs.Bounds.{summary-most}
 use Rattle.sheets.proofs.Stepping.{stepped-over}
 use native.Mathlib.Omega.{arith}
-use borrow.Author.Rules.{rules}
 use Rattle.sheets.proofs.last_step.Goals as goal
 
 pub shape_of-out : goal.shape_of-out

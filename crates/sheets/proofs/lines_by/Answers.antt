@@ -1,6 +1,5 @@
 use Rattle.sheets.proofs.Goings.{told-both}
 use Rattle.sheets.specs.Rows.{lines_by, row_counted}
-use borrow.Author.Rules.{rules}
 use Rattle.sheets.proofs.lines_by.Goals as goal
 
 pub returns : goal.returns

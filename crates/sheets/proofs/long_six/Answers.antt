@@ -1,5 +1,4 @@
 use Rattle.sheets.specs.Rows.{long_six}
-use borrow.Author.Rules.{rules}
 use Rattle.sheets.proofs.long_six.Goals as goal
 
 pub returns-then-is_long : goal.returns-then-is_long

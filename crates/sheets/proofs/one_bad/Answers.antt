@@ -1,5 +1,4 @@
 use Rattle.sheets.specs.Tallies.{one_bad}
-use borrow.Author.Rules.{rules}
 use Rattle.sheets.proofs.one_bad.Goals as goal
 
 pub returns : goal.returns

@@ -1,5 +1,4 @@
 use Rattle.sheets.specs.Tallies.{one_strict}
-use borrow.Author.Rules.{rules}
 use Rattle.sheets.proofs.one_strict.Goals as goal
 
 pub returns : goal.returns

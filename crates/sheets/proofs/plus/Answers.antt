@@ -3,7 +3,6 @@ use Prim.Native.Nat.{◌+◌}
 use Rattle.chars.specs.Pick.{pick}
 use Rattle.findings.specs.Words.{capped}
 use borrow.Author.Tests.{le-leb, lt-leb}
-use borrow.Author.Rules.{rules}
 use Rattle.sheets.proofs.plus.Goals as goal
 
 pub returns-then-n-a : goal.returns-then-n-a

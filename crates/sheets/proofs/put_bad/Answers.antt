@@ -1,7 +1,6 @@
 use Rattle.sheets.proofs.Goings.{going, in-64}
 use Rattle.findings.specs.Lines.{bad_row_line}
 use native.Mathlib.Omega.{arith}
-use borrow.Author.Rules.{rules}
 use Rattle.sheets.proofs.put_bad.Goals as goal
 
 pub advanced-requires : goal.advanced-requires

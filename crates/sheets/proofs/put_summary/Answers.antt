@@ -1,7 +1,6 @@
 use Rattle.sheets.specs.Steps.{last_lines}
 use Rattle.sheets.proofs.Goings.{going, in-64}
 use native.Mathlib.Omega.{arith}
-use borrow.Author.Rules.{rules}
 use Rattle.sheets.proofs.put_summary.Goals as goal
 
 pub advanced-requires : goal.advanced-requires

@@ -1,7 +1,6 @@
 use Rattle.findings.specs.Lines.{unread_line}
 use Rattle.sheets.proofs.Goings.{going, in-64}
 use native.Mathlib.Omega.{arith}
-use borrow.Author.Rules.{rules}
 use Rattle.sheets.proofs.put_unread.Goals as goal
 
 pub advanced-requires : goal.advanced-requires

@@ -3,7 +3,6 @@ use Rattle.sheets.specs.Rows.{own_at, row_said}
 use Rattle.sheets.proofs.RowLaws.{key-told}
 use Rattle.headers.specs.Tables.{cells_from}
 use mathlib.Core.Path.{ap, sym, ◌∙◌}
-use borrow.Author.Rules.{rules}
 use Rattle.sheets.proofs.row_lines.Goals as goal
 
 pub key_copied-requires : goal.key_copied-requires

@@ -6,7 +6,6 @@ use Rattle.csv_rows.proofs.Moves.{endless-long, fault-advances, row-advances}
 use Rattle.csv_rows.specs.Reader.{byte_of}
 use native.Mathlib.Omega.{arith}
 use mathlib.Core.Path.{ap, sym, ◌∙◌}
-use borrow.Author.Rules.{rules}
 use Rattle.sheets.proofs.row_step.Goals as goal
 
 pub good_step-requires : goal.good_step-requires

@@ -1,7 +1,6 @@
 use mathlib.Core.Path.{sym, ◌∙◌}
 use Rattle.sheets.proofs.OneDate.{six-nothing}
 use native.Mathlib.Omega.{arith}
-use borrow.Author.Rules.{rules}
 use Rattle.sheets.proofs.say_six.Goals as goal
 
 pub returns-then-is_said : goal.returns-then-is_said

@@ -3,7 +3,6 @@ use Rattle.sheets.specs.Rows.{six_of, six_said}
 use Rattle.sheets.proofs.OneDate.{six-as}
 use native.Mathlib.Omega.{arith}
 use mathlib.Core.Path.{ap}
-use borrow.Author.Rules.{rules}
 use Rattle.sheets.proofs.six_cells.Goals as goal
 
 pub six_own-requires : goal.six_own-requires

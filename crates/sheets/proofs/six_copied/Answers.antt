@@ -1,7 +1,6 @@
 use mathlib.Core.Path.{sym}
 use Rattle.sheets.proofs.OneDate.{six-as}
 use lib.Seq.{length-take-le}
-use borrow.Author.Rules.{rules}
 use Rattle.sheets.proofs.six_copied.Goals as goal
 
 pub slice_bounds-t1-end : goal.slice_bounds-t1-end

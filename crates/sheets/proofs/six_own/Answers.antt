@@ -1,6 +1,5 @@
 use mathlib.Core.Path.{sym}
 use Rattle.sheets.proofs.OneDate.{six-as}
-use borrow.Author.Rules.{rules}
 use Rattle.sheets.proofs.six_own.Goals as goal
 
 pub returns-then-any_quote : goal.returns-then-any_quote

@@ -1,5 +1,4 @@
 use Rattle.sheets.proofs.OneDate.{six-told}
-use borrow.Author.Rules.{rules}
 use Rattle.sheets.proofs.six_texts.Goals as goal
 
 pub returns : goal.returns

@@ -3,7 +3,6 @@ use mathlib.Core.Path.{sym, ◌∙◌}
 use Rattle.sheets.proofs.Stepping.{start-begins, start-ends, start-waits, stepped-none, stepped-over, stepped-wait}
 use Rattle.headers.proofs.Moves.{header-advances}
 use native.Mathlib.Omega.{arith}
-use borrow.Author.Rules.{rules}
 use Rattle.sheets.proofs.start_step.Goals as goal
 
 pub behind-requires : goal.behind-requires

@@ -5,9 +5,9 @@ use Rattle.sixfields.proofs.end_year_of.Goals as goal
 pub end_year_in-requires : goal.end_year_in-requires
 end_year_in-requires c =
     let a = c.args in
-    small-room a.bytes.now a.table.now c.if-bytes-le56.true c.if-table-le16.true
+    small-room a.year.bytes.now a.year.table.now c.if-year-le56.true c.if-year-le16.true
 
 pub end_year_in-requires-2 : goal.end_year_in-requires-2
 end_year_in-requires-2 c =
     let a = c.args in
-    large-room a.bytes.now a.table.now
+    large-room a.year.bytes.now a.year.table.now

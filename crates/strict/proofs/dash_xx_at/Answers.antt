@@ -1,9 +1,7 @@
-use native.Mathlib.Omega.{arith}
 use Rattle.strict.proofs.Places.{here}
 use lib.Seq.{get_or-drop}
 use Rattle.strict.specs.Matcher.{dash_xx}
 use borrow.Author.Tests.{eq-eqb, ne_eqb}
-use borrow.Author.Rules.{rules}
 use Rattle.strict.proofs.dash_xx_at.Goals as goal
 
 pub returns-then-byte_at-eq88 : goal.returns-then-byte_at-eq88

@@ -4,13 +4,12 @@ use mathlib.Core.Path.{ap, ◌∙◌, ◌≡◌}
 use Rattle.dates.specs.Value.{month, day}
 use Rattle.dates.specs.declared.DateValue.TheVariants.{Between}
 use Rattle.dates.specs.declared.Datetime.{Datetime}
-use Rattle.strict.specs.declared.ReadUnknown.TheVariants.{Within}
-use Rattle.strict.specs.declared.ReadUnknown.{ReadUnknown}
+use Rattle.dates.specs.declared.DateValue.{DateValue}
+use Rattle.std.specs.Prelude.{Option, Some}
 use Rattle.strict.specs.Matcher.{days}
-use borrow.Author.Rules.{rules}
 use Rattle.strict.proofs.days.Goals as goal
 
-within : {a b x y : Datetime} → a ≡ x → b ≡ y → ◌≡◌ {A = ReadUnknown} (Within (Between a b) 10) (Within (Between x y) 10)
+within : {a b x y : Datetime} → a ≡ x → b ≡ y → ◌≡◌ {A = Option (DateValue × ℕ)} (Some (Between a b, 10)) (Some (Between x y, 10))
 within e f = cc
 
 pub returns : goal.returns

@@ -1,9 +1,7 @@
-use native.Mathlib.Omega.{arith}
 use Rattle.strict.proofs.Places.{last, more}
 use lib.ListN.{drop_of_length-le}
 use mathlib.Core.Path.{sym, ap, ◌∙◌}
 use Rattle.strict.specs.Matcher.{ending}
-use borrow.Author.Rules.{rules}
 use Rattle.strict.proofs.ending.Goals as goal
 
 pub returns-then-s-at : goal.returns-then-s-at

@@ -1,10 +1,8 @@
-use native.Mathlib.Omega.{arith}
 use Rattle.strict.proofs.Places.{here}
 use lib.Seq.{drop-drop}
 use Rattle.chars.specs.Pick.{pick}
 use Rattle.strict.specs.Matcher.{field}
 use borrow.Author.Tests.{eq-eqb, ne_eqb}
-use borrow.Author.Rules.{rules}
 use Rattle.strict.proofs.field_at.Goals as goal
 
 pub returns-then-byte_at-c : goal.returns-then-byte_at-c

@@ -1,6 +1,5 @@
 use Rattle.strict.specs.Matcher.{is_open}
 use borrow.Author.Tests.{eq-eqb, ne_eqb}
-use borrow.Author.Rules.{rules}
 use Rattle.strict.proofs.is_open.Goals as goal
 
 pub returns-then-byte_at-eq46 : goal.returns-then-byte_at-eq46

@@ -9,7 +9,6 @@ use Rattle.dates.specs.Calendar.{month_length}
 use Rattle.dates.proofs.Months.{some-day}
 use Rattle.strict.specs.Grammar.{last_day}
 use Rattle.chars.specs.Signs.{signed}
-use borrow.Author.Rules.{rules}
 use Rattle.strict.proofs.last_day.Goals as goal
 
 -- the length that the call gave, of a year that went through a cast

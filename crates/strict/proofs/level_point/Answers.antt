@@ -1,7 +1,6 @@
 use borrow.Author.Tests.{eq-eqb, ne_eqb}
 use Rattle.chars.specs.Pick.{pick}
 use Rattle.strict.specs.LevelMatcher.{level_point}
-use borrow.Author.Rules.{rules}
 use Rattle.strict.proofs.level_point.Goals as goal
 
 pub returns-then-byte_at-eq45 : goal.returns-then-byte_at-eq45

@@ -3,7 +3,6 @@ use mir.ValLaws.{to_z-of_z}
 use mathlib.Core.Path.{sym, ◌∙◌}
 use Rattle.strict.proofs.Runs.{nine-digits}
 use Rattle.strict.proofs.Long.{long-is, nought-first, too_many, too_few}
-use borrow.Author.Rules.{rules}
 use Rattle.strict.proofs.long_at.Goals as goal
 
 pub signed_long-requires : goal.signed_long-requires

@@ -1,7 +1,6 @@
 use Rattle.chars.specs.Pick.{pick}
 use Rattle.strict.specs.Matcher.{marked}
 use borrow.Author.Tests.{eq-eqb, ne_eqb}
-use borrow.Author.Rules.{rules}
 use Rattle.strict.proofs.marked.Goals as goal
 
 pub returns-then-c-eq63 : goal.returns-then-c-eq63

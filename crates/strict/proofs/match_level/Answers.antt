@@ -1,5 +1,4 @@
 use Rattle.strict.specs.LevelMatcher.{level, point_of}
-use borrow.Author.Rules.{rules}
 use Rattle.strict.proofs.match_level.Goals as goal
 
 pub returns : goal.returns

@@ -1,6 +1,5 @@
 use Rattle.strict.specs.Matcher.{strict}
 use Rattle.strict.specs.LevelMatcher.{point_of}
-use borrow.Author.Rules.{rules}
 use Rattle.strict.proofs.match_text.Goals as goal
 
 pub returns : goal.returns

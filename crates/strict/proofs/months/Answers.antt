@@ -1,5 +1,4 @@
 use Rattle.strict.specs.Matcher.{months}
-use borrow.Author.Rules.{rules}
 use Rattle.strict.proofs.months.Goals as goal
 
 pub returns : goal.returns

@@ -1,8 +1,6 @@
-use native.Mathlib.Omega.{arith}
 use Rattle.chars.specs.Pick.{pick}
 use Rattle.strict.specs.Matcher.{offset_at}
 use borrow.Author.Tests.{eq-eqb, ne_eqb}
-use borrow.Author.Rules.{rules}
 use Rattle.strict.proofs.offset_at.Goals as goal
 
 pub returns-then-c-eq90 : goal.returns-then-c-eq90

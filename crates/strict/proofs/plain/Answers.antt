@@ -1,7 +1,6 @@
 use Rattle.chars.specs.Signs.{signed}
 use mir.Syntax.{w32}
 use mir.ValLaws.{to_z-of_z}
-use borrow.Author.Rules.{rules}
 use Rattle.strict.proofs.plain.Goals as goal
 
 pub returns : goal.returns

@@ -1,7 +1,6 @@
 use Rattle.chars.specs.Pick.{pick}
 use Rattle.strict.specs.Matcher.{point}
 use borrow.Author.Tests.{eq-eqb, ne_eqb}
-use borrow.Author.Rules.{rules}
 use Rattle.strict.proofs.point.Goals as goal
 
 pub returns-then-byte_at-eq45 : goal.returns-then-byte_at-eq45

@@ -1,5 +1,4 @@
 use Rattle.strict.specs.LevelMatcher.{point_of}
-use borrow.Author.Rules.{rules}
 use Rattle.strict.proofs.point_of.Goals as goal
 
 pub returns-then-level : goal.returns-then-level

@@ -1,11 +1,12 @@
 use mathlib.Core.Path.{◌≡◌, refl, sym, ap}
 use Prim.Native.Nat.{ℕ, zero, suc}
-use Rattle.dates.specs.declared.OptionSeason.TheVariants.{Winter}
+use Rattle.dates.specs.declared.Season.TheVariants.{Winter}
+use Rattle.std.specs.Prelude.{Some}
 use Rattle.strict.specs.Level.{season_at}
 use Rattle.strict.proofs.season_at.Goals as goal
 
 -- the seasons behind the third
-fourth : (n : ℕ) → (n ≡ 0 → ⊥) → (n ≡ 1 → ⊥) → (n ≡ 2 → ⊥) → Winter ≡ season_at n
+fourth : (n : ℕ) → (n ≡ 0 → ⊥) → (n ≡ 1 → ⊥) → (n ≡ 2 → ⊥) → Some Winter ≡ season_at n
 unfolding season_at
 fourth zero a b c = absurd (a refl)
 fourth (suc zero) a b c = absurd (b refl)

@@ -5,7 +5,6 @@ use Rattle.strict.proofs.Places.{here}
 use lib.Seq.{get_or-drop}
 use Rattle.chars.specs.Pick.{pick}
 use Rattle.strict.specs.Matcher.{two}
-use borrow.Author.Rules.{rules}
 use Rattle.strict.proofs.two_at.Goals as goal
 use Rattle.strict.proofs.two_at.Goals.{Then-is_digit-2}
 

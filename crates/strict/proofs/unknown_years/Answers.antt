@@ -4,7 +4,6 @@ use mathlib.Core.Path.{sym, ◌∙◌}
 use Rattle.chars.specs.Pick.{pick}
 use Rattle.strict.specs.Matcher.{unknown_years}
 use borrow.Author.Tests.{eq-eqb, ne_eqb}
-use borrow.Author.Rules.{rules}
 use Rattle.strict.proofs.unknown_years.Goals as goal
 
 pub returns-then-c-eq88 : goal.returns-then-c-eq88

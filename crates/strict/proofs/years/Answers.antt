@@ -1,5 +1,4 @@
 use Rattle.strict.specs.Matcher.{years}
-use borrow.Author.Rules.{rules}
 use Rattle.strict.proofs.years.Goals as goal
 
 pub returns : goal.returns

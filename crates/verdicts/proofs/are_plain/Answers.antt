@@ -1,6 +1,5 @@
 use Rattle.verdicts.specs.Fields.{are_plain}
 use Rattle.verdicts.specs.Plain.{is_plain_day}
-use borrow.Author.Rules.{rules}
 use Rattle.verdicts.proofs.are_plain.Goals as goal
 
 pub returns-then-is_plain_month : goal.returns-then-is_plain_month

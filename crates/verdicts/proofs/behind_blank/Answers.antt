@@ -1,5 +1,4 @@
 use Rattle.verdicts.specs.Fields.{behind_blank}
-use borrow.Author.Rules.{rules}
 use Rattle.verdicts.proofs.behind_blank.Goals as goal
 
 pub returns-then-some_given : goal.returns-then-some_given

@@ -1,5 +1,4 @@
 use Rattle.verdicts.specs.Fields.{both_plain}
-use borrow.Author.Rules.{rules}
 use Rattle.verdicts.proofs.both_plain.Goals as goal
 
 pub returns-then-are_plain : goal.returns-then-are_plain

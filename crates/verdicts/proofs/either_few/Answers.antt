@@ -1,5 +1,4 @@
 use Rattle.verdicts.specs.Fields.{either_few}
-use borrow.Author.Rules.{rules}
 use Rattle.verdicts.proofs.either_few.Goals as goal
 
 pub returns-then-few_digits : goal.returns-then-few_digits

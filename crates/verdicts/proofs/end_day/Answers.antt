@@ -1,5 +1,4 @@
 use Rattle.verdicts.specs.Dates.{end_day}
-use borrow.Author.Rules.{rules}
 use Rattle.verdicts.proofs.end_day.Goals as goal
 
 pub returns-in-At : goal.returns-in-At

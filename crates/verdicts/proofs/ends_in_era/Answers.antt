@@ -1,5 +1,4 @@
 use Rattle.verdicts.specs.Plain.{ends_in_era}
-use borrow.Author.Rules.{rules}
 use Rattle.verdicts.proofs.ends_in_era.Goals as goal
 
 pub returns-then-ends_in : goal.returns-then-ends_in

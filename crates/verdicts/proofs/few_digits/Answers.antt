@@ -1,6 +1,5 @@
 use Rattle.verdicts.specs.Fields.{is_few, few_from, few_digits}
 use borrow.Author.Tests.{lt-ltb, le-ltb}
-use borrow.Author.Rules.{rules}
 use Rattle.verdicts.proofs.few_digits.Goals as goal
 
 pub returns-then-e-a-lt4 : goal.returns-then-e-a-lt4

@@ -7,23 +7,17 @@ use lib.ListN.{length, drop}
 use Prim.Native.Nat.{◌+◌, ◌-◌, ◌≤◌}
 use Rattle.verdicts.proofs.find.Goals as goal
 
-pub returns-then-s-i : goal.returns-then-s-i
-returns-then-s-i c =
-    let v = c.loop-i.invariant in
+pub returns-then-x-b : goal.returns-then-x-b
+returns-then-x-b c =
     let a = c.args in
-    let e = first-here a.b a.s.now c.loop-i.i c.loop-i-test.true c.if-s-i.true in
-    omega (arith, v.0, e)
+    omega (arith, c.loop-i.invariant, first-here a.b a.s.now c.loop-i.i c.loop-i-test.true c.if-x-b.true)
 
 pub loop-i-preserved : goal.loop-i-preserved
 loop-i-preserved c =
-    let v = c.loop-i.invariant in
     let a = c.args in
-    let e = first_on a.b a.s.now c.loop-i.i c.loop-i-test.true c.if-s-i.false in
-    (omega (arith, v.0, e), omega arith)
+    omega (arith, c.loop-i.invariant, first_on a.b a.s.now c.loop-i.i c.loop-i-test.true c.if-x-b.false)
 
 pub returns : goal.returns
 returns c =
-    let v = c.loop-i.invariant in
     let a = c.args in
-    let e = first-none a.b a.s.now c.loop-i.i c.loop-i-test.false in
-    omega (arith, v.0, e)
+    omega (arith, c.loop-i.invariant, first-none a.b a.s.now c.loop-i.i c.loop-i-test.false)

@@ -1,6 +1,5 @@
 use Rattle.verdicts.specs.Fields.{given_verdict}
 use Rattle.chars.specs.Pick.{pick}
-use borrow.Author.Rules.{rules}
 use Rattle.verdicts.proofs.given_verdict.Goals as goal
 
 pub returns-then-is_unread : goal.returns-then-is_unread

@@ -1,6 +1,5 @@
 use Rattle.verdicts.specs.Windows.{stands, has_x}
 use borrow.Author.Tests.{lt-ltb, le-ltb}
-use borrow.Author.Rules.{rules}
 use Rattle.verdicts.proofs.has_x.Goals as goal
 
 pub returns-then-find-s : goal.returns-then-find-s

@@ -1,6 +1,5 @@
 use Rattle.verdicts.specs.Plain.{is_digits}
 use borrow.Author.Tests.{le-leb, lt-leb}
-use borrow.Author.Rules.{rules}
 use Rattle.verdicts.proofs.is_digits.Goals as goal
 
 pub returns-then-s-high : goal.returns-then-s-high

@@ -1,6 +1,5 @@
 use Rattle.verdicts.specs.Plain.{has_era, is_era_year}
 use borrow.Author.Tests.{lt-ltb, le-ltb}
-use borrow.Author.Rules.{rules}
 use Rattle.verdicts.proofs.is_era_year.Goals as goal
 
 pub returns-then-e-lt5 : goal.returns-then-e-lt5

@@ -1,5 +1,4 @@
 use mathlib.Core.Path.{sym, ◌∙◌}
-use borrow.Author.Rules.{rules}
 use Rattle.scanner.proofs.Parts.{rest}
 use Rattle.verdicts.proofs.Plain.{full-none, full-minus, full-else}
 use Rattle.verdicts.proofs.is_full_year.Goals as goal

@@ -1,6 +1,5 @@
 use Rattle.verdicts.specs.Plain.{is_plain_year}
 use borrow.Author.Tests.{eq-eqb, ne_eqb}
-use borrow.Author.Rules.{rules}
 use Rattle.verdicts.proofs.is_plain_year.Goals as goal
 
 pub returns-then-s-eq0 : goal.returns-then-s-eq0

@@ -1,5 +1,4 @@
 use Rattle.verdicts.specs.Fields.{is_unread}
-use borrow.Author.Rules.{rules}
 use Rattle.verdicts.proofs.is_unread.Goals as goal
 
 pub returns-then-day_alone : goal.returns-then-day_alone

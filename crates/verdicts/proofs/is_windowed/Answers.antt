@@ -1,7 +1,6 @@
 use Rattle.verdicts.specs.Windows.{either_two, is_windowed}
 use mathlib.Core.Path.{sym}
 use native.Mathlib.Omega.{arith}
-use borrow.Author.Rules.{rules}
 use lib.Seq.{length-take-le}
 use Rattle.verdicts.proofs.Said.{first-within, past_two}
 use Prim.Native.Nat.{◌+◌}

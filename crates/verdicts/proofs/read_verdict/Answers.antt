@@ -1,5 +1,4 @@
 use Rattle.verdicts.specs.Fields.{read_verdict}
-use borrow.Author.Rules.{rules}
 use Rattle.verdicts.proofs.read_verdict.Goals as goal
 
 pub returns : goal.returns

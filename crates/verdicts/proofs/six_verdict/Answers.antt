@@ -1,6 +1,5 @@
 use Rattle.verdicts.specs.Fields.{six_verdict}
 use Rattle.chars.specs.Pick.{pick}
-use borrow.Author.Rules.{rules}
 use Rattle.verdicts.proofs.six_verdict.Goals as goal
 
 pub returns-then-some_given : goal.returns-then-some_given

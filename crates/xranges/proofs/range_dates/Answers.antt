@@ -28,25 +28,25 @@ returns-then-len-sure_digits c =
     simp (← run-start _ _ _ _ e, ← run_end _ _ _ _ e, ← c.len-sure_digits.ensures, le-ltb _ _ c.if-sure_digits-gt4.false, le-ltb _ _ c.if-sure_digits-lt2.false, ← c.eat_while-year_end.ensures, ← c.len.ensures, ne_eqb _ _ c.if-len-sure_digits.true, ← c.refuse_text-then-len-sure_digits.ensures)
 
 pub behind_year-requires : goal.behind_year-requires
-behind_year-requires c = let h = value_in 9999 _ (sym c.parse.ensures ∙ c.in-Value.is) in omega arith
+behind_year-requires c = let h = value_in 9999 _ (sym c.parse.ensures ∙ c.in-Some.is) in omega arith
 
 pub returns-then-sure_digits-eq4 : goal.returns-then-sure_digits-eq4
 unfolding range_dates range_from digit_run year_run on_value pick
 returns-then-sure_digits-eq4 c =
     let e = c.next_run-run.ensures in
-    simp (← run-start _ _ _ _ e, ← run_end _ _ _ _ e, ← c.len-sure_digits.ensures, le-ltb _ _ c.if-sure_digits-gt4.false, le-ltb _ _ c.if-sure_digits-lt2.false, ← c.eat_while-year_end.ensures, ← c.len.ensures, eq-eqb _ _ c.if-len-sure_digits.false, ← c.from.ensures, ← c.parse.ensures, c.in-Value.is, eq-eqb _ _ c.if-sure_digits-eq4.true, ← c.behind_year.ensures)
+    simp (← run-start _ _ _ _ e, ← run_end _ _ _ _ e, ← c.len-sure_digits.ensures, le-ltb _ _ c.if-sure_digits-gt4.false, le-ltb _ _ c.if-sure_digits-lt2.false, ← c.eat_while-year_end.ensures, ← c.len.ensures, eq-eqb _ _ c.if-len-sure_digits.false, ← c.from.ensures, ← c.parse.ensures, c.in-Some.is, eq-eqb _ _ c.if-sure_digits-eq4.true, ← c.behind_year.ensures)
 
 pub years-requires : goal.years-requires
-years-requires c = let h = value_in 9999 _ (sym c.parse.ensures ∙ c.in-Value.is) in let g = tens c.len-sure_digits.result in let e = c.variable.ensures in (omega arith, (omega arith, omega arith))
+years-requires c = let h = value_in 9999 _ (sym c.parse.ensures ∙ c.in-Some.is) in let g = tens c.len-sure_digits.result in let e = c.variable.ensures in (omega arith, (omega arith, omega arith))
 
 pub returns-else-sure_digits-eq4 : goal.returns-else-sure_digits-eq4
 unfolding range_dates range_from digit_run year_run on_value pick
 returns-else-sure_digits-eq4 c =
     let e = c.next_run-run.ensures in
-    simp (← run-start _ _ _ _ e, ← run_end _ _ _ _ e, ← c.len-sure_digits.ensures, le-ltb _ _ c.if-sure_digits-gt4.false, le-ltb _ _ c.if-sure_digits-lt2.false, ← c.eat_while-year_end.ensures, ← c.len.ensures, eq-eqb _ _ c.if-len-sure_digits.false, ← c.from.ensures, ← c.parse.ensures, c.in-Value.is, ne_eqb _ _ c.if-sure_digits-eq4.false, ← c.variable.ensures, ← c.years.ensures)
+    simp (← run-start _ _ _ _ e, ← run_end _ _ _ _ e, ← c.len-sure_digits.ensures, le-ltb _ _ c.if-sure_digits-gt4.false, le-ltb _ _ c.if-sure_digits-lt2.false, ← c.eat_while-year_end.ensures, ← c.len.ensures, eq-eqb _ _ c.if-len-sure_digits.false, ← c.from.ensures, ← c.parse.ensures, c.in-Some.is, ne_eqb _ _ c.if-sure_digits-eq4.false, ← c.variable.ensures, ← c.years.ensures)
 
-pub returns-in-NoValue : goal.returns-in-NoValue
+pub returns-in-None : goal.returns-in-None
 unfolding range_dates range_from digit_run year_run on_value pick
-returns-in-NoValue c =
+returns-in-None c =
     let e = c.next_run-run.ensures in
-    simp (← run-start _ _ _ _ e, ← run_end _ _ _ _ e, ← c.len-sure_digits.ensures, le-ltb _ _ c.if-sure_digits-gt4.false, le-ltb _ _ c.if-sure_digits-lt2.false, ← c.eat_while-year_end.ensures, ← c.len.ensures, eq-eqb _ _ c.if-len-sure_digits.false, ← c.from.ensures, ← c.parse.ensures, c.in-NoValue.is, ← c.panics-in-NoValue.ensures)
+    simp (← run-start _ _ _ _ e, ← run_end _ _ _ _ e, ← c.len-sure_digits.ensures, le-ltb _ _ c.if-sure_digits-gt4.false, le-ltb _ _ c.if-sure_digits-lt2.false, ← c.eat_while-year_end.ensures, ← c.len.ensures, eq-eqb _ _ c.if-len-sure_digits.false, ← c.from.ensures, ← c.parse.ensures, c.in-None.is, ← c.panics-in-None.ensures)

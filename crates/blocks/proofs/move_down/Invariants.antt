@@ -1,8 +1,0 @@
-use Rattle.std.proofs.Common.{◌≡◌, ◌++◌, ◌-◌, ◌≤◌, length, take, drop}
-use Rattle.blocks.proofs.move_down.Given as goal
-
-abbrev pub invariant-loop-i : goal.invariant-loop-i
-invariant-loop-i l = (l.i ≤ l.to - l.from) × ((length l.buf ≡ length l.initial.buf) × (l.buf ≡ take l.i (drop l.from l.initial.buf) ++ drop l.i l.initial.buf))
-
-abbrev pub decreases-loop-i : goal.decreases-loop-i
-decreases-loop-i l = l.to - l.from - l.i
