@@ -16,7 +16,7 @@ use Rattle.std.proofs.lemmas.List.Recursion.{is_count_by}
 use Rattle.chars.proofs.Cases.{of_test}
 use Rattle.csv_rows.specs.Bytes.{one_if, feeds, utf8_from, utf8_end}
 use Rattle.csv_rows.specs.Scans.{SameEnd}
-use Rattle.csv_rows.proofs.Laws.{front, past}
+use Rattle.csv_rows.proofs.Laws.{front}
 
 -- line feeds
 pub one-most : (t : Bool) (n : ℕ) → n ≡ one_if t → n ≤ 1
@@ -34,10 +34,6 @@ feeds-one s i h = rw (front s i h)
 
 pub feeds-go : (s : List ℕ) (i n k m : ℕ) → i < length s → k ≡ one_if (eqb (get_or s i 0) 10) → n + feeds (drop i s) ≡ m → n + k + feeds (drop (i + 1) s) ≡ m
 feeds-go s i n k m h e f = let g = feeds-one s i h in omega arith
-
-pub feeds-past : (s : List ℕ) (i n m : ℕ) → length s ≤ i → n + feeds (drop i s) ≡ m → n ≡ m
-unfolding feeds
-feeds-past s i n m h f = let g : n + 0 ≡ m = rw (past s i h) at f in omega arith
 
 pub feeds-most : (s : List ℕ) → feeds s ≤ length s
 unfolding feeds

@@ -8,7 +8,7 @@ use native.Mathlib.Decide.{dec_lt}
 use borrow.Author.Tests.{lt-leb, le-leb, leb-true, ne_eqb, eq-eqb}
 use lib.Dec.{leb}
 use lib.ListN.{length, get_or, drop, set, length-set, length-drop, drop_of_length-le}
-use lib.Seq.{take_all, sets, drop-cons, drop-drop, sets-eq, get_or-set_same, get_or-set_other, set-get_or, length-sets}
+use lib.Seq.{take_all, sets, drop-cons, drop-drop, sets-eq, get_or-set_same, get_or-set_other, set-get_or}
 use Rattle.std.proofs.lemmas.Slice.{put_mid-paste}
 use borrow.Rule.Slice.PartMut.{put_mid}
 use Rattle.chars.specs.Pick.{pick}
@@ -168,10 +168,6 @@ byte-in line frame (suc n) k h g =
     let e : k + suc n ≡ (k + 1) + n = omega arith in
     let b = byte_at line k in
     rw (e, ← next-byte line frame k (omega arith)) (byte-in line (set frame k b) n (k + 1) (omega arith) (rw (length-set frame k b) (omega arith)))
-
--- frames that come to the same are as long
-pub as_long : (line l m : List ℕ) (i j : ℕ) → rest line l i ≡ rest line m j → length l ≡ length m
-as_long line l m i j e = sym (length-sets l i (bytes_of (drop (2 * i) line))) ∙ ap length e ∙ length-sets m j (bytes_of (drop (2 * j) line))
 
 -- so bytes that were put may be put again
 again : (line before frame : List ℕ) (n j : ℕ) → 2 * (j + n) ≤ length line → j + n ≤ length before → rest line frame (j + n) ≡ rest line before 0 → rest line frame j ≡ rest line before 0
