@@ -1,11 +1,11 @@
 -- The order of two numbers: which of its three answers it gives, and what that says. Assumes nothing.
 use mathlib.Core.Path.{◌≡◌, refl, sym, ap, ◌∙◌}
 use mathlib.Core.Bool.{Bool, true, false}
-use Prim.Native.Nat.{ℕ, ◌<◌}
+use Prim.Native.Nat.{ℕ, ◌≤◌, ◌<◌}
 use native.Mathlib.Omega.{arith}
 use lib.IntN.{ℤ, pos}
 use lib.Signed.{lt_z}
-use borrow.Author.Tests.{ltb-true, ltb-false}
+use borrow.Author.Tests.{ltb-true, ltb-false, lt-ltb, le-ltb}
 use Rattle.chars.specs.Pick.{pick}
 use Rattle.dates.proofs.Less.{lt-asym, lt_same, irrefl}
 use Rattle.std.specs.Prelude.{◌≢◌, Option, Some, cond, nat_lt}
@@ -42,7 +42,22 @@ pub number_same : (a : ℤ) → number_order a a ≡ (Some Equal)
 unfolding number_order pick
 number_same a = rw (irrefl a)
 
--- the same of what `cmp` answers, at signed numbers and at stored months and days
+pub number-equal : (a b : ℤ) → lt_z a b ≡ false → lt_z b a ≡ false → number_order a b ≡ (Some Equal)
+unfolding number_order pick
+number-equal a b p q = rw (p, q)
+
+-- the same of stored months and days
+module _ (m n : ℕ) where
+  pub stored-less : m < n → number_order (pos m) (pos n) ≡ (Some Less)
+  stored-less h = number-less (pos m) (pos n) (lt-ltb m n h)
+
+  pub stored-greater : n < m → number_order (pos m) (pos n) ≡ (Some Greater)
+  stored-greater h = number-greater (pos m) (pos n) (lt-ltb n m h)
+
+  pub stored-equal : n ≤ m → m ≤ n → number_order (pos m) (pos n) ≡ (Some Equal)
+  stored-equal g h = number-equal (pos m) (pos n) (le-ltb m n g) (le-ltb n m h)
+
+-- and of what `cmp` answers, at signed numbers and at stored months and days
 pub signed-order : (a b : ℤ) → Some (int_cmp a b) ≡ number_order a b
 unfolding number_order pick
 signed-order a b = go (lt_z a b) (lt_z b a)
