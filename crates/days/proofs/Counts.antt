@@ -125,6 +125,9 @@ answered d = go (year_in d.year) refl
     go false e = refl
 
 -- as a caller meets it: what was asked is told by the case, and the days before a month are counted in one of the ways
+pub not_covered : (before : ℕ → ℕ → ℕ) (d : Datetime) {o : Option Stretch} → o ≡ asked d → o ≡ None → not_adate ≡ stretch_days before (asked d)
+not_covered before d e f = ap (stretch_days before) (sym f ∙ e)
+
 module _ (d : Datetime) {o : Option Stretch} {s : Stretch} (e : o ≡ asked d) (f : o ≡ Some s) where
   pub bounds : In (Some s)
   bounds = subst In (sym e ∙ f) (asked_in d)

@@ -1,6 +1,7 @@
 pub mod Years
 pub mod Months
 pub mod Numbers
+pub mod Cases
 pub mod Counts
 pub mod Table
 pub mod Engines
