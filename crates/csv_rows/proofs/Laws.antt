@@ -93,6 +93,12 @@ module _ (f : List ℕ → ℕ) (s : List ℕ) (at : ℕ) where
   pub same_here : at ≤ length s → SameEnd f s at at
   same_here h = record { same = refl; upward = omega arith; within = h }
 
+  pub same_start : at ≤ length s → SameEnd f s at (at + 0)
+  same_start h = let e : at + 0 ≡ at = omega arith in rw e (same_here h)
+
+  pub same_at : (n i : ℕ) → i ≡ n → SameEnd f s at (at + i) → SameEnd f s at (at + n)
+  same_at n i e x = rw e at x
+
   pub same_more : (i j : ℕ) → SameEnd f s at i → SameEnd f s i j → SameEnd f s at j
   same_more i j x y = let p = x.upward in let q = y.upward in record { same = y.same ∙ x.same; upward = omega arith; within = y.within }
 

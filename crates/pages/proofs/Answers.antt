@@ -1,4 +1,4 @@
--- What an answer says of the pieces and of the lent table. Assumes nothing.
+-- What an answer says of the pieces and of the lent table; and a number by its run. Assumes nothing.
 use mathlib.Core.Path.{◌≡◌, sym, ap, ◌∙◌}
 use mathlib.Core.Bool.{Bool, true, false, false≢true}
 use mathlib.Core.List.{List}
@@ -8,10 +8,30 @@ use lib.Dec.{leb}
 use lib.ListN.{length}
 use Rattle.chars.specs.Pick.{pick}
 use Rattle.chars.proofs.Cases.{of_test}
-use Rattle.std.specs.Prelude.{Result, Ok, Err}
+use Rattle.std.specs.Prelude.{Option, Some, None, Result, Ok, Err}
+use Rattle.scanner.specs.declared.Run.{Run}
+use Rattle.scanner.specs.declared.Class.TheVariants.{AsciiDigit}
+use Rattle.scanner.specs.Scan.{part, next_run}
+use Rattle.numbers.specs.Parse.{parse}
 use Rattle.refusals.specs.declared.Refusal.{Refusal}
-use Rattle.refusals.specs.declared.Kind.TheVariants.{TooLong, BadChunks, NoRoom}
+use Rattle.refusals.specs.declared.TextRefusal.{TextRefusal}
+use Rattle.refusals.specs.Offset.{text_refusal, offset_number}
+use Rattle.refusals.specs.declared.Kind.TheVariants.{InvalidNumber, TooLong, BadChunks, NoRoom}
+use Rattle.pages.specs.Piece.{numbered, number_of, number_at}
 use Rattle.pages.specs.Pieces.{adds_up, pieces_of, judged, refused_pages, PiecesFit, pages_answer, put, table_after, pages_afterwards}
+
+module _ (s : List ℕ) (start at : ℕ) {run : Run} {t : List ℕ} {p : Option ℕ} (r : run ≡ next_run AsciiDigit s at) (f : t ≡ part s run.start.0 run.end.0) (q : p ≡ parse 4294967295 t) where
+  by-run : numbered start run p ≡ number_at s start at
+  unfolding number_at number_of
+  by-run = rw (q, f) (ap (λ (x : Run). numbered start x (parse 4294967295 (part s x.start.0 x.end.0))) r)
+
+  pub is_number : {v : ℕ} → p ≡ Some v → Ok (v, run.end) ≡ number_at s start at
+  unfolding numbered
+  is_number e = sym (ap (numbered start run) e) ∙ by-run
+
+  pub is_none : {e : TextRefusal} {f : Refusal} → p ≡ None → e ≡ text_refusal InvalidNumber run.start.0 run.end.0 → f ≡ offset_number e start → Err f ≡ number_at s start at
+  unfolding numbered
+  is_none e m g = ap Err (g ∙ ap (λ (x : TextRefusal). offset_number x start) m) ∙ sym (ap (numbered start run) e) ∙ by-run
 
 abbrev pub is_ranges : Result ℕ Refusal → Bool
 is_ranges (Ok n) = true

@@ -1,4 +1,6 @@
 use Rattle.fields.proofs.Letters.{letters_other_length, letters-not, letters-on, letters-end}
+use lib.ListN.{length}
+use borrow.Author.Tests.{le-leb}
 use native.Mathlib.Omega.{arith}
 use mathlib.Core.Path.{sym, ◌∙◌}
 use Rattle.fields.proofs.same_letters.Goals as goal
@@ -22,4 +24,4 @@ pub returns : goal.returns
 returns c =
     let a = c.args in
     let l = c.loop-i in
-    sym (letters-end a.name.now a.t.now l.i c.loop-i-test.false (omega arith)) ∙ l.invariant
+    sym (letters-end a.name.now a.t.now l.i c.loop-i-test.false ∙ le-leb (length a.t.now) l.i (omega arith)) ∙ l.invariant
