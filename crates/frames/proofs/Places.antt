@@ -1,11 +1,11 @@
 -- The lists of a frame chunk by chunk: places, and what is put. Assumes nothing.
 use mathlib.Core.Path.{◌≡◌, refl, sym, ◌∙◌}
 use mathlib.Core.Bool.{true, false}
-use mathlib.Core.List.{List, []}
+use mathlib.Core.List.{List, [], ◌∷◌}
 use Prim.Native.Nat.{ℕ, zero, suc, ◌+◌, ◌-◌, ◌*◌, ◌≤◌, ◌<◌}
 use native.Mathlib.Omega.{arith}
-use lib.ListN.{length, drop, length-append, length-drop}
-use lib.Seq.{sets, length-take-le}
+use lib.ListN.{length, get_or, drop, set, length-append, length-drop}
+use lib.Seq.{sets, drop-cons, length-take-le}
 use Rattle.puts.specs.Answers.{Put}
 use Rattle.chars.specs.Pick.{pick}
 use Rattle.puts.proofs.Puts.{sets-append, as-text, nothing}
@@ -81,6 +81,20 @@ pub no-texts : (f : List ℕ) (p k : ℕ) → k ≤ 0 → text_of f p k ≡ []
 unfolding text_of
 no-texts f p zero h = refl
 no-texts f p (suc k) h = absurd (omega arith)
+
+-- one byte of a part, and those behind it
+pub part-next : (f : List ℕ) (from n i : ℕ) → from + n ≤ length f → i < n → part_at f (from + i) (n - i) ≡ get_or f (from + i) 0 ∷ part_at f (from + (i + 1)) (n - (i + 1))
+part-next f from n i h l =
+    let e : n - i ≡ suc (n - (i + 1)) = omega arith in
+    let g : suc (from + i) ≡ from + (i + 1) = omega arith in
+    rw (drop-cons f (from + i) 0 (omega arith), e, g)
+
+pub part_none : (f : List ℕ) (from n i : ℕ) → n ≤ i → part_at f (from + i) (n - i) ≡ []
+part_none f from n i h = let e : n - i ≡ 0 = omega arith in rw e
+
+pub next-byte : (f t : List ℕ) (from n m i : ℕ) → from + n ≤ length f → i < n
+    → sets (set t (m + i) (get_or f (from + i) 0)) (m + (i + 1)) (part_at f (from + (i + 1)) (n - (i + 1))) ≡ sets t (m + i) (part_at f (from + i) (n - i))
+next-byte f t from n m i h l = let e : m + (i + 1) ≡ suc (m + i) = omega arith in rw (part-next f from n i h l, e)
 
 -- a chunk lies before the end of them all
 pub chunk_inside : (f : List ℕ) (p k : ℕ) → 0 < k → behind f p ≤ end_of f p k
