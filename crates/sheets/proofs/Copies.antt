@@ -24,7 +24,7 @@ undoubled-short (b ∷ c ∷ s) =
 
 module _ (own text : List ℕ) (h : length own ≤ length text) {r : Option ℕ} {text' : List ℕ} (er : r ≡ copied own (length text)) (et : text' ≡ copied_into own text) where
   -- there is room
-  copied-there : {n : ℕ} → r ≡ Some n → (take n text' ≡ undoubled own) × (n ≤ length text')
+  pub copied-there : {n : ℕ} → r ≡ Some n → (take n text' ≡ undoubled own) × (n ≤ length text')
   unfolding copied copied_into pick
   copied-there {n} e =
       let q = le-leb (length own) (length text) h in
@@ -34,7 +34,7 @@ module _ (own text : List ℕ) (h : length own ≤ length text) {r : Option ℕ}
       let k = undoubled-short own in
       (rw (y, m) (ap (take (length (undoubled own))) (sets-eq (undoubled own) text 0 (omega arith)) ∙ take_at (undoubled own) _ (length (undoubled own)) refl), rw y (omega (arith, length-sets text 0 (undoubled own))))
 
-  copied-not : r ≡ None → ⊥
+  pub copied-not : r ≡ None → ⊥
   unfolding copied pick
   copied-not e = let x = rw (le-leb (length own) (length text) h) at er in let z : ◌≡◌ {A = ℕ} 0 1 = cc in omega arith
 
