@@ -18,6 +18,7 @@ use Rattle.blocks.proofs.Laws.{part-is, moved-kept}
 use Rattle.sheets.specs.declared.State.{State}
 use Rattle.sheets.specs.Steps.{next}
 use Rattle.sheets.proofs.Waits.{waits-short}
+use Rattle.blocks.specs.Reads.{MayRead}
 use Rattle.datecheck.specs.Goes.{Went, Refilled, Turned}
 use Rattle.datecheck.specs.Goes.Went.{waits, full}
 use Rattle.datecheck.specs.Goes.Refilled.{bytes, none}
@@ -41,6 +42,13 @@ module _ (b new : List ℕ) where
       let z : 0 < length new = omega arith in
       bytes new z
 
+  read-in : (r : Option ℕ) {k : ℕ} → r ≡ Some k → length new ≡ k → Refilled b (eqb k 0) (b ++ new)
+  read-in r {k} e l = read_some k l (eqb k 0) refl
+
+-- what is no failure counts no more bytes than were lent
+within : (r : Option ℕ) {k : ℕ} (lent : ℕ) → r ≡ Some k → MayRead lent r → k ≤ lent
+within r lent e m = rw e at m
+
 -- in the buffer to whose front it was moved
 module _ (buf m part : List ℕ) (from have : ℕ) (h : from ≤ have) (g : have ≤ length buf) (e : m ≡ moved_down from have buf) (l : length m ≡ length buf)
     (p : length part ≡ length buf - (have - from)) where
@@ -59,8 +67,8 @@ module _ (buf m part : List ℕ) (from have : ℕ) (h : from ≤ have) (g : have
   pub refilled : (n : ℕ) → n ≤ length (take (length m - (have - from)) (drop (have - from) m))
       → Refilled (drop from (take have buf)) (eqb n 0) (take (have - from + n) after)
   refilled n r =
-      let k : n ≤ length part = rw rest-long at r in
-      rw (front-is n k) (read_some (drop from (take have buf)) (take n part) n (length-take-le n part k) (eqb n 0) refl)
+      let k = within (Some n) (length part) refl (rw rest-long at r) in
+      rw (front-is n k) (read-in (drop from (take have buf)) (take n part) (Some n) refl (length-take-le n part k))
 
 -- steps that wait do so before the file's end, and have left little
 pub waits-little : {last : Bool} {b b' put : List ℕ} {st st' : State} → Went last b st Waits b' st' put → (last ≡ false) × (length b' ≤ 65539)
