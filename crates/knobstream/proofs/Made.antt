@@ -1,14 +1,15 @@
 -- What was made part by part is what its definition says. Over plain variables. Assumes nothing.
-use mathlib.Core.Path.{◌≡◌, refl, ap}
+use mathlib.Core.Path.{◌≡◌, refl, ap, ◌∙◌}
 use mathlib.Core.Bool.{◌||◌}
 use mathlib.Core.List.{List, ◌++◌}
-use Prim.Native.Nat.{ℕ}
+use Prim.Native.Nat.{ℕ, ◌<◌}
+use native.Mathlib.Omega.{arith}
 use lib.Dec.{eqb}
 use lib.ListN.{length}
-use lib.IntN.{ℤ}
+use lib.IntN.{ℤ, pos}
 use mir.Syntax.{w32}
 use mir.Val.{SFits, to_z, of_z}
-use mir.ValLaws.{to_z-of_z}
+use mir.ValLaws.{to_z_pos, to_z-of_z}
 use Rattle.chars.specs.Pick.{pick}
 use Rattle.chars.proofs.Cases.{of_test}
 use Rattle.refusals.specs.declared.Refusal.{Refusal}
@@ -21,7 +22,7 @@ use Rattle.dates.specs.Value.{has_season, any_season}
 use Rattle.days.specs.declared.Period.{Period}
 use Rattle.days.specs.Covered.{period}
 use Rattle.instants.specs.Instants.{compared}
-use Rattle.std.specs.Prelude.{Option, Some, None, Result}
+use Rattle.std.specs.Prelude.{Option, Some, None, Result, Ok, Err}
 use Rattle.std.specs.declared.cmp.Ordering.{Ordering}
 use Rattle.std.specs.declared.cmp.Ordering.TheVariants.{Equal, Greater, Less}
 use Rattle.order.specs.Order.{order, seasoned, partial_cmp}
@@ -47,6 +48,12 @@ order-fits None = refl
 compared-fits : (a b : Datetime) → to_z w32 (of_z w32 (compared_number (partial_cmp a b))) ≡ compared_number (partial_cmp a b)
 unfolding partial_cmp seasoned refusal pick
 compared-fits a b = of_test (has_season a || has_season b) (λ x. rw x) (λ x. rw x (order-fits (order a b)))
+
+pub made-stands : {c : Result (Option Ordering) Refusal} {o : Option Ordering} {r : ℤ} → c ≡ Ok o → r ≡ order_number o → to_z w32 (of_z w32 r) ≡ compared_number c
+made-stands {o = o} e er = rw (e, er) (order-fits o)
+
+pub made-refused : {c : Result (Option Ordering) Refusal} {e : Refusal} {n : ℕ} → n < 256 → c ≡ Err e → n ≡ number e.kind → to_z w32 n ≡ compared_number c
+made-refused {n = n} h ec en = rw ec (to_z_pos w32 n (omega arith) ∙ ap pos en)
 
 pub made-compared : {a b x y : Datetime} {o : Result (Option Ordering) Refusal} {r : ℤ} → x ≡ a → y ≡ b → o ≡ partial_cmp x y → r ≡ compared_number o → to_z w32 (of_z w32 r) ≡ compared_number (partial_cmp a b)
 made-compared {a} {b} ex ey eo er = rw (er, eo, ex, ey) (compared-fits a b)
