@@ -168,9 +168,11 @@ fn put_bytes(buf: &mut [u8], n: usize, t: &[u8]) -> usize
     requires { n + length t.now ≤ length buf.old }
     ensures { (result ≡ n + length t.now) × (buf.new ≡ sets buf.old n t.now) }
 {
-    let next = n + t.len();
-    buf[n..next].copy_from_slice(t);
-    next
+    // `copy_from_slice` would want `memmove` of whoever links the library.
+    for (i, b) in t.iter().enumerate() {
+        buf[n + i] = *b;
+    }
+    n + t.len()
 }
 
 // Whether the last character is white space; of no characters what is given. `last_white` is the same and quicker.

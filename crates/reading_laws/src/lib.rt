@@ -1,4 +1,4 @@
-// What the readers say of chunk lists: definitions and the laws that lead to them. No code, but for the two types that the definitions name.
+// What the readers say of chunk lists: definitions and the laws that lead to them. No code.
 #![tactic(auto)]
 
 use refusals::Refusal;

@@ -33,7 +33,16 @@ fn end_year_in(year: ChunksRef<'_>, buf: &mut [u8]) -> Result<bool, Refusal>
     Ok(!is_blank(&buf[..n]))
 }
 
-// The same. A short list is formatted into a small array, which costs less to clear.
+// The same, of any list.
+fn end_year_large(year: ChunksRef<'_>) -> Result<bool, Refusal>
+    ensures { result ≡ six.end_year_of (lent_of year.entry) }
+{
+    let mut buf = [0u8; 4224];
+    end_year_in(year, &mut buf)
+}
+
+// The same. A short list is formatted into a small array, which costs less to clear. The large one stands in a function of its own: here it
+// was cleared for short lists too.
 fn end_year_of(year: ChunksRef<'_>) -> Result<bool, Refusal>
     ensures { result ≡ six.end_year_of (lent_of year.entry) }
 {
@@ -43,8 +52,7 @@ fn end_year_of(year: ChunksRef<'_>) -> Result<bool, Refusal>
             return end_year_in(year, &mut small);
         }
     }
-    let mut buf = [0u8; 4224];
-    end_year_in(year, &mut buf)
+    end_year_large(year)
 }
 
 // The Datetime of a single date, which is what three fields give.

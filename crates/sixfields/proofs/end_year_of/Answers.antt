@@ -1,4 +1,4 @@
-use Rattle.chunks.proofs.Buffers.{large-room, small-room}
+use Rattle.chunks.proofs.Buffers.{small-room}
 use borrow.Author.Rules.{rules}
 use Rattle.sixfields.proofs.end_year_of.Goals as goal
 
@@ -6,8 +6,3 @@ pub end_year_in-requires : goal.end_year_in-requires
 end_year_in-requires c =
     let a = c.args in
     small-room a.year.bytes.now a.year.table.now c.if-year-le56.true c.if-year-le16.true
-
-pub end_year_in-requires-2 : goal.end_year_in-requires-2
-end_year_in-requires-2 c =
-    let a = c.args in
-    large-room a.year.bytes.now a.year.table.now
