@@ -1,6 +1,7 @@
 // The fields of a start and of an end.
-ghost use Rattle.std.specs.Prelude.{is_some};
-ghost use Rattle.chunks.specs.Lent.{lent, optional, three};
+ghost use Rattle.std.specs.Prelude.{◌≡◌, is_some};
+ghost use Rattle.chunks.specs.Lent.{Three, lent, lent_of, optional, three};
+ghost use Rattle.reading_laws.specs.Fields.{three_fields};
 ghost use Rattle.reader.specs.Fields.{three_of};
 ghost use Rattle.sixfields.specs.Ends.{end_of};
 ghost use Rattle.sixfields.specs.Six.{six_fields};
@@ -8,6 +9,7 @@ ghost use Rattle.knobstream.specs.Plain as plain;
 ghost use Rattle.knobstream.specs.Layout.{Answered};
 ghost use Rattle.knobstream.specs.Back.{is_set};
 
+use chunks::ChunksRef;
 use reader::ThreeFields;
 
 // The fields year, month, day, endyear, endmonth and endday; a list is absent if the number before it is 0, and then is not looked at.
@@ -40,14 +42,32 @@ pub fn knobstream_parse_six_fields(
         has_day,
         crate::list(day, day_table),
     );
-    let end = crate::fields_of(
+    let end = end_fields(
+        has_end_year,
         crate::list(end_year, end_year_table),
         has_end_month,
         crate::list(end_month, end_month_table),
         has_end_day,
         crate::list(end_day, end_day_table),
     );
-    read_into(start, crate::is_set(has_end_year).then_some(end), answer);
+    read_into(start, end, answer);
+}
+
+// The lists of an end, which are put together where there is an end alone.
+fn end_fields<'a>(
+    has_year: u8,
+    year: ChunksRef<'a>,
+    has_month: u8,
+    month: ChunksRef<'a>,
+    has_day: u8,
+    day: ChunksRef<'a>,
+) -> Option<ThreeFields<'a>>
+    ensures { (s s' : Three) → three_fields s ≡ three_fields s' → six_fields s (is_some result) (end_of result) ≡ six_fields s' (is_set has_year) (three (lent_of year.entry) (optional (is_set has_month) month.entry.bytes.now month.entry.table.now) (optional (is_set has_day) day.entry.bytes.now day.entry.table.now)) }
+{
+    if crate::is_set(has_year) {
+        return Some(crate::fields_of(year, has_month, month, has_day, day));
+    }
+    None
 }
 
 // What is read of them, as words.

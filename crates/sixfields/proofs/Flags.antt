@@ -1,7 +1,7 @@
 -- An end that goes with a flag: six fields do not look at one whose flag is clear. Assumes nothing.
 use mathlib.Core.Path.{◌≡◌, refl, ap}
 use mathlib.Core.Bool.{Bool, true, false}
-use Rattle.std.specs.Prelude.{Option, Result, is_some}
+use Rattle.std.specs.Prelude.{Option, Result, None, is_some}
 use Rattle.std.specs.Bool.{then_some}
 use Rattle.chars.specs.Pick.{pick}
 use Rattle.dates.specs.declared.Date.{Date}
@@ -29,3 +29,8 @@ module _ (e : ThreeFields) (s s' e' : Three) (p : three_fields s ≡ three_field
 
   pub same-six : (h : Bool) {r : Option ThreeFields} → r ≡ then_some h e → six_fields s (is_some r) (end_of r) ≡ six_fields s' h e'
   same-six h f = rw f (by-flag h)
+
+-- and where it is clear, no end need be there
+pub six-alone : (s s' e' : Three) → three_fields s ≡ three_fields s' → six_fields s false (end_of None) ≡ six_fields s' false e'
+unfolding six_fields with_end pick
+six-alone s s' e' p = ap (λ (x : Result Date Refusal). on_three x λ a. unmarked (At a)) p
